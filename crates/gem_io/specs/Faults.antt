@@ -1,0 +1,19 @@
+-- Counts of faults. A count never falls, and stands still at the end of its type.
+use Rattle.std.specs.Prelude.{ℕ, ◌+◌, ◌-◌, ◌^◌, ◌≤◌, min, Result, OnErr}
+
+-- the last value of a count
+abbrev pub last_count : ℕ
+last_count = 2 ^ 64 - 1
+
+-- the count after one more
+abbrev pub next_count : ℕ → ℕ
+next_count n = min (n + 1) last_count
+
+-- The count rose from before to after. One that stands at its end counts as risen.
+abbrev pub HasRisen : ℕ → ℕ → Type 0
+HasRisen before after = next_count before ≤ after
+
+-- the count didn't fall, and a failure is told only where it rose
+pub record HasCause {T E : Type 0} (before after : ℕ) (result : Result T E) : Type 0 where
+  pub later : before ≤ after
+  pub cause : OnErr result (HasRisen before after)

@@ -1,0 +1,45 @@
+-- What contracts see of the devices in memory. Calls are counted from 1.
+use Rattle.std.specs.Prelude.{◌≡◌, ℕ, ◌+◌, min, Bool, ◌==◌, List, ◌++◌, length, drop, Result, MatchResult, MatchBool, IsErr, IsOkAnd}
+use Rattle.std.specs.List.{list_any}
+use Rattle.gem_io.specs.Faults.{next_count, last_count}
+
+-- A source: what is left, the calls so far, the numbers of the calls that are to fail, and the count of failures.
+pub record Reading : Type 0 where
+  pub left : List ℕ
+  pub calls : ℕ
+  pub fails : List ℕ
+  pub failures : ℕ
+
+-- A sink: the bytes that it took, the calls so far, the numbers of the calls that are to fail, the count of
+-- failures by these numbers, and the count of failures for want of memory.
+pub record Writing : Type 0 where
+  pub written : List ℕ
+  pub calls : ℕ
+  pub fails : List ℕ
+  pub refused : ℕ
+  pub starved : ℕ
+
+-- whether the call after so many is one of those that are to fail
+abbrev pub is_to_fail : List ℕ → ℕ → Bool
+is_to_fail fails calls = list_any (λ number. number == next_count calls) fails
+
+-- all failures of a sink, of both kinds
+abbrev pub failures_of : Writing → ℕ
+failures_of w = min (w.refused + w.starved) last_count
+
+-- The next call of a source with room for so many bytes: it fails exactly where it is to fail, and then the bytes stay.
+-- Otherwise it moves as many bytes as there are and as there is room for.
+abbrev pub Pulls : {E : Type 0} → Reading → ℕ → Result ℕ E → Reading → Type 0
+Pulls old room result new = MatchBool (is_to_fail old.fails old.calls)
+    (IsErr result × (new ≡ record old { calls = next_count old.calls; failures = next_count old.failures }))
+    (IsOkAnd result (λ n. (n ≡ min room (length old.left))
+    × (new ≡ record old { left = drop n old.left; calls = next_count old.calls })))
+
+-- The next call of a sink with this piece: it fails where it is to fail, and else only for want of memory. The bytes stay
+-- then. Otherwise it takes the whole piece.
+abbrev pub Puts : {E : Type 0} → Writing → List ℕ → Result ℕ E → Writing → Type 0
+Puts old piece result new = MatchBool (is_to_fail old.fails old.calls)
+    (IsErr result × (new ≡ record old { calls = next_count old.calls; refused = next_count old.refused }))
+    (MatchResult result
+    (λ n. (n ≡ length piece) × (new ≡ record old { written = old.written ++ piece; calls = next_count old.calls }))
+    (λ _. new ≡ record old { calls = next_count old.calls; starved = next_count old.starved }))
