@@ -1,0 +1,5 @@
+pub mod Trees
+pub mod Codes
+pub mod Views
+pub mod Falls
+pub mod EnumFalls
