@@ -98,3 +98,20 @@ sends (m ∷ ms) = a_send m (sends ms)
 abbrev pub expressions : List Expression → Expressions
 expressions [] = no_expressions
 expressions (e ∷ es) = an_expression e (expressions es)
+
+-- the one list, and then the other
+abbrev pub append_constants : Constants → Constants → Constants
+append_constants no_constants ds = ds
+append_constants (a_constant c cs) ds = a_constant c (append_constants cs ds)
+
+abbrev pub append_statements : Statements → Statements → Statements
+append_statements no_statements ts = ts
+append_statements (a_statement s ss) ts = a_statement s (append_statements ss ts)
+
+abbrev pub append_sends : Sends → Sends → Sends
+append_sends no_sends ns = ns
+append_sends (a_send m ms) ns = a_send m (append_sends ms ns)
+
+abbrev pub append_expressions : Expressions → Expressions → Expressions
+append_expressions no_expressions fs = fs
+append_expressions (an_expression e es) fs = an_expression e (append_expressions es fs)

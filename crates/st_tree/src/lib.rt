@@ -5,6 +5,8 @@
 #![tactic(auto)]
 
 mod nodes;
+#[cfg(test)]
+mod tests;
 mod texts;
 
 pub use nodes::{BlockTree, Expr, Literal, Literals, Message, Primary, Stat, Tree};
