@@ -1,7 +1,7 @@
 -- What the list builders and the sizes make of two lists joined, so of a list with one more item at its end.
-use Rattle.std.proofs.Common.{◌≡◌, ℕ, ◌+◌, List, [], ◌∷◌, ◌++◌, refl, ap, arith}
+use Rattle.std.proofs.Common.{◌≡◌, ◌+◌, List, [], ◌∷◌, ◌++◌, refl, ap, arith}
 use Rattle.st_tree.specs.Trees.{Constant, a_constant, constants, append_constants, Statement, a_statement, statements, append_statements, Send, a_send, sends, append_sends, Expression, an_expression, expressions, append_expressions}
-use Rattle.st_tree.specs.Falls.{size_constant, size_constants, size_statement, size_statements, size_send, size_sends, size_expression, size_expressions}
+use Rattle.st_tree.specs.Falls.{size_constants, size_statements, size_sends, size_expressions}
 
 pub constants-append : (cs ds : List Constant) → constants (cs ++ ds) ≡ append_constants (constants cs) (constants ds)
 constants-append [] ds = refl

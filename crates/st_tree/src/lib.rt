@@ -4,6 +4,7 @@
 //! as a `Send`, a `BlockTree` as a `Closure`, a `Tree` as a `Program`, and a `Text` as its bytes.
 #![tactic(auto)]
 
+mod clones;
 mod nodes;
 #[cfg(test)]
 mod tests;
