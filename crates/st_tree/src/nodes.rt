@@ -9,10 +9,13 @@ use std::marker::Model;
 #[cycle(literal)]
 #[derive(Debug, Drop)]
 pub enum Literal {
+    /// An integer. The tree sets no bound but that of the type.
     Int(i64),
     /// A character, by its code.
     Char(u8),
+    /// A string: the bytes between its quotes, a doubled quote counted once.
     Str(Text),
+    /// A symbol: the bytes after `#`.
     Sym(Text),
     Nil,
     True,
@@ -55,7 +58,9 @@ impl Model for Literals {
 pub enum Primary {
     /// A variable, or a name with a meaning of its own, as `self` and `super`.
     Name(Text),
+    /// A literal.
     Lit(Literal),
+    /// A block.
     Block(BlockTree),
     /// An expression in parentheses.
     Paren(Box<Expr>),
