@@ -1,9 +1,9 @@
-ghost use Rattle.std.specs.Prelude.{◌≡◌, None};
+ghost use Rattle.std.specs.Prelude.{◌≡◌};
 
 use crate::{Failed, Sink, Source};
 use std::io::{Read, Write};
 
-/// A reader of std as a source, for standard input. It tells no contents.
+/// A reader of std as a source, for standard input. It tells the contents that the reader tells, so none of standard input.
 #[derive(Drop)]
 pub struct StdSource<R> {
     reader: R,
@@ -13,14 +13,15 @@ pub struct StdSource<R> {
 impl<R: Read> StdSource<R> {
     /// A source of what the reader gives. An error of the reader is a failure, also one that asks for another try.
     pub fn new(reader: R) -> StdSource<R>
-        ensures { result.faults ≡ 0 }
+        ensures left { ⟦<StdSource<R> as Source>⟧.left result ≡ R.remaining reader }
+        ensures faults { ⟦<StdSource<R> as Source>⟧.faults result ≡ 0 }
     {
         StdSource { reader, faults: 0 }
     }
 }
 
 impl<R: Read> Source for StdSource<R> {
-    ghost left = { λ _. None };
+    ghost left = { λ s. R.remaining s.reader };
 
     ghost faults = { λ s. s.faults };
 
@@ -35,7 +36,7 @@ impl<R: Read> Source for StdSource<R> {
     }
 }
 
-/// A writer of std as a sink, for standard output. It tells no contents.
+/// A writer of std as a sink, for standard output. It tells the contents that the writer tells, so none of standard output.
 #[derive(Drop)]
 pub struct StdSink<W> {
     writer: W,
@@ -46,14 +47,15 @@ impl<W: Write> StdSink<W> {
     /// A sink over the writer. An error of the writer, or a write that takes nothing, is a failure. The writer isn't flushed,
     /// so it should hold nothing back, as standard output doesn't.
     pub fn new(writer: W) -> StdSink<W>
-        ensures { result.faults ≡ 0 }
+        ensures written { ⟦<StdSink<W> as Sink>⟧.written result ≡ W.contents writer }
+        ensures faults { ⟦<StdSink<W> as Sink>⟧.faults result ≡ 0 }
     {
         StdSink { writer, faults: 0 }
     }
 }
 
 impl<W: Write> Sink for StdSink<W> {
-    ghost written = { λ _. None };
+    ghost written = { λ s. W.contents s.writer };
 
     ghost faults = { λ s. s.faults };
 

@@ -1,0 +1,16 @@
+-- The binary messages that have a meaning, with their selectors and their exact results.
+use Rattle.std.specs.Prelude.{ℤ, ◌+ℤ◌, ◌-ℤ◌, ◌*ℤ◌, codes}
+use Rattle.st_tree.specs.Trees.{Bytes}
+use Rattle.gem_meaning.specs.declared.operation.Operation.{Operation}
+use Rattle.gem_meaning.specs.declared.operation.Operation.TheVariants.{Addition, Subtraction, Multiplication}
+
+abbrev pub selector_of : Operation → Bytes
+selector_of Addition = codes "+"
+selector_of Subtraction = codes "-"
+selector_of Multiplication = codes "*"
+
+-- the result before it is held to the range of the language
+abbrev pub exact_result : Operation → ℤ → ℤ → ℤ
+exact_result Addition x y = x +ℤ y
+exact_result Subtraction x y = x -ℤ y
+exact_result Multiplication x y = x *ℤ y

@@ -1,0 +1,49 @@
+ghost use Rattle.std.specs.Prelude.{◌≡◌, MatchOption, SomeIff, FitsSigned};
+ghost use Rattle.std.specs.Int.{w64};
+ghost use Rattle.gem_meaning.specs.declared.operation.Operation.{Operation};
+ghost use Rattle.gem_meaning.specs.Operation.{selector_of, exact_result};
+
+/// A binary message between whole numbers.
+#[derive(Clone, Copy, Debug, PartialEq, Eq)]
+pub enum Operation {
+    Addition,
+    Subtraction,
+    Multiplication,
+}
+
+impl Operation {
+    /// The operation with this selector, if there is one.
+    pub fn of(selector: &[u8]) -> Option<Operation>
+        ensures { MatchOption result ((operation : Operation) → selector.now ≡ selector_of operation → ⊥)
+            (λ operation. selector.now ≡ selector_of operation) }
+    {
+        match selector {
+            [b'+'] => Some(Operation::Addition),
+            [b'-'] => Some(Operation::Subtraction),
+            [b'*'] => Some(Operation::Multiplication),
+            _ => None,
+        }
+    }
+
+    /// The bytes of the selector.
+    pub fn selector(self) -> &'static [u8]
+        ensures { result.now ≡ selector_of self }
+    {
+        match self {
+            Operation::Addition => b"+",
+            Operation::Subtraction => b"-",
+            Operation::Multiplication => b"*",
+        }
+    }
+
+    // The exact result, where 64 bits hold it.
+    pub(crate) fn exact(self, receiver: i64, argument: i64) -> Option<i64>
+        ensures { SomeIff result (FitsSigned w64 (exact_result self receiver argument)) (exact_result self receiver argument) }
+    {
+        match self {
+            Operation::Addition => receiver.checked_add(argument),
+            Operation::Subtraction => receiver.checked_sub(argument),
+            Operation::Multiplication => receiver.checked_mul(argument),
+        }
+    }
+}

@@ -1,0 +1,9 @@
+pub mod Numbers
+pub mod Pieces
+pub mod Messages
+pub mod Lines
+pub mod Bodies
+pub mod Chunks
+pub mod Replies
+pub mod Devices
+pub mod Trees

@@ -1,0 +1,60 @@
+//! Reads the script.
+ghost use Rattle.std.specs.Prelude.{◌≡◌, ◌<◌, ◌≤◌, ◌↔◌, List, ℕ, length, IfOk, IsErrOf};
+ghost use Rattle.std.specs.Io.KnownBytes.{Consumes, IsAtEnd};
+ghost use Rattle.gem_io.specs.Faults.{HasRisen};
+ghost use Rattle.gem_server.specs.declared.intake.IntakeError.TheVariants.{Failed as SourceFailed, NoMemory};
+
+use gem_io::{Failed, Source};
+use std::alloc::{AllocError, Global};
+
+/// How many bytes a script has at most.
+pub const SCRIPT_LIMIT: usize = 1_048_576;
+
+/// Why a script wasn't read.
+#[derive(Clone, Copy, Debug, PartialEq, Eq)]
+pub enum IntakeError {
+    /// The source gave more bytes than a script has.
+    TooLong,
+    Failed,
+    NoMemory,
+}
+
+impl From<Failed> for IntakeError {
+    ghost from_gives = { λ _ error. error ≡ SourceFailed };
+
+    fn from(_: Failed) -> IntakeError {
+        IntakeError::Failed
+    }
+}
+
+impl From<AllocError> for IntakeError {
+    ghost from_gives = { λ _ error. error ≡ NoMemory };
+
+    fn from(_: AllocError) -> IntakeError {
+        IntakeError::NoMemory
+    }
+}
+
+// Reads the source to its end, or past the limit of a script.
+pub(crate) fn read_text<S: Source>(alloc: Global, source: &mut S) -> Result<Vec<u8>, IntakeError>
+    // The source gave these bytes, and more than the limit exactly where that is the answer.
+    ensures gave { (given : List ℕ) × Consumes (S.left source.old) (S.left source.new) given
+        × (IsErrOf result IntakeError.TooLong ↔ (SCRIPT_LIMIT < length given))
+        × IfOk result (λ text. text.items ≡ given) }
+    ensures end { IfOk result (λ _. IsAtEnd (S.left source.new)) }
+    ensures later { S.faults source.old ≤ S.faults source.new }
+    ensures failed { IsErrOf result IntakeError.Failed → HasRisen (S.faults source.old) (S.faults source.new) }
+{
+    let mut text = Vec::new(alloc);
+    let mut piece = [0u8; 4096];
+    loop {
+        let count = source.pull(&mut piece)?;
+        if count == 0 {
+            return Ok(text);
+        }
+        if count > SCRIPT_LIMIT - text.len() {
+            return Err(IntakeError::TooLong);
+        }
+        text.extend_from_slice(&piece[..count])?;
+    }
+}
