@@ -12,7 +12,7 @@ pub record Chunks (lines : List Bytes) (so_far : List Expression) (left : List B
   pub back : (all : List Expression) → ReadsChunks lines all → (more : List Expression) × ReadsChunks left more
 
 -- a chunk takes lines
-some_lines : {left rest : List Bytes} {text : Bytes} → IsChunk left text rest → left ≡ [] → ⊥
+pub some_lines : {left rest : List Bytes} {text : Bytes} → IsChunk left text rest → left ≡ [] → ⊥
 some_lines chunk none = let e = sym none ∙ chunk.opens in cc
 
 pub no_chunks : (lines : List Bytes) → Chunks lines [] lines

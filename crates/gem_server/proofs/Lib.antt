@@ -7,3 +7,4 @@ pub mod Chunks
 pub mod Replies
 pub mod Devices
 pub mod Trees
+pub mod OneReport

@@ -2,6 +2,7 @@
 #![tactic(auto)]
 
 mod intake;
+pub mod laws;
 mod lexer;
 mod output;
 mod parser;

@@ -1,3 +1,6 @@
+ghost use Rattle.std.specs.Prelude.{◌≡◌};
+ghost use Rattle.gemstone.specs.Failure.{number_of};
+
 use thiserror::Error;
 
 /// Why the program ends with a status that isn't 0. Its text is the line on standard error.
@@ -17,7 +20,9 @@ pub enum Failure {
 
 impl Failure {
     /// The exit status.
-    pub fn number(self) -> u8 {
+    pub fn number(self) -> u8
+        ensures { result ≡ number_of self }
+    {
         match self {
             Failure::Usage => 2,
             Failure::Script { .. } => 3,
@@ -25,5 +30,31 @@ impl Failure {
             Failure::WriteFault => 9,
             Failure::NoMemory => 10,
         }
+    }
+}
+
+#[cfg(test)]
+mod tests {
+    use super::*;
+    use std::test::Fail;
+
+    #[test]
+    fn lines_on_standard_error(rt: HostRuntime) -> Result<(), Fail> {
+        let cases = [
+            (Failure::Usage, "gemstone: usage", 2),
+            (
+                Failure::Script { line: 2, rule: 3 },
+                "gemstone: script line 2 rule S3",
+                3,
+            ),
+            (Failure::ReadFault, "gemstone: read fault", 7),
+            (Failure::WriteFault, "gemstone: write fault", 9),
+            (Failure::NoMemory, "gemstone: no memory", 10),
+        ];
+        for (failure, line, number) in cases {
+            assert_eq!(rt; failure.to_string(rt.alloc())?.as_str(), line);
+            assert_eq!(rt; failure.number(), number);
+        }
+        Ok(())
     }
 }

@@ -6,9 +6,8 @@ mod failure;
 use failure::Failure;
 use gem_io::{StdSink, StdSource};
 use gem_server::{Status, gemstone};
-use std::env;
-use std::io;
 use std::process::ExitCode;
+use std::{env, io};
 
 fn main(rt: HostRuntime) -> ExitCode {
     match serve(&rt) {
@@ -41,5 +40,8 @@ fn words(rt: &HostRuntime) -> Result<Vec<String>, Failure> {
         io::ErrorKind::OutOfMemory => Failure::NoMemory,
         _ => Failure::Usage,
     })?;
-    words.skip(1).collect(rt.alloc()).map_err(|_| Failure::NoMemory)
+    words
+        .skip(1)
+        .collect(rt.alloc())
+        .map_err(|_| Failure::NoMemory)
 }
