@@ -1,0 +1,3 @@
+pub mod Right
+pub mod Rights
+pub mod WithGroups
