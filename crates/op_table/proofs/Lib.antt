@@ -1,0 +1,3 @@
+mod InOrder
+pub mod OpRows
+pub mod PrimRows
