@@ -1,6 +1,5 @@
 -- The chunks of a session, read from the front.
-use Rattle.std.proofs.Common.{◌≡◌, ◌≢◌, ◌<◌, List, [], ◌∷◌, ◌++◌, length, Option, Some, None, refl, ap, arith, sym, ◌∙◌, append_assoc, append-nil}
-use Rattle.std.specs.Option.{MatchOption}
+use Rattle.std.proofs.Common.{◌≡◌, ◌≢◌, List, [], ◌∷◌, ◌++◌, Some, None, sym, ◌∙◌, append_assoc, append-nil}
 use Rattle.st_tree.specs.Trees.{Bytes, Expression}
 use Rattle.gem_server.specs.Expressions.{tree_of}
 use Rattle.gem_server.specs.Scripts.{IsChunk, ReadsChunks}

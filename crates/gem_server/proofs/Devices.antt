@@ -1,11 +1,10 @@
 -- What several calls of a source or of a sink do together.
-use Rattle.std.proofs.Common.{◌≡◌, ℕ, ◌+◌, ◌<◌, ◌≤◌, List, [], ◌∷◌, ◌++◌, length, take, drop, Option, Some, None, Result, Ok, Err, refl, ap, arith, sym, ◌∙◌, append_assoc, append-nil, length-append, length-take}
-use Rattle.std.specs.Result.{OnErr}
+use Rattle.std.proofs.Common.{◌≡◌, ℕ, ◌+◌, ◌≤◌, [], ◌++◌, length, take, drop, Option, Some, None, refl, ap, arith, sym, ◌∙◌, append_assoc, append-nil, length-append, length-take}
 use Rattle.std.specs.Io.KnownBytes.{Appends, Consumes, Keeps}
 use Rattle.std.proofs.Math.Seq.{take-add}
 use Rattle.std.proofs.lemmas.List.{drop-drop, take-append-drop}
 use Rattle.st_tree.specs.Trees.{Bytes}
-use Rattle.gem_io.specs.Faults.{HasRisen, HasCause, next_count, last_count}
+use Rattle.gem_io.specs.Faults.{HasRisen}
 
 appends_more : (a b c : Option Bytes) (x y : Bytes) → Appends a b x → Appends b c y → Appends a c (x ++ y)
 appends_more None b c x y p q = tt

@@ -1,5 +1,5 @@
 -- The messages of an expression, read from the front.
-use Rattle.std.proofs.Common.{◌≡◌, ◌<◌, ℤ, List, [], ◌∷◌, ◌++◌, length, Option, Some, None, refl, ap, arith, sym, ◌∙◌}
+use Rattle.std.proofs.Common.{◌≡◌, ℤ, List, [], ◌∷◌, ◌++◌, Option, Some, None, refl, ap, sym, ◌∙◌}
 use Rattle.std.specs.Option.{option_map}
 use Rattle.st_tree.specs.Trees.{Send, send, Sends, no_sends, a_send, sends, append_sends, an_expression, no_expressions}
 use Rattle.st_tree.proofs.Appends.{sends-append}

@@ -1,7 +1,7 @@
 -- A text is one script at most, and has one report at most.
 use Rattle.std.proofs.Common.{◌≡◌, List, [], ◌∷◌, Option, Some, None, refl, ap, sym, ◌∙◌}
 use Rattle.st_tree.specs.Trees.{Bytes, Expression}
-use Rattle.gem_meaning.specs.Meaning.{Outcome, Means}
+use Rattle.gem_meaning.specs.Meaning.{Outcome}
 use Rattle.gem_meaning.proofs.OneMeaning.{one_meaning_lem}
 use Rattle.gem_server.specs.Lines.{text_of_lines}
 use Rattle.gem_server.specs.Expressions.{tree_of}

@@ -1,6 +1,5 @@
 -- The pieces of a text, read from the front.
-use Rattle.std.proofs.Common.{◌≡◌, ◌≢◌, ℕ, ◌+◌, ◌<◌, ◌≤◌, Bool, true, false, not, ◌&&◌, ◌==◌, cond, max, List, [], ◌∷◌, length, take, drop, refl, arith, sym, Option, Some, None, one-add, w64}
-use Rattle.std.specs.Option.{MatchOption}
+use Rattle.std.proofs.Common.{◌≡◌, ℕ, ◌<◌, ◌≤◌, Bool, true, false, not, ◌&&◌, ◌==◌, cond, max, [], ◌∷◌, length, take, drop, refl, arith, None, one-add}
 use Rattle.std.specs.Char.{is_ascii_digit, digit_value}
 use Rattle.std.specs.List.{prefix_len, onto_first}
 use Rattle.std.specs.Str.Parse.{AllDigits}

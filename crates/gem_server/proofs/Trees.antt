@@ -1,10 +1,9 @@
 -- The trees of chunks are of whole numbers and + - * alone.
-use Rattle.std.proofs.Common.{◌≡◌, ◌≢◌, ℕ, ℤ, pos, ◌^◌, Bool, true, false, cond, nat_lt, List, [], ◌∷◌, Option, Some, None, IsTrue, refl, sym, ◌∙◌, ap}
+use Rattle.std.proofs.Common.{◌≡◌, ℕ, pos, ◌^◌, Bool, true, false, cond, nat_lt, List, [], ◌∷◌, Option, Some, None, IsTrue, refl}
 use Rattle.std.specs.Option.{option_map, option_and_then}
 use Rattle.std.specs.List.{AllByRecursion}
 use Rattle.std.specs.Str.Parse.{digits_value}
 use Rattle.st_tree.specs.Trees.{Bytes, Expression, Sends, a_send, no_sends, send, expression, constant, int, an_expression, no_expressions}
-use Rattle.gem_meaning.specs.declared.operation.Operation.{Operation}
 use Rattle.gem_meaning.specs.Operation.{selector_of}
 use Rattle.gem_meaning.specs.SmallInteger.{is_small_integer}
 use Rattle.gem_meaning.specs.Arithmetic.{IsArithmetic, AllArithmetic as AllArithmeticSends}

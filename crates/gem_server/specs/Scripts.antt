@@ -1,5 +1,5 @@
 -- The scripts that are served: nothing, or one session that prints expressions.
-use Rattle.std.specs.Prelude.{◌≡◌, ◌≢◌, ℕ, ◌<◌, ◌≤◌, codes, List, [], ◌∷◌, ◌++◌, length, Option, Some, None}
+use Rattle.std.specs.Prelude.{◌≡◌, ◌≢◌, ◌<◌, ◌≤◌, codes, List, [], ◌∷◌, ◌++◌, length, Option, Some, None}
 use Rattle.std.specs.List.{AllByRecursion}
 use Rattle.st_tree.specs.Trees.{Bytes, Expression}
 use Rattle.gem_server.specs.Lines.{lines_of, text_of_lines}

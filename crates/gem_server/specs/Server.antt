@@ -1,9 +1,9 @@
 -- What the end of a call of the server says.
-use Rattle.std.specs.Prelude.{◌≡◌, ◌⊎◌, ℕ, ◌<◌, codes, List, [], ◌∷◌, length, take, Option}
+use Rattle.std.specs.Prelude.{◌≡◌, ◌⊎◌, ℕ, codes, List, [], ◌∷◌, take, Option}
 use Rattle.std.specs.Io.KnownBytes.{Appends, Consumes, IsAtEnd}
 use Rattle.st_tree.specs.Trees.{Bytes, Expression}
 use Rattle.gem_server.specs.declared.status.Status.{Status}
-use Rattle.gem_server.specs.declared.status.Status.TheVariants.{Done, Usage, Script, ReadFault, WriteFault, NoMemory}
+use Rattle.gem_server.specs.declared.status.Status.TheVariants.{Done, Script, WriteFault}
 use Rattle.gem_server.specs.Scripts.{Reads}
 use Rattle.gem_server.specs.Report.{Reports}
 

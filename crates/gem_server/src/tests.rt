@@ -5,19 +5,20 @@ use gem_io::{Failed, MemSink, MemSource, Sink};
 use std::alloc::{AllocError, Global};
 use std::test::Fail;
 
-fn words(alloc: Global, words: &[&str]) -> Result<Vec<String>, AllocError> {
-    let mut list = Vec::new(alloc);
-    for word in words {
-        list.push(String::from_str(alloc, word)?)?;
+// A command line, cut at its spaces.
+fn words(alloc: Global, line: &str) -> Result<Vec<String>, AllocError> {
+    let mut words = Vec::new(alloc);
+    for word in line.split_whitespace() {
+        words.push(String::from_str(alloc, word)?)?;
     }
-    Ok(list)
+    Ok(words)
 }
 
 // How a script ends, and what is written.
 fn served(alloc: Global, script: &[u8]) -> Result<(Status, MemSink), AllocError> {
     let mut source = MemSource::new(script.to_vec(alloc)?, Vec::new(alloc));
     let mut sink = MemSink::new(Vec::new(alloc));
-    let ended = gemstone(alloc, &words(alloc, &["serve"])?, &mut source, &mut sink);
+    let ended = gemstone(alloc, &words(alloc, "serve")?, &mut source, &mut sink);
     Ok((ended.status, sink))
 }
 
@@ -120,24 +121,12 @@ fn the_longest_texts(rt: HostRuntime) -> Result<(), Fail> {
 #[test]
 fn other_words(rt: HostRuntime) -> Result<(), Fail> {
     let alloc = rt.alloc();
-    let cases = [
-        [].as_slice(),
-        ["check"].as_slice(),
-        ["Serve"].as_slice(),
-        ["serve", "x"].as_slice(),
-        ["--help"].as_slice(),
-    ];
-    for case in cases {
+    for line in ["", "check", "Serve", "serve x", "serve serve", "--help"] {
         let mut source = MemSource::new(Vec::new(alloc), Vec::new(alloc));
         let mut sink = MemSink::new(Vec::new(alloc));
-        let ended = gemstone(alloc, &words(alloc, case)?, &mut source, &mut sink);
-        assert_eq!(rt;
-            ended,
-            Ended {
-                status: Status::Usage
-            }
-        );
-        assert_eq!(rt; sink.written(), b"".as_slice());
+        let ended = gemstone(alloc, &words(alloc, line)?, &mut source, &mut sink);
+        assert_eq!(rt; ended.status, Status::Usage, "{line}");
+        assert_eq!(rt; sink.written(), b"".as_slice(), "{line}");
     }
     Ok(())
 }
@@ -170,7 +159,7 @@ impl Sink for ShortSink {
 fn faults_of_devices(rt: HostRuntime) -> Result<(), Fail> {
     let alloc = rt.alloc();
     let script = b"session DataCurator\nprintit\n3 + 4 * 2\n%\n";
-    let serve = words(alloc, &["serve"])?;
+    let serve = words(alloc, "serve")?;
 
     let mut failing = MemSource::new(script.to_vec(alloc)?, vec![in alloc; 2]?);
     let mut sink = MemSink::new(Vec::new(alloc));

@@ -1,4 +1,4 @@
-use Rattle.std.proofs.Common.{◌+◌, ◌-◌, length}
+use Rattle.std.proofs.Common.{◌-◌, length}
 use Rattle.gem_server.specs.declared.intake.TheConstants.{SCRIPT_LIMIT}
 use Rattle.gem_server.proofs.Devices.{HasRead}
 use Rattle.gem_server.proofs.intake.read_text.Given as goal

@@ -1,4 +1,3 @@
-use Rattle.std.proofs.Common.{arith, length-drop}
 use Rattle.gem_server.proofs.Pieces.{front_piece}
 use Rattle.gem_server.proofs.lexer.split_piece.Goals as goal
 

@@ -1,5 +1,4 @@
-use Rattle.std.proofs.Common.{◌≡◌, ◌∷◌, length}
-use Rattle.gem_server.specs.declared.lexer.Token.TheVariants.{Number}
+use Rattle.std.proofs.Common.{length}
 use Rattle.gem_server.proofs.Messages.{Messages}
 use Rattle.gem_server.proofs.parser.expression.Given as goal
 
