@@ -1,0 +1,4 @@
+pub mod Bag
+pub mod Counter
+pub mod Place
+pub mod Turns

@@ -1,0 +1,72 @@
+ghost use Rattle.std.specs.Prelude.{◌≡◌, ◌*◌, ◌^◌, length, pos, neg_ℤ, ◌≤ℤ◌, Some, None, MatchResult};
+ghost use Rattle.rc_counter_bag.specs.Counter.{small_integer, updated, merged, total};
+
+use thiserror::Error;
+
+/// A number that sessions raise and lower side by side.
+#[derive(Clone, Copy, Debug, PartialEq, Eq)]
+pub struct Counter {
+    pub value: i64,
+}
+
+/// The sum isn't a SmallInteger, from -2^60 to 2^60 - 1.
+#[derive(Clone, Copy, Debug, PartialEq, Eq, Error)]
+#[error("the counter leaves the range of SmallInteger")]
+pub struct CounterRange;
+
+impl Counter {
+    /// The counter raised by this number.
+    ///
+    /// `CounterRange`: the sum isn't a SmallInteger.
+    pub fn apply(self, by: i64) -> Result<Counter, CounterRange>
+        ensures { MatchResult result
+            (λ counter. updated by self.value ≡ Some counter.value)
+            (λ _. updated by self.value ≡ None) }
+    {
+        small(i128::from(self.value) + i128::from(by))
+    }
+
+    /// What the updates, made by a session at its view, make of the counter at the commit's place:
+    /// its value plus their sum.
+    ///
+    /// `CounterRange`: the result isn't a SmallInteger, whatever the sums on the way are.
+    pub fn merge(
+        _at_view: Counter,
+        at_place: Counter,
+        updates: &[i64],
+    ) -> Result<Counter, CounterRange>
+        ensures { MatchResult result
+            (λ counter. merged _at_view.value at_place.value updates.now ≡ Some counter.value)
+            (λ _. merged _at_view.value at_place.value updates.now ≡ None) }
+    {
+        small(i128::from(at_place.value) + sum(updates))
+    }
+}
+
+// The counter of this value, where it is a SmallInteger.
+fn small(value: i128) -> Result<Counter, CounterRange>
+    ensures { MatchResult result
+        (λ counter. small_integer value ≡ Some counter.value)
+        (λ _. small_integer value ≡ None) }
+{
+    if (-(1 << 60)..1 << 60).contains(&value) {
+        Ok(Counter {
+            value: value as i64,
+        })
+    } else {
+        Err(CounterRange)
+    }
+}
+
+// The sum of the updates. It fits: there are fewer than 2^64 of them.
+fn sum(updates: &[i64]) -> i128
+    ensures value { result ≡ total updates.now }
+    ensures high { result ≤ℤ pos (2 ^ 63 * length updates.now) }
+    ensures low { neg_ℤ (pos (2 ^ 63 * length updates.now)) ≤ℤ result }
+{
+    let mut sum = 0;
+    for by in updates {
+        sum += i128::from(*by);
+    }
+    sum
+}

@@ -1,0 +1,121 @@
+ghost use Rattle.std.specs.Prelude.{◌≡◌, ◌↔◌, ℕ, map, length, false, Some, None, Ok, Err, IsTrue, IfOk, IfErr, OnOk, OnErr, IsErrOf};
+ghost use Rattle.std.specs.List.Sorted.{IsStrictlySortedBy, IsSearchInRange};
+ghost use Rattle.rc_counter_bag.specs.Bag.{IsBag, size, count, added, removed, replayed};
+ghost use Rattle.rc_counter_bag.specs.Place.{StandsAt, FitsAt};
+
+use crate::update::{BagFault, BagUpdate};
+use std::alloc::AllocError;
+
+// Where the item stands among the pairs, or where it would: a binary search.
+fn place<T: Ord>(pairs: &[(T, u64)], item: &T) -> Result<usize, usize>
+    requires { IsStrictlySortedBy T.cmp (map (λ pair. pair.0) pairs.now) }
+    ensures in_range { IsSearchInRange result (length pairs.now) }
+    ensures stands { IfOk result (StandsAt T.cmp item.now pairs.now) }
+    ensures fits { IfErr result (FitsAt T.cmp item.now pairs.now) }
+{
+    pairs.binary_search_by(|pair| pair.0.cmp(item))
+}
+
+// How often the item occurs.
+pub(crate) fn count<T: Ord>(pairs: &[(T, u64)], item: &T) -> u64
+    requires { IsBag T.cmp pairs.now }
+    ensures { result ≡ count T.cmp item.now pairs.now }
+{
+    match place(pairs, item) {
+        Ok(at) => pairs[at].1,
+        Err(_) => 0,
+    }
+}
+
+// Adds one occurrence. Memory is needed, and may be missing, only for an item that doesn't occur yet.
+pub(crate) fn add<T: Ord + Drop>(pairs: &mut Vec<(T, u64)>, item: T) -> Result<(), AllocError>
+    requires { IsBag T.cmp pairs.old.items }
+    ensures added { OnOk result (pairs.new.items ≡ added T.cmp item pairs.old.items) }
+    ensures bag { IsBag T.cmp pairs.new.items }
+    ensures memory { OnErr result (count T.cmp item pairs.old.items ≡ 0) }
+    ensures unchanged { OnErr result (pairs.new.items ≡ pairs.old.items) }
+{
+    match place(pairs, &item) {
+        Ok(at) => {
+            let pair = &mut pairs[at];
+            pair.1 = pair.1.saturating_add(1);
+            Ok(())
+        }
+        Err(at) => Ok(pairs.insert(at, (item, 1))?),
+    }
+}
+
+// Takes one occurrence away. False, and nothing changes, where there is none.
+pub(crate) fn remove<T: Ord + Drop>(pairs: &mut Vec<(T, u64)>, item: &T) -> bool
+    requires { IsBag T.cmp pairs.old.items }
+    ensures removed { IsTrue result → removed T.cmp item.now pairs.old.items ≡ Some pairs.new.items }
+    ensures bag { IsBag T.cmp pairs.new.items }
+    ensures missing { result ≡ false → removed T.cmp item.now pairs.old.items ≡ None }
+    ensures unchanged { result ≡ false → pairs.new.items ≡ pairs.old.items }
+{
+    let Ok(at) = place(pairs, item) else {
+        return false;
+    };
+    let last = pairs[at].1 == 1;
+    if last {
+        pairs.remove(at);
+    } else {
+        let pair = &mut pairs[at];
+        pair.1 -= 1;
+    }
+    true
+}
+
+// Applies the updates in order, up to the first that is refused.
+pub(crate) fn replay<T: Ord + Clone + Drop>(
+    pairs: &mut Vec<(T, u64)>,
+    updates: &[BagUpdate<T>],
+) -> Result<(), BagFault>
+    requires bag { IsBag T.cmp pairs.old.items }
+    requires clones { (x y : T) → T.is_clone x y → y ≡ x }
+    ensures replayed { OnOk result (replayed T.cmp 0 updates.now pairs.old.items ≡ Ok pairs.new.items) }
+    ensures bag { IsBag T.cmp pairs.new.items }
+    ensures missing { (at : ℕ) → IsErrOf result (BagFault.Missing at) → replayed T.cmp 0 updates.now pairs.old.items ≡ Err at }
+{
+    for (at, update) in updates.iter().enumerate() {
+        match update {
+            BagUpdate::Add(item) => add(pairs, item.clone()?)?,
+            BagUpdate::Remove(item) => {
+                if !remove(pairs, item) {
+                    return Err(BagFault::Missing(at as u64));
+                }
+            }
+        }
+    }
+    Ok(())
+}
+
+// Whether the items ascend strictly and each occurs.
+pub(crate) fn is_bag<T: Ord>(pairs: &[(T, u64)]) -> bool
+    ensures { IsTrue result ↔ IsBag T.cmp pairs.now }
+{
+    ascend(pairs) && pairs.iter().all(|pair| pair.1 > 0)
+}
+
+// Whether each item is below the next.
+fn ascend<T: Ord>(pairs: &[(T, u64)]) -> bool
+    ensures { IsTrue result ↔ IsStrictlySortedBy T.cmp (map (λ pair. pair.0) pairs.now) }
+{
+    for at in 1..pairs.len() {
+        if !pairs[at - 1].0.cmp(&pairs[at].0).is_lt() {
+            return false;
+        }
+    }
+    true
+}
+
+// The sum of the occurrences, which stands still at its end.
+pub(crate) fn size<T>(pairs: &[(T, u64)]) -> u64
+    ensures { result ≡ size pairs.now }
+{
+    let mut sum = 0u64;
+    for pair in pairs {
+        sum = sum.saturating_add(pair.1);
+    }
+    sum
+}
