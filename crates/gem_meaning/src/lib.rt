@@ -4,6 +4,8 @@
 mod evaluator;
 pub mod laws;
 mod operation;
+#[cfg(test)]
+mod tests;
 
 pub use evaluator::{EvaluationError, evaluate};
 pub use operation::Operation;
