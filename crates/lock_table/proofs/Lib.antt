@@ -1,0 +1,6 @@
+pub mod Changes
+pub mod Denied
+mod Exclusive
+pub mod Held
+mod Request
+mod Scan

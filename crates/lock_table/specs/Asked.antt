@@ -1,0 +1,12 @@
+-- What a request is answered.
+use Rattle.std.specs.Prelude.{◌≡◌, ℕ, Some, None}
+use Rattle.lock_table.specs.LockKind.{kind_granted}
+use Rattle.lock_table.specs.Locks.{LockSet, kind_held, after_held, denied_for}
+use Rattle.lock_table.specs.declared.Asked.{Asked}
+use Rattle.lock_table.specs.declared.Asked.TheVariants.{Granted, Denied, NoMemory}
+use Rattle.lock_table.specs.declared.LockKind.{LockKind}
+
+abbrev pub Answers : LockSet → ℕ → ℕ → LockKind → Asked → LockSet → Type 0
+Answers old session oid kind (Granted now) new = (denied_for old session oid kind ≡ None) × (now ≡ kind_granted (kind_held old session oid) kind) × (new ≡ after_held old session oid kind)
+Answers old session oid kind (Denied holder held) new = (denied_for old session oid kind ≡ Some (holder, held)) × (new ≡ old)
+Answers old session oid kind NoMemory new = (denied_for old session oid kind ≡ None) × (kind_held old session oid ≡ None) × (new ≡ old)
