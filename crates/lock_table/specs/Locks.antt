@@ -17,6 +17,7 @@ holding_cmp a b = ordering_then (nat_cmp a.oid b.oid) (nat_cmp a.session b.sessi
 abbrev pub LockSet : Type 0
 LockSet = FinMap holding_cmp LockKind
 
+-- the session's hold on the object
 abbrev pub holding : ℕ → ℕ → Holding
 holding session oid = record { oid = oid; session = session }
 
@@ -44,6 +45,7 @@ pub data LockEvent : Type 0 where
   Dropped : (session oid : ℕ) → LockEvent
   Left : (session : ℕ) → LockEvent
 
+-- the locks after one event
 abbrev pub after_event : LockSet → LockEvent → LockSet
 after_event locks (Held session oid kind) = after_held locks session oid kind
 after_event locks (Dropped session oid) = after_dropped locks session oid

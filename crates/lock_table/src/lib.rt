@@ -75,7 +75,7 @@ impl Locks {
 
     /// Asks for a lock on an object. The request is denied exactly where another session holds the
     /// object and one of the two kinds is `Write`. A session that holds the object already keeps the
-    /// greater of the two kinds, and then there is no want of memory.
+    /// greater of the two kinds, and then there is no want of memory. A refusal changes nothing.
     pub fn request(&mut self, session: u32, oid: u64, kind: LockKind) -> Asked
         ensures denied { (holder : ℕ) (held : LockKind) → (result ≡ Asked.Denied holder held) ↔ IsDenied self.old session oid kind holder held }
         ensures answer { Answers self.old session oid kind result self.new }

@@ -11,6 +11,7 @@ pub record Primitive : Type 0 where
   pub args : ℕ
   pub receiver : Kind
 
+-- a primitive by its parts
 abbrev pub primitive : ℕ → List ℕ → ℕ → Kind → Primitive
 primitive number selector args receiver = record { number = number; selector = selector; args = args; receiver = receiver }
 
