@@ -31,13 +31,13 @@ impl Counter {
     ///
     /// `CounterRange`: the result isn't a SmallInteger, whatever the sums on the way are.
     pub fn merge(
-        _at_view: Counter,
+        at_view: Counter,
         at_place: Counter,
         updates: &[i64],
     ) -> Result<Counter, CounterRange>
         ensures { MatchResult result
-            (λ counter. merged _at_view.value at_place.value updates.now ≡ Some counter.value)
-            (λ _. merged _at_view.value at_place.value updates.now ≡ None) }
+            (λ counter. merged at_view.value at_place.value updates.now ≡ Some counter.value)
+            (λ _. merged at_view.value at_place.value updates.now ≡ None) }
     {
         small(i128::from(at_place.value) + sum(updates))
     }

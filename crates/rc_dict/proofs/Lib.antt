@@ -1,0 +1,8 @@
+mod Commute
+mod Edits
+mod Entries
+mod Kept
+mod Merges
+mod Places
+mod Search
+mod Told

@@ -1,0 +1,3 @@
+pub mod Dict
+pub mod Place
+pub mod Turns
