@@ -3,3 +3,4 @@ pub mod Codes
 pub mod Views
 pub mod Falls
 pub mod EnumFalls
+pub mod Tokens

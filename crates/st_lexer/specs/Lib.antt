@@ -1,0 +1,2 @@
+pub use Rattle.st_tree.specs.Tokens as Tokens
+pub mod Views

@@ -1,0 +1,91 @@
+ghost use Rattle.std.specs.Prelude.{◌≡◌};
+ghost use Rattle.st_lexer.specs.declared.kinds.LexFault.TheVariants.{NoMemory};
+
+use std::alloc::{AllocError, AllocFailed};
+use thiserror::Error;
+
+/// The kinds of token.
+#[derive(Clone, Copy, Debug, PartialEq, Eq)]
+pub enum TokenKind {
+    /// A letter or `_`, then letters, digits and `_`.
+    Identifier,
+    /// An identifier with a colon directly after it, where no `=` follows.
+    Keyword,
+    /// Digits, or a radix of 2 to 36, `r` and digits below it. At most 2^60 - 1.
+    Number,
+    /// `$` and one byte of 32 to 126.
+    Character,
+    /// A string in single quotes, in which a doubled quote is one quote.
+    Str,
+    /// `#` and an identifier, keywords, a binary selector or a string, of at most 1,000 bytes.
+    Symbol,
+    /// A binary selector other than `|`.
+    Binary,
+    /// `|`, which is a binary selector where one is expected.
+    Bar,
+    /// `:=`
+    Assign,
+    /// `:`
+    Colon,
+    /// `^`
+    Caret,
+    /// `;`
+    Semicolon,
+    /// `.`
+    Period,
+    /// `(`
+    OpenParen,
+    /// `)`
+    CloseParen,
+    /// `[`
+    OpenBracket,
+    /// `]`
+    CloseBracket,
+    /// `#(`
+    OpenArray,
+}
+
+/// A token of a text: `start` is the offset of its first byte and `end` the one behind its last.
+#[derive(Clone, Copy, Debug, PartialEq, Eq)]
+pub struct Token {
+    /// What kind of token it is.
+    pub kind: TokenKind,
+    /// The offset of its first byte.
+    pub start: u32,
+    /// The offset behind its last byte.
+    pub end: u32,
+}
+
+/// Why a text has no tokens.
+#[derive(Clone, Copy, Debug, PartialEq, Eq, Error)]
+pub enum LexFault {
+    /// A bad token begins at offset `at`. It breaks rule 1 (no token begins with this byte), rule 2 (a string,
+    /// comment, character or symbol without its end, or a `#` with which nothing begins) or rule 3 (a number
+    /// that isn't of the form or is too large, a symbol that is too long).
+    #[error("P{rule} at {at}")]
+    Bad {
+        /// The offset where the bad token begins.
+        at: u32,
+        /// 1, 2 or 3.
+        rule: u8,
+    },
+    /// Memory ran out.
+    #[error("out of memory")]
+    NoMemory,
+}
+
+impl From<AllocError> for LexFault {
+    ghost from_gives = { λ _ fault. fault ≡ NoMemory };
+
+    fn from(_: AllocError) -> LexFault {
+        LexFault::NoMemory
+    }
+}
+
+impl<T: Drop> From<AllocFailed<T>> for LexFault {
+    ghost from_gives = { λ _ fault. fault ≡ NoMemory };
+
+    fn from(_: AllocFailed<T>) -> LexFault {
+        LexFault::NoMemory
+    }
+}
