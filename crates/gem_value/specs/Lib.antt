@@ -1,0 +1,4 @@
+pub mod Oid
+pub mod Conflict
+pub mod Image
+pub mod Writes

@@ -1,0 +1,99 @@
+ghost use Rattle.std.specs.Prelude.{IfOk};
+ghost use Rattle.gem_value.specs.Writes.{IsInNameOrder};
+
+use super::*;
+use st_tree::Text;
+use std::alloc::{AllocError, Global};
+use std::test::Fail;
+
+#[test]
+fn names_of_objects(rt: HostRuntime) -> Result<(), Fail> {
+    let rows = [
+        (Oid::from_parts(1, 2), 1, 2, 16_777_218, "1:2"),
+        (Oid::from_parts(0, 27), 0, 27, 27, "0:27"),
+        (
+            Oid::from_parts(16_777_215, 16_777_215),
+            16_777_215,
+            16_777_215,
+            281_474_976_710_655,
+            "16777215:16777215",
+        ),
+    ];
+    for (oid, serial, counter, number, text) in rows {
+        assert_eq!(rt; oid.number(), number);
+        assert_eq!(rt; Oid::of(number), Some(oid));
+        assert_eq!(rt; oid.serial(), serial);
+        assert_eq!(rt; oid.counter(), counter);
+        assert_eq!(rt; format!(in rt.alloc(); "{oid}")?.as_str(), text);
+    }
+    assert_eq!(rt; Oid::of(281_474_976_710_656), None);
+    Ok(())
+}
+
+#[test]
+fn kinds_of_conflict(rt: HostRuntime) {
+    let kinds = [
+        (1, ConflictKind::WriteWrite),
+        (2, ConflictKind::ReadWrite),
+        (3, ConflictKind::WriteReadLock),
+        (4, ConflictKind::WriteWriteLock),
+        (5, ConflictKind::CounterRange),
+        (6, ConflictKind::BagRemove),
+        (7, ConflictKind::DictionaryKey),
+        (8, ConflictKind::QueueRemove),
+    ];
+    for (number, kind) in kinds {
+        assert_eq!(rt; kind.number(), number);
+        assert_eq!(rt; kind > ConflictKind::CounterRange, number > 5);
+    }
+}
+
+#[test]
+fn globals(rt: HostRuntime) -> Result<(), Fail> {
+    let alloc = rt.alloc();
+    let empty = Image::empty(alloc)?;
+    assert_eq!(rt; empty.look_name(b"T"), None);
+    let first = empty.with_name(alloc, b"T", 5)?;
+    let second = first.with_name(alloc, b"Total", -7)?;
+    let third = second.with_name(alloc, b"T", 3)?;
+    let shared = third.share()?;
+    for (image, t, total) in [
+        (&empty, None, None),
+        (&first, Some(5), None),
+        (&second, Some(5), Some(-7)),
+        (&third, Some(3), Some(-7)),
+        (&shared, Some(3), Some(-7)),
+    ] {
+        assert_eq!(rt; image.look_name(b"T"), t);
+        assert_eq!(rt; image.look_name(b"Total"), total);
+        assert_eq!(rt; image.look_name(b"t"), None);
+    }
+    Ok(())
+}
+
+#[tactic(auto, using(crate::proofs::InOrder::one_in_order))]
+fn one_write(alloc: Global, name: &[u8], value: i64) -> Result<Vec<(Text, i64)>, AllocError>
+    ensures { IfOk result (λ entries. IsInNameOrder entries.items) }
+{
+    let mut entries = Vec::new(alloc);
+    entries.push((Text::of(Vec::from_slice(alloc, name)?), value))?;
+    Ok(entries)
+}
+
+#[test]
+fn record_of_a_transaction(rt: HostRuntime) -> Result<(), Fail> {
+    let record = TxnRecord {
+        session: 1,
+        transaction: 1,
+        first_command: 1,
+        last_command: 2,
+        view: 0,
+        written: Writes::of(one_write(rt.alloc(), b"T", 3)?),
+    };
+    assert_eq!(rt; record.written.as_slice().len(), 1);
+    for (name, value) in record.written.into_entries() {
+        assert!(rt; name.bytes() == b"T".as_slice());
+        assert_eq!(rt; value, 3);
+    }
+    Ok(())
+}
