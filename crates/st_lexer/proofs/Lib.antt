@@ -4,3 +4,10 @@ pub mod Reading
 pub mod Values
 pub mod Sizes
 pub mod Once
+pub mod Cuts
+pub mod QuoteCuts
+pub mod KeywordCuts
+pub mod SymbolCuts
+pub mod PieceCuts
+pub mod Fronts
+pub mod Ascending

@@ -72,7 +72,7 @@ suits b = let P : Class → Type 0 = λ k. Suits k b in
     on_cond P (is_operator b) _ _ (λ _. tt) (λ _.
     on_cond P (b == 58) _ _ (λ _. tt) (λ _. tt)))))))))
 
-first_counts : (p : ℕ → Bool) (b : ℕ) (rest : Bytes) → p b ≡ true → 0 < prefix_len p (b ∷ rest)
+pub first_counts : (p : ℕ → Bool) (b : ℕ) (rest : Bytes) → p b ≡ true → 0 < prefix_len p (b ∷ rest)
 first_counts p b rest h = rw h (omega arith)
 
 pub and_left : (a b : Bool) → (a && b) ≡ true → a ≡ true
@@ -118,7 +118,7 @@ binary_inside : (rest : Bytes) → binary_len rest ≤ length rest + 1
 binary_inside rest = let P : ℕ → Type 0 = λ n. n ≤ length rest + 1 in
     on_cond P (begins is_second rest) 2 1 (λ e. let some = begins_some is_second rest e in omega arith) (λ _. omega arith)
 
-binary_some : (rest : Bytes) → 0 < binary_len rest
+pub binary_some : (rest : Bytes) → 0 < binary_len rest
 binary_some rest = let P : ℕ → Type 0 = λ n. 0 < n in on_cond P (begins is_second rest) 2 1 (λ _. omega arith) (λ _. omega arith)
 
 symbol_inside : (rest : Bytes) → Inside (suc (length rest)) (symbol_at rest)

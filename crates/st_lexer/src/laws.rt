@@ -1,8 +1,9 @@
 //! What holds of tokens whatever lexer finds them.
-ghost use Rattle.std.specs.Prelude.{◌≡◌, ℕ, List, ◌⊎◌};
+ghost use Rattle.std.specs.Prelude.{◌≡◌, ℕ, ◌+◌, List, ◌∷◌, ◌++◌, ◌⊎◌, length, take, map};
 ghost use Rattle.st_tree.specs.Trees.{Bytes};
 ghost use Rattle.st_tree.specs.Tokens as spec;
-ghost use Rattle.st_tree.specs.Tokens.{Lexes, Stops, Rule};
+ghost use Rattle.st_tree.specs.Tokens.{Lexes, Stops, Rule, end_after, moved};
+ghost use Rattle.st_lexer.specs.Spans.{SpansAscend};
 
 /// A text has tokens or one first bad token: never both, always one of the two, and one answer of each.
 pub fn one_answer()
@@ -10,4 +11,16 @@ pub fn one_answer()
     ensures faults { (text : Bytes) (place other : ℕ) (r s : Rule) → Stops 0 text place r → Stops 0 text other s → (place ≡ other) × (r ≡ s) }
     ensures never_both { (text : Bytes) (ts : List spec.Token) (place : ℕ) (r : Rule) → Lexes 0 text ts → Stops 0 text place r → ⊥ }
     ensures always { (text : Bytes) → ((ts : List spec.Token) × Lexes 0 text ts) ⊎ ((place : ℕ) × (r : Rule) × Stops 0 text place r) }
+{}
+
+/// The tokens of a text stand one behind another within it, each with one byte at least.
+pub fn spans_ascend()
+    ensures { (text : Bytes) (ts : List spec.Token) → Lexes 0 text ts → SpansAscend 0 (length text) ts }
+{}
+
+/// A front of a text that ends where a token ends, then a space and another text, has the front's tokens
+/// and then those of the other text, as far back as they stand.
+pub fn front_and_more()
+    ensures { (text more : Bytes) (seen left ts : List spec.Token) → Lexes 0 text (seen ++ left) → Lexes 0 more ts
+        → Lexes 0 (take (end_after 0 seen) text ++ 32 ∷ more) (seen ++ map (moved (end_after 0 seen + 1)) ts) }
 {}
