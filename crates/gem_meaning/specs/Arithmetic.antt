@@ -1,4 +1,4 @@
--- The trees that have a meaning: whole numbers and the messages + - * alone.
+-- Trees of whole numbers and the messages + - * alone. Each has a meaning.
 use Rattle.std.specs.Prelude.{◌≡◌, [], IsTrue}
 use Rattle.st_tree.specs.Trees.{Bytes, int, Head, constant, Expression, expression, Send, send, Sends, no_sends, a_send, no_expressions, an_expression}
 use Rattle.gem_meaning.specs.SmallInteger.{is_small_integer}

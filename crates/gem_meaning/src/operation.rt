@@ -6,8 +6,11 @@ ghost use Rattle.gem_meaning.specs.Operation.{selector_of, exact_result};
 /// A binary message between whole numbers.
 #[derive(Clone, Copy, Debug, PartialEq, Eq)]
 pub enum Operation {
+    /// `+`
     Addition,
+    /// `-`
     Subtraction,
+    /// `*`
     Multiplication,
 }
 

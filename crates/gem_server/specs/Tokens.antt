@@ -45,7 +45,7 @@ tokens_of_pieces (piece ∷ pieces) = option_and_then (λ token. option_map (λ 
 abbrev pub tokens_of : Bytes → Option (List Token)
 tokens_of text = tokens_of_pieces (pieces_of text)
 
--- whether a token stands at the front, or else a byte that begins none
+-- whether the text begins with a byte that is no blank
 abbrev pub begins_piece : Bytes → Bool
 begins_piece [] = false
 begins_piece (b ∷ bs) = not (is_blank b)

@@ -15,7 +15,9 @@ pub const SCRIPT_LIMIT: usize = 1_048_576;
 pub enum IntakeError {
     /// The source gave more bytes than a script has.
     TooLong,
+    /// The source failed.
     Failed,
+    /// There was no memory.
     NoMemory,
 }
 

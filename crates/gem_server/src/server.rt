@@ -19,8 +19,14 @@ use std::alloc::{AllocError, Global};
 /// Serves the script that the source gives, and writes its report to the sink.
 ///
 /// The words are those of the command line without the program's own name. The source is read only where they are the one
-/// word `serve`, and the sink is written to only where the script is of the form. `NoMemory` may come at any point before
-/// the first byte is written.
+/// word `serve`, and the sink is written to only where the script is of the form. The status says how it ended:
+///
+/// - `Done`: the script's whole report was written.
+/// - `Usage`: the words aren't the one word `serve`.
+/// - `Script` in line 0: by rule 7 a script of more than 1,048,576 bytes, by rule 9 one that isn't of the form.
+/// - `ReadFault`: the source failed.
+/// - `WriteFault`: the sink failed, after a part of the report from the front.
+/// - `NoMemory`: at any point before the first byte is written.
 pub fn gemstone<S: Source, K: Sink>(
     alloc: Global,
     words: &[String],

@@ -5,7 +5,8 @@ pub enum Status {
     Done,
     /// The words are none that the program knows.
     Usage,
-    /// The script breaks a rule of its form, first at this line. Line 0 is the script as a whole.
+    /// The script breaks a rule of its form, first at this line. Line 0 is the script as a whole. The rule is printed with an
+    /// `S` before it: 7 for a script that is too long, 9 for one that isn't of the form.
     Script { line: u32, rule: u8 },
     /// The source failed.
     ReadFault,
@@ -18,5 +19,6 @@ pub enum Status {
 /// What a call of the server leaves.
 #[derive(Clone, Copy, Debug, PartialEq, Eq)]
 pub struct Ended {
+    /// Whether the report was written, or else what kept it from being so.
     pub status: Status,
 }

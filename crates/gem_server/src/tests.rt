@@ -23,6 +23,14 @@ fn served(alloc: Global, script: &[u8]) -> Result<(Status, MemSink), AllocError>
 }
 
 #[test]
+fn not_always_no_memory(rt: HostRuntime) -> Result<(), Fail> {
+    let (status, sink) = served(rt.alloc(), b"session DataCurator\nprintit\n3\n%\n")?;
+    assert_eq!(rt; status, Status::Done);
+    assert!(rt; !sink.written().is_empty());
+    Ok(())
+}
+
+#[test]
 fn scripts_and_their_reports(rt: HostRuntime) -> Result<(), Fail> {
     let cases = [
         (

@@ -29,7 +29,9 @@ pub enum LockKind {
 /// A session's hold on an object. The order is by object, and then by session.
 #[derive(Clone, Copy, Debug, PartialEq, Eq, PartialOrd, Ord, Hash)]
 pub struct Holding {
+    /// The object's number.
     pub oid: u64,
+    /// The session's number.
     pub session: u32,
 }
 
@@ -75,7 +77,8 @@ impl Locks {
 
     /// Asks for a lock on an object. The request is denied exactly where another session holds the
     /// object and one of the two kinds is `Write`. A session that holds the object already keeps the
-    /// greater of the two kinds, and then there is no want of memory. A refusal changes nothing.
+    /// greater of the two kinds, and then there is no want of memory. A refusal and `NoMemory`
+    /// change nothing.
     pub fn request(&mut self, session: u32, oid: u64, kind: LockKind) -> Asked
         ensures denied { (holder : ℕ) (held : LockKind) → (result ≡ Asked.Denied holder held) ↔ IsDenied self.old session oid kind holder held }
         ensures answer { Answers self.old session oid kind result self.new }
@@ -245,11 +248,15 @@ mod tests {
         assert!(rt; !locks.release_all(2));
         let read = locks.request(1, BOX, LockKind::Read);
         assert_eq!(rt; read, Asked::Granted(LockKind::Read));
-        // One session's locks go, and the others' stay.
-        let read = locks.request(2, BOX, LockKind::Read);
-        assert_eq!(rt; read, Asked::Granted(LockKind::Read));
+        // One session's lock goes, and then all of one's; the others' stay.
+        for session in [2, 3] {
+            let read = locks.request(session, BOX, LockKind::Read);
+            assert_eq!(rt; read, Asked::Granted(LockKind::Read));
+        }
         assert!(rt; locks.release(1, BOX));
         assert!(rt; !locks.release(1, BOX));
         assert_eq!(rt; locks.blocks(1, BOX), Some((2, LockKind::Read)));
+        assert!(rt; locks.release_all(2));
+        assert_eq!(rt; locks.blocks(1, BOX), Some((3, LockKind::Read)));
     }
 }

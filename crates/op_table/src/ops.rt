@@ -67,6 +67,7 @@ pub enum Op {
 pub struct Row {
     /// The byte with which an instruction of this op begins.
     pub byte: u8,
+    /// What the instruction does.
     pub op: Op,
     /// How many operands follow the byte.
     pub operands: u8,
@@ -81,6 +82,7 @@ pub struct Row {
 /// A table of `N` rows.
 #[derive(Clone, Copy)]
 pub struct Table<const N: usize> {
+    /// The rows, each op's once.
     pub rows: &'static [Row; N],
 }
 

@@ -55,6 +55,7 @@ pub struct PrimRow {
     pub selector: &'static str,
     /// How many arguments it takes.
     pub args: u8,
+    /// What receivers it is for.
     pub receiver: Kind,
 }
 

@@ -1,11 +1,11 @@
 -- What an update does to the occurrences of each item.
-use Rattle.std.proofs.Common.{◌≡◌, ◌==◌, ℕ, ◌-◌, Bool, true, false, cond, List, [], ◌∷◌, Option, Some, None, option_map, Ordering, refl, sym, ap, ◌∙◌, arith}
+use Rattle.std.proofs.Common.{◌≡◌, ◌==◌, ℕ, Bool, true, false, cond, List, [], ◌∷◌, Option, Some, None, option_map, Ordering, refl, sym, ap, ◌∙◌, arith}
 use Rattle.std.proofs.lemmas.Option.{same_Some, none-some}
 use borrow.Author.Tests.{eqb-true}
 use Rattle.std.specs.Cmp.{IsTotalOrder, Equal-is}
 use Rattle.std.specs.Ordering.{is_eq, ordering_reverse}
 use Rattle.std.specs.declared.cmp.Ordering.TheVariants.{Less, Equal}
-use Rattle.rc_counter_bag.specs.Bag.{IsBag, one_more, count, added, removed}
+use Rattle.rc_counter_bag.specs.Bag.{IsBag, one_more, one_less, count, added, removed}
 use Rattle.rc_counter_bag.proofs.Edits.{count-here, count-past, added-past, added-here, added-before, removed-here, removed-past, less_here}
 use Rattle.rc_counter_bag.proofs.Kept.{by_ordering, by_test, kept_first, IsBag-added, IsBelow, first_below, rest_bag}
 
@@ -74,27 +74,27 @@ module _ {T : Type 0} (cmp : T → T → Ordering) (total : IsTotalOrder cmp) (z
       (λ h. count-past cmp z (x, 1) (pair ∷ rest) h ∙ sym (counted-apart x (count cmp z (pair ∷ rest)) h)))
 
   abbrev lessened : T → ℕ → ℕ
-  lessened x n = cond (is_eq (cmp x z)) (n - 1) n
+  lessened x n = cond (is_eq (cmp x z)) (one_less n) n
 
-  lessened-tied : (x : T) (n : ℕ) → is_eq (cmp x z) ≡ true → lessened x n ≡ n - 1
-  lessened-tied x n h = ap (λ b. cond b (n - 1) n) h
+  lessened-tied : (x : T) (n : ℕ) → is_eq (cmp x z) ≡ true → lessened x n ≡ one_less n
+  lessened-tied x n h = ap (λ b. cond b (one_less n) n) h
 
   lessened-apart : (x : T) (n : ℕ) → is_eq (cmp x z) ≡ false → lessened x n ≡ n
-  lessened-apart x n h = ap (λ b. cond b (n - 1) n) h
+  lessened-apart x n h = ap (λ b. cond b (one_less n) n) h
 
   -- one less of the first pair, whose item is tied with x
   count-less_here : (x : T) (pair : T × ℕ) (rest : List (T × ℕ)) → cmp pair.0 x ≡ Equal → IsBag cmp (pair ∷ rest) → count cmp z (less_here cmp x pair rest) ≡ lessened x (count cmp z (pair ∷ rest))
   count-less_here x pair rest e bag = by_test (is_eq (cmp pair.0 z))
       (λ h. let tied : is_eq (cmp x z) ≡ true = ap is_eq (sym (total.congr pair.0 x z e)) ∙ h in
-      let after : lessened x (count cmp z (pair ∷ rest)) ≡ pair.1 - 1 = lessened-tied x (count cmp z (pair ∷ rest)) tied ∙ ap (λ n. n - 1) (count-here cmp z pair rest (tie pair.0 h)) in
+      let after : lessened x (count cmp z (pair ∷ rest)) ≡ one_less pair.1 = lessened-tied x (count cmp z (pair ∷ rest)) tied ∙ ap one_less (count-here cmp z pair rest (tie pair.0 h)) in
       by_test (pair.1 == 1)
-      (λ one. ap (λ b. count cmp z (cond b rest ((pair.0, pair.1 - 1) ∷ rest))) one ∙ count-below pair.0 rest (first_below cmp pair rest bag) (tie pair.0 h) ∙ sym (after ∙ ap (λ n. n - 1) (eqb-true pair.1 1 one)))
-      (λ more. ap (λ b. count cmp z (cond b rest ((pair.0, pair.1 - 1) ∷ rest))) more ∙ count-here cmp z (pair.0, pair.1 - 1) rest (tie pair.0 h) ∙ sym after))
+      (λ one. ap (λ b. count cmp z (cond b rest ((pair.0, one_less pair.1) ∷ rest))) one ∙ count-below pair.0 rest (first_below cmp pair rest bag) (tie pair.0 h) ∙ sym (after ∙ ap one_less (eqb-true pair.1 1 one)))
+      (λ more. ap (λ b. count cmp z (cond b rest ((pair.0, one_less pair.1) ∷ rest))) more ∙ count-here cmp z (pair.0, one_less pair.1) rest (tie pair.0 h) ∙ sym after))
       (λ h. let apart : is_eq (cmp x z) ≡ false = ap is_eq (sym (total.congr pair.0 x z e)) ∙ h in
       let after : lessened x (count cmp z (pair ∷ rest)) ≡ count cmp z rest = lessened-apart x (count cmp z (pair ∷ rest)) apart ∙ count-past cmp z pair rest h in
       by_test (pair.1 == 1)
-      (λ one. ap (λ b. count cmp z (cond b rest ((pair.0, pair.1 - 1) ∷ rest))) one ∙ sym after)
-      (λ more. ap (λ b. count cmp z (cond b rest ((pair.0, pair.1 - 1) ∷ rest))) more ∙ count-past cmp z (pair.0, pair.1 - 1) rest h ∙ sym after))
+      (λ one. ap (λ b. count cmp z (cond b rest ((pair.0, one_less pair.1) ∷ rest))) one ∙ sym after)
+      (λ more. ap (λ b. count cmp z (cond b rest ((pair.0, one_less pair.1) ∷ rest))) more ∙ count-past cmp z (pair.0, one_less pair.1) rest h ∙ sym after))
 
   pub count-removed : (x : T) (pairs less : List (T × ℕ)) → IsBag cmp pairs → removed cmp x pairs ≡ Some less → count cmp z less ≡ lessened x (count cmp z pairs)
   count-removed x [] less bag e = absurd (cc)

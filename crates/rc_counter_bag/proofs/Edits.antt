@@ -1,11 +1,11 @@
 -- What an edit at the place that a search found does to a bag.
-use Rattle.std.proofs.Common.{◌≡◌, ◌==◌, ℕ, zero, suc, ◌-◌, ◌<◌, false, cond, List, [], ◌∷◌, length, get_or, set, Some, None, option_map, Result, Ok, Err, OnErr, Ordering, refl, sym, ap, ◌∙◌}
+use Rattle.std.proofs.Common.{◌≡◌, ◌==◌, ℕ, zero, suc, ◌<◌, false, cond, List, [], ◌∷◌, length, get_or, set, Some, None, option_map, Result, Ok, Err, OnErr, Ordering, refl, sym, ap, ◌∙◌}
 use Rattle.std.proofs.lemmas.Bool.{ne_eqb}
 use Rattle.std.proofs.lemmas.List.{get_or_default}
 use Rattle.std.specs.List.{AllByRecursion, insert, remove}
 use Rattle.std.specs.Ordering.{is_eq, match_ordering}
 use Rattle.std.specs.declared.cmp.Ordering.TheVariants.{Less, Equal, Greater}
-use Rattle.rc_counter_bag.specs.Bag.{one_more, count, added, removed}
+use Rattle.rc_counter_bag.specs.Bag.{one_more, one_less, count, added, removed}
 use Rattle.rc_counter_bag.specs.Place.{StandsAt, FitsAt}
 
 -- what holds holds on an error too
@@ -32,7 +32,7 @@ module _ {T : Type 0} (cmp : T → T → Ordering) (item : T) where
   added-before pair rest e = ap (λ o. match_ordering o (pair ∷ added cmp item rest) ((pair.0, one_more pair.1) ∷ rest) ((item, 1) ∷ pair ∷ rest)) e
 
   abbrev pub less_here : T × ℕ → List (T × ℕ) → List (T × ℕ)
-  less_here pair rest = cond (pair.1 == 1) rest ((pair.0, pair.1 - 1) ∷ rest)
+  less_here pair rest = cond (pair.1 == 1) rest ((pair.0, one_less pair.1) ∷ rest)
 
   pub removed-here : (pair : T × ℕ) (rest : List (T × ℕ)) → cmp pair.0 item ≡ Equal → removed cmp item (pair ∷ rest) ≡ Some (less_here pair rest)
   removed-here pair rest e = ap (λ o. cond (is_eq o) (Some (less_here pair rest)) (option_map (λ less. pair ∷ less) (removed cmp item rest))) e
@@ -54,17 +54,17 @@ module _ {T : Type 0} (cmp : T → T → Ordering) (item : T) where
 
   pub removed-last : (pairs : List (T × ℕ)) (at : ℕ) (x : T × ℕ) → StandsAt cmp item pairs at → x ≡ get_or pairs at x → x.1 ≡ 1 → removed cmp item pairs ≡ Some (remove pairs at)
   removed-last [] at x stands read one = absurd stands
-  removed-last (pair ∷ rest) zero x stands read one = removed-here pair rest stands ∙ ap (λ (p : T × ℕ). Some (less_here p rest)) (sym read) ∙ ap (λ n. Some (cond (n == 1) rest ((x.0, x.1 - 1) ∷ rest))) one
+  removed-last (pair ∷ rest) zero x stands read one = removed-here pair rest stands ∙ ap (λ (p : T × ℕ). Some (less_here p rest)) (sym read) ∙ ap (λ n. Some (cond (n == 1) rest ((x.0, one_less x.1) ∷ rest))) one
   removed-last (pair ∷ rest) (suc at) x stands read one = removed-past pair rest (ap is_eq stands.0) ∙ ap (option_map (λ less. pair ∷ less)) (removed-last rest at x stands.1 read one)
 
-  pub removed-more : (pairs : List (T × ℕ)) (at : ℕ) (x : T × ℕ) → StandsAt cmp item pairs at → x ≡ get_or pairs at x → (x.1 == 1) ≡ false → removed cmp item pairs ≡ Some (set pairs at (x.0, x.1 - 1))
+  pub removed-more : (pairs : List (T × ℕ)) (at : ℕ) (x : T × ℕ) → StandsAt cmp item pairs at → x ≡ get_or pairs at x → (x.1 == 1) ≡ false → removed cmp item pairs ≡ Some (set pairs at (x.0, one_less x.1))
   removed-more [] at x stands read more = absurd stands
-  removed-more (pair ∷ rest) zero x stands read more = removed-here pair rest stands ∙ ap (λ (p : T × ℕ). Some (less_here p rest)) (sym read) ∙ ap (λ b. Some (cond b rest ((x.0, x.1 - 1) ∷ rest))) more
+  removed-more (pair ∷ rest) zero x stands read more = removed-here pair rest stands ∙ ap (λ (p : T × ℕ). Some (less_here p rest)) (sym read) ∙ ap (λ b. Some (cond b rest ((x.0, one_less x.1) ∷ rest))) more
   removed-more (pair ∷ rest) (suc at) x stands read more = removed-past pair rest (ap is_eq stands.0) ∙ ap (option_map (λ less. pair ∷ less)) (removed-more rest at x stands.1 read more)
 
   -- the pair is read twice: for the test, and to write it
   pub removed-written : (pairs : List (T × ℕ)) (at : ℕ) (x y : T × ℕ) → StandsAt cmp item pairs at → at < length pairs → x ≡ get_or pairs at x → y ≡ get_or pairs at y → (x.1 ≡ 1 → ⊥)
-      → removed cmp item pairs ≡ Some (set pairs at (y.0, y.1 - 1))
+      → removed cmp item pairs ≡ Some (set pairs at (y.0, one_less y.1))
   removed-written pairs at x y stands within read_x read_y more =
       let same : y ≡ x = read_y ∙ get_or_default pairs at y x within ∙ sym read_x in
       removed-more pairs at y stands read_y (ap (λ (p : T × ℕ). p.1 == 1) same ∙ ne_eqb x.1 1 more)

@@ -1,5 +1,5 @@
 -- A bag stays one.
-use Rattle.std.proofs.Common.{◌≡◌, ◌==◌, ℕ, ◌-◌, ◌<◌, Bool, true, false, cond, List, [], ◌∷◌, map, Option, Some, None, option_map, Ordering, refl, sym, ap, ◌∙◌, subst, arith}
+use Rattle.std.proofs.Common.{◌≡◌, ◌==◌, ℕ, ◌-◌, ◌<◌, ◌^◌, Bool, true, false, cond, List, [], ◌∷◌, map, Option, Some, None, option_map, Ordering, refl, sym, ap, ◌∙◌, subst, arith}
 use Rattle.std.proofs.lemmas.Bool.Decides.{nat_tests}
 use Rattle.std.proofs.lemmas.Option.{same_Some}
 use Rattle.std.specs.Cmp.{IsTotalOrder, Equal-is}
@@ -7,7 +7,7 @@ use Rattle.std.specs.List.{AllByRecursion}
 use Rattle.std.specs.List.Sorted.{IsStrictlySortedBy}
 use Rattle.std.specs.Ordering.{is_eq, ordering_reverse}
 use Rattle.std.specs.declared.cmp.Ordering.TheVariants.{Less, Equal, Greater}
-use Rattle.rc_counter_bag.specs.Bag.{IsBag, one_more, added, removed, updated}
+use Rattle.rc_counter_bag.specs.Bag.{IsBag, one_more, one_less, added, removed, updated}
 use Rattle.rc_counter_bag.specs.declared.update.BagUpdate.{BagUpdate}
 use Rattle.rc_counter_bag.specs.declared.update.BagUpdate.TheVariants.{Add, Remove}
 use Rattle.rc_counter_bag.proofs.Edits.{added-past, added-here, added-before, removed-here, removed-past, less_here}
@@ -29,8 +29,13 @@ kept_first pair None less e = absurd (cc)
 kept_first pair (Some l) less e = (l, refl, cc)
 
 -- one less than more than one
-more_left : (n : ℕ) → 0 < n → (n == 1) ≡ false → 0 < n - 1
-more_left n occurs more = grind (arith, nat_tests)
+less_left : (n : ℕ) → 0 < n → (n == 1) ≡ false → 0 < n - 1
+less_left n occurs more = grind (arith, nat_tests)
+
+more_left : (n : ℕ) → 0 < n → (n == 1) ≡ false → 0 < one_less n
+more_left n occurs more = by_test (n == 2 ^ 64 - 1)
+    (λ h. subst (λ b. 0 < cond b n (n - 1)) (sym h) occurs)
+    (λ h. subst (λ b. 0 < cond b n (n - 1)) (sym h) (less_left n occurs more))
 
 module _ {T : Type 0} (cmp : T → T → Ordering) where
   -- the item is below each of the pairs
@@ -83,8 +88,8 @@ module _ {T : Type 0} (cmp : T → T → Ordering) where
     below-removed x (pair ∷ rest) less below e = by_test (is_eq (cmp pair.0 item))
         (λ h. let same : less_here cmp item pair rest ≡ less = same_Some _ _ (sym (removed-here cmp item pair rest ((Equal-is (cmp pair.0 item)).0 h)) ∙ e) in
         by_test (pair.1 == 1)
-        (λ one. subst (IsBelow x) (sym (ap (λ b. cond b rest ((pair.0, pair.1 - 1) ∷ rest)) one) ∙ same) below.1)
-        (λ more. subst (IsBelow x) (sym (ap (λ b. cond b rest ((pair.0, pair.1 - 1) ∷ rest)) more) ∙ same) below))
+        (λ one. subst (IsBelow x) (sym (ap (λ b. cond b rest ((pair.0, one_less pair.1) ∷ rest)) one) ∙ same) below.1)
+        (λ more. subst (IsBelow x) (sym (ap (λ b. cond b rest ((pair.0, one_less pair.1) ∷ rest)) more) ∙ same) below))
         (λ h. let k = kept_first pair (removed cmp item rest) less (sym (removed-past cmp item pair rest h) ∙ e) in
         subst (IsBelow x) (sym k.2) (below.0, below-removed x rest k.0 below.1 k.1))
 
@@ -93,9 +98,9 @@ module _ {T : Type 0} (cmp : T → T → Ordering) where
     IsBag-removed (pair ∷ rest) less bag e = by_test (is_eq (cmp pair.0 item))
         (λ h. let same : less_here cmp item pair rest ≡ less = same_Some _ _ (sym (removed-here cmp item pair rest ((Equal-is (cmp pair.0 item)).0 h)) ∙ e) in
         by_test (pair.1 == 1)
-        (λ one. subst (IsBag cmp) (sym (ap (λ b. cond b rest ((pair.0, pair.1 - 1) ∷ rest)) one) ∙ same) (rest_bag pair rest bag))
-        (λ more. subst (IsBag cmp) (sym (ap (λ b. cond b rest ((pair.0, pair.1 - 1) ∷ rest)) more) ∙ same)
-        (cons_bag (pair.0, pair.1 - 1) rest (first_below pair rest bag) (more_left pair.1 bag.occur.0 more) (rest_bag pair rest bag))))
+        (λ one. subst (IsBag cmp) (sym (ap (λ b. cond b rest ((pair.0, one_less pair.1) ∷ rest)) one) ∙ same) (rest_bag pair rest bag))
+        (λ more. subst (IsBag cmp) (sym (ap (λ b. cond b rest ((pair.0, one_less pair.1) ∷ rest)) more) ∙ same)
+        (cons_bag (pair.0, one_less pair.1) rest (first_below pair rest bag) (more_left pair.1 bag.occur.0 more) (rest_bag pair rest bag))))
         (λ h. let k = kept_first pair (removed cmp item rest) less (sym (removed-past cmp item pair rest h) ∙ e) in
         subst (IsBag cmp) (sym k.2) (cons_bag pair k.0 (below-removed pair.0 rest k.0 (first_below pair rest bag) k.1) bag.occur.0 (IsBag-removed rest k.0 (rest_bag pair rest bag) k.1)))
 

@@ -11,6 +11,10 @@ use Rattle.rc_counter_bag.specs.declared.update.BagUpdate.TheVariants.{Add, Remo
 abbrev pub one_more : ℕ → ℕ
 one_more occurrences = min (occurrences + 1) (2 ^ 64 - 1)
 
+-- one occurrence less; a count that stands at its end doesn't know how many there are, so it stays there
+abbrev pub one_less : ℕ → ℕ
+one_less occurrences = if occurrences == 2 ^ 64 - 1 then occurrences else occurrences - 1
+
 module _ {T : Type 0} where
   -- all occurrences; the sum stands still too
   abbrev pub size : List (T × ℕ) → ℕ
@@ -42,7 +46,7 @@ module _ {T : Type 0} where
     removed item [] = None
     removed item (pair ∷ rest) =
         if is_eq (cmp pair.0 item)
-        then Some (if pair.1 == 1 then rest else (pair.0, pair.1 - 1) ∷ rest)
+        then Some (if pair.1 == 1 then rest else (pair.0, one_less pair.1) ∷ rest)
         else option_map (λ less. pair ∷ less) (removed item rest)
 
     -- the bag after the update, or None where the update is refused

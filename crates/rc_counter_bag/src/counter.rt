@@ -6,6 +6,7 @@ use thiserror::Error;
 /// A number that sessions raise and lower side by side.
 #[derive(Clone, Copy, Debug, PartialEq, Eq)]
 pub struct Counter {
+    /// A SmallInteger, from -2^60 to 2^60 - 1, after each update and merge.
     pub value: i64,
 }
 

@@ -1,9 +1,9 @@
 //! What holds of every counter and every bag. Each law is the contract of a function that does
 //! nothing, and speaks of the definitions of update and merge alone.
-ghost use Rattle.std.specs.Prelude.{◌≡◌, ◌↔◌, ◌-◌, ℕ, ℤ, List, map, take, slice_get, if◌then◌else◌, Some, None, Ok, Err, IsOk};
+ghost use Rattle.std.specs.Prelude.{◌≡◌, ◌↔◌, ℕ, ℤ, List, map, take, slice_get, if◌then◌else◌, Some, None, Ok, Err, IsOk};
 ghost use Rattle.std.specs.Ordering.{is_eq};
 ghost use Rattle.std.specs.declared.cmp.Ordering.TheVariants.{Equal};
-ghost use Rattle.rc_counter_bag.specs.Bag.{IsBag, one_more, count, updated, merged};
+ghost use Rattle.rc_counter_bag.specs.Bag.{IsBag, one_more, one_less, count, updated, merged};
 ghost use Rattle.rc_counter_bag.specs.Turns.{raised_twice, sums_merged, updated_twice, merged_twice};
 ghost use Rattle.rc_counter_bag.specs.declared.update.BagUpdate.{BagUpdate};
 ghost use Rattle.rc_counter_bag.specs.declared.update.BagUpdate.TheVariants.{Add, Remove};
@@ -30,15 +30,16 @@ pub fn adds_commute<T: Ord>()
         → IsOk (merged_twice T.cmp view place (map Add first) (map Add second)) }
 {}
 
-/// An add raises the occurrences of its item by one, and a removal lowers them, and no other's. A
-/// removal is refused exactly where the item doesn't occur. A bag stays one.
+/// An add raises the occurrences of its item by one, and a removal lowers them by one, and no other's;
+/// occurrences that have come to 2^64 - 1 stay there. A removal is refused exactly where the item
+/// doesn't occur. A bag stays one.
 pub fn occurrences_follow<T: Ord>()
     ensures add { (pairs more : List (T × ℕ)) (added item : T) → IsBag T.cmp pairs → updated T.cmp (Add added) pairs ≡ Some more
         → count T.cmp item more
         ≡ (if is_eq (T.cmp added item) then one_more (count T.cmp item pairs) else count T.cmp item pairs) }
     ensures removal { (pairs less : List (T × ℕ)) (removed item : T) → IsBag T.cmp pairs → updated T.cmp (Remove removed) pairs ≡ Some less
         → count T.cmp item less
-        ≡ (if is_eq (T.cmp removed item) then count T.cmp item pairs - 1 else count T.cmp item pairs) }
+        ≡ (if is_eq (T.cmp removed item) then one_less (count T.cmp item pairs) else count T.cmp item pairs) }
     ensures refusal { (pairs : List (T × ℕ)) (removed : T) → IsBag T.cmp pairs
         → (updated T.cmp (Remove removed) pairs ≡ None) ↔ (count T.cmp removed pairs ≡ 0) }
     ensures bag { (update : BagUpdate T) (pairs after : List (T × ℕ)) → IsBag T.cmp pairs → updated T.cmp update pairs ≡ Some after

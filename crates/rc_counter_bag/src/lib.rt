@@ -132,7 +132,12 @@ mod tests {
             Case {
                 place: &[('x', u64::MAX)],
                 updates: &[remove('x')],
-                want: Ok(&[('x', u64::MAX - 1)]),
+                want: Ok(&[('x', u64::MAX)]),
+            },
+            Case {
+                place: &[('x', u64::MAX - 1)],
+                updates: &[remove('x')],
+                want: Ok(&[('x', u64::MAX - 2)]),
             },
         ];
         let Some(at_view) = Bag::of_pairs(pairs(alloc, &[('x', 1)])?) else {

@@ -1,6 +1,6 @@
-ghost use Rattle.std.specs.Prelude.{◌≡◌, ◌↔◌, ℕ, map, length, false, Some, None, Ok, Err, IsTrue, IfOk, IfErr, OnOk, OnErr, IsErrOf};
+ghost use Rattle.std.specs.Prelude.{◌≡◌, ◌↔◌, ◌<◌, ℕ, map, length, false, Some, None, Ok, Err, IsTrue, IfOk, IfErr, OnOk, OnErr, IsErrOf};
 ghost use Rattle.std.specs.List.Sorted.{IsStrictlySortedBy, IsSearchInRange};
-ghost use Rattle.rc_counter_bag.specs.Bag.{IsBag, size, count, added, removed, replayed};
+ghost use Rattle.rc_counter_bag.specs.Bag.{IsBag, one_less, size, count, added, removed, replayed};
 ghost use Rattle.rc_counter_bag.specs.Place.{StandsAt, FitsAt};
 
 use crate::update::{BagFault, BagUpdate};
@@ -61,9 +61,21 @@ pub(crate) fn remove<T: Ord + Drop>(pairs: &mut Vec<(T, u64)>, item: &T) -> bool
         pairs.remove(at);
     } else {
         let pair = &mut pairs[at];
-        pair.1 -= 1;
+        pair.1 = one_less(pair.1);
     }
     true
+}
+
+// One occurrence less, unless the count stands at its end.
+fn one_less(occurrences: u64) -> u64
+    requires { 0 < occurrences }
+    ensures { result ≡ one_less occurrences }
+{
+    if occurrences == u64::MAX {
+        occurrences
+    } else {
+        occurrences - 1
+    }
 }
 
 // Applies the updates in order, up to the first that is refused.

@@ -26,8 +26,7 @@ pub fn adds_commute<K: Ord, T: Ord>()
 {}
 
 /// An update leaves its value, or none, at its key, and every other key as it was. A removal is
-/// refused exactly where its key has no value. A dictionary stays one, and a key that has one entry
-/// is at one place.
+/// refused exactly where its key has no value. A dictionary stays one.
 pub fn entries_follow<K: Ord, T: Ord>()
     ensures entries { (update : DictUpdate K T) (pairs after : List (K × T)) (key : K) → IsDict K.cmp pairs
         → updated K.cmp update pairs ≡ Some after

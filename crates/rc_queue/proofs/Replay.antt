@@ -212,3 +212,9 @@ module _ {T : Type 0} (cmp : T → T → Ordering) (view place after : Contents 
       let raised : place.removed < after.removed = removal_raises cmp 0 first place.removed place.items after i w.1 (omega arith) found_first in
       let differ : (view.removed == after.removed) ≡ true → ⊥ = λ h. let equal : view.removed ≡ after.removed = eqb-true _ _ h in omega arith in
       ap (λ r. unless_refused r (replayed cmp 0 second after)) (counts_differ (view.removed == after.removed) (first_removal 0 second) j differ found_second)
+
+module _ {T : Type 0} (cmp : T → T → Ordering) (view place : Contents T) where
+  -- a front went since the view, so no removal is merged
+  pub since_refused : (updates : List (QueueUpdate T)) (i : ℕ) → (view.removed ≡ place.removed → ⊥) → first_removal 0 updates ≡ Some i → merged cmp view place updates ≡ Err i
+  since_refused updates i apart found =
+      ap (λ r. unless_refused r (replayed cmp 0 updates place)) (counts_differ cmp view place place (view.removed == place.removed) (first_removal 0 updates) i (λ h. apart (eqb-true _ _ h)) found)

@@ -1,6 +1,6 @@
 //! What holds of every queue. Each law is the contract of a function that does nothing, and speaks
 //! of the definitions of update and merge alone.
-ghost use Rattle.std.specs.Prelude.{◌≡◌, ℕ, ◌+◌, ◌-◌, ◌^◌, ◌<◌, ◌≤◌, min, List, ◌++◌, map, length, take, slice_get, Some, Ok, Err, IsSome, IsOk, option_map, true};
+ghost use Rattle.std.specs.Prelude.{◌≡◌, ◌≢◌, ℕ, ◌+◌, ◌-◌, ◌^◌, ◌<◌, ◌≤◌, min, List, ◌++◌, map, length, take, slice_get, Some, Ok, Err, IsSome, IsOk, option_map, true};
 ghost use Rattle.std.specs.List.{AllZip};
 ghost use Rattle.std.specs.declared.cmp.Ordering.TheVariants.{Equal};
 ghost use Rattle.rc_queue.specs.Contents.{Contents};
@@ -45,10 +45,13 @@ pub fn nothing_lost<T: Ord>()
         → place.removed ≤ 2 ^ 64 - 1 → after.removed ≡ min (place.removed + length (removed_items updates)) (2 ^ 64 - 1) }
 {}
 
-/// Once a session's removal is merged, no other session that worked at the same view merges one:
-/// no front is handed out twice. The count of removals must be able to tell, so it is below its end.
+/// No front is handed out twice: where a front was removed since the view, a merge with a removal is
+/// refused at its first one. So once a session's removal is merged, the next session that worked at the
+/// same view merges none. The count of removals must be able to tell, so it is below its end.
 pub fn front_goes_once<T: Ord>()
-    ensures { (view place after : Contents T) (first second : List (QueueUpdate T)) (i j : ℕ) → view.removed < 2 ^ 64 - 1
+    ensures removed_since { (view place : Contents T) (updates : List (QueueUpdate T)) (at : ℕ) → view.removed ≢ place.removed
+        → first_removal 0 updates ≡ Some at → merged T.cmp view place updates ≡ Err at }
+    ensures next_session { (view place after : Contents T) (first second : List (QueueUpdate T)) (i j : ℕ) → view.removed < 2 ^ 64 - 1
         → merged T.cmp view place first ≡ Ok after → first_removal 0 first ≡ Some i → first_removal 0 second ≡ Some j
         → merged T.cmp view after second ≡ Err j }
 {}

@@ -64,7 +64,7 @@ mod tests {
     fn merges(rt: HostRuntime) -> Result<(), Fail> {
         let alloc = rt.alloc();
         let cases = [
-            // A producer beside a consumer, in either order: 1 and 2 wait at the view.
+            // A producer beside a consumer, in either order, where 1 and 2 wait.
             Case {
                 view: 0,
                 place: (0, &[1, 2]),
@@ -146,12 +146,14 @@ mod tests {
         let mut line = queue(alloc, u64::MAX - 1, &[4])?;
         line.apply(add(5))?;
         assert_eq!(rt; line.apply(remove(5)), Err(QueueFault::Remove(0)));
+        let twin = line.try_clone()?;
+        assert_eq!(rt; twin.removed(), line.removed());
+        assert_eq!(rt; numbers(alloc, &twin)?.as_slice(), [4, 5].as_slice());
         line.apply(remove(4))?;
         assert_eq!(rt; line.front(), Some(&Job { number: 5 }));
         line.apply(remove(5))?;
         assert_eq!(rt; line.apply(remove(5)), Err(QueueFault::Remove(0)));
         assert_eq!(rt; (line.removed(), line.size()), (u64::MAX, 0));
-        assert_eq!(rt; line.try_clone()?.removed(), u64::MAX);
         Ok(())
     }
 }

@@ -94,6 +94,7 @@ impl<T: Clone> Clone for Groups<T> {
 pub struct Rights<T> {
     /// The user who owns the segment.
     pub owner: u64,
+    /// What the owner is given.
     pub owner_right: Right,
     /// What the groups are given, each for all the users who are in it.
     pub groups: Groups<T>,

@@ -19,10 +19,11 @@ returns-then-last-clause-bag g c =
 pub returns-else-last-clause-removed : goal.returns-else-last-clause-removed
 returns-else-last-clause-removed g c _ =
     let found = rw c.deref.ensures.value at c.in-Ok.ensures in
-    removed-written g.T.Ord.cmp c.args.item.now c.args.pairs.now.items c.in-Ok.at c.index.result.now c.index_mut-pair.result.now found.stands found.in_range c.index.ensures c.index_mut-pair.ensures.value c.if-last.false
+    rw c.one_less-pair.ensures
+    (removed-written g.T.Ord.cmp c.args.item.now c.args.pairs.now.items c.in-Ok.at c.index.result.now c.index_mut-pair.result.now found.stands found.in_range c.index.ensures c.index_mut-pair.ensures.value c.if-last.false)
 
 pub returns-else-last-clause-bag : goal.returns-else-last-clause-bag
 returns-else-last-clause-bag g c =
     let found = rw c.deref.ensures.value at c.in-Ok.ensures in
     let less = removed-written g.T.Ord.cmp c.args.item.now c.args.pairs.now.items c.in-Ok.at c.index.result.now c.index_mut-pair.result.now found.stands found.in_range c.index.ensures c.index_mut-pair.ensures.value c.if-last.false in
-    IsBag-removed g.T.Ord.cmp c.args.item.now c.args.pairs.now.items _ c.requires less
+    rw c.one_less-pair.ensures (IsBag-removed g.T.Ord.cmp c.args.item.now c.args.pairs.now.items _ c.requires less)
