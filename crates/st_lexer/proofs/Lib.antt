@@ -4,6 +4,7 @@ pub mod Reading
 pub mod Values
 pub mod Sizes
 pub mod Once
+pub mod Function
 pub mod Cuts
 pub mod QuoteCuts
 pub mod KeywordCuts

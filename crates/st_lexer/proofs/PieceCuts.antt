@@ -66,7 +66,7 @@ token_cut [] back more k n h fits same =
 token_cut (b ∷ f) back more k n h fits same = token_in (class_of b) b f back more k n h fits same
 
 -- a piece that isn't a gap
-abbrev Solid : Piece → Type 0
+abbrev pub Solid : Piece → Type 0
 Solid end = Unit {0}
 Solid (gap n) = ⊥
 Solid (token k n) = Unit {0}
@@ -98,7 +98,7 @@ solid_quoted : (size : ℕ) (o : Option ℕ) → Solid (quoted_symbol size o)
 solid_quoted size (Some n) = solid_sized size (n + 2)
 solid_quoted size None = tt
 
-solid_symbol : (rest : Bytes) → Solid (symbol_at rest)
+pub solid_symbol : (rest : Bytes) → Solid (symbol_at rest)
 solid_symbol rest =
     on_cond Solid (begins starts_name rest) _ _ (λ _. solid_sized (symbol_name rest) (symbol_name rest + 1)) (λ _.
     on_cond Solid (begins is_operator rest) _ _ (λ _. tt) (λ _.
@@ -123,7 +123,7 @@ solid_mark b =
     on_cond Solid (b == 91) _ _ (λ _. tt) (λ _.
     on_cond Solid (b == 93) _ _ (λ _. tt) (λ _. tt))))))))
 
-no_gap : (q : Piece) (n : ℕ) → Solid q → q ≡ gap n → ⊥
+pub no_gap : (q : Piece) (n : ℕ) → Solid q → q ≡ gap n → ⊥
 no_gap q n s e = subst Solid e s
 
 comment_piece : (o : Option ℕ) (f back more : Bytes) (n : ℕ) → comment_end (f ++ back) ≡ o → comment_to o ≡ gap n → n ≤ suc (length f) → comment_to (comment_end (f ++ 32 ∷ more)) ≡ gap n

@@ -11,10 +11,10 @@ some_is a b e = cc
 none_is_not : (o : Option ℕ) (m : ℕ) → o ≡ None → o ≡ Some m → ⊥
 none_is_not o m n e = let c = sym n ∙ e in cc
 
-abbrev OneLess : Option ℕ → ℕ → Type 0
+abbrev pub OneLess : Option ℕ → ℕ → Type 0
 OneLess o m = (k : ℕ) × ((o ≡ Some k) × (k + 1 ≡ m))
 
-later_one : (o : Option ℕ) (m : ℕ) → later 1 o ≡ Some m → OneLess o m
+pub later_one : (o : Option ℕ) (m : ℕ) → later 1 o ≡ Some m → OneLess o m
 later_one (Some n) m e = (n, (refl, some_is (n + 1) m e))
 later_one None m e = absurd (none_is_not None m refl e)
 
@@ -37,7 +37,7 @@ pub record SameString (quoted : Bool) (f back more : Bytes) (m : ℕ) : Type 0 w
   pub ends : string_end quoted (f ++ 32 ∷ more) ≡ Some m
   pub bytes : string_bytes quoted (f ++ 32 ∷ more) ≡ string_bytes quoted (f ++ back)
 
-open_some : (bs : Bytes) (m : ℕ) → string_end false bs ≡ Some m → 0 < m
+pub open_some : (bs : Bytes) (m : ℕ) → string_end false bs ≡ Some m → 0 < m
 open_some [] m e = absurd (none_is_not None m refl e)
 open_some (b ∷ bs) m e = let k = later_one (string_end (b == 39) bs) m e in omega (arith, k.1.1)
 

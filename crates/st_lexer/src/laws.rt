@@ -1,8 +1,9 @@
 //! What holds of tokens whatever lexer finds them.
-ghost use Rattle.std.specs.Prelude.{◌≡◌, ℕ, ◌+◌, List, ◌∷◌, ◌++◌, ◌⊎◌, length, take, map};
+ghost use Rattle.std.specs.Prelude.{◌≡◌, ℕ, ◌+◌, List, ◌∷◌, ◌++◌, ◌⊎◌, length, take, map, Ok, Err};
 ghost use Rattle.st_tree.specs.Trees.{Bytes};
 ghost use Rattle.st_tree.specs.Tokens as spec;
 ghost use Rattle.st_tree.specs.Tokens.{Lexes, Stops, Rule, end_after, moved};
+ghost use Rattle.st_tree.specs.Lexed.{tokens_of};
 ghost use Rattle.st_lexer.specs.Spans.{SpansAscend};
 
 /// A text has tokens or one first bad token: never both, always one of the two, and one answer of each.
@@ -11,6 +12,12 @@ pub fn one_answer()
     ensures faults { (text : Bytes) (place other : ℕ) (r s : Rule) → Stops 0 text place r → Stops 0 text other s → (place ≡ other) × (r ≡ s) }
     ensures never_both { (text : Bytes) (ts : List spec.Token) (place : ℕ) (r : Rule) → Lexes 0 text ts → Stops 0 text place r → ⊥ }
     ensures always { (text : Bytes) → ((ts : List spec.Token) × Lexes 0 text ts) ⊎ ((place : ℕ) × (r : Rule) × Stops 0 text place r) }
+{}
+
+/// The function that gives a text's tokens, or its first bad token, gives just these.
+pub fn as_function()
+    ensures tokens { (text : Bytes) (ts : List spec.Token) → Lexes 0 text ts → tokens_of text ≡ Ok ts }
+    ensures fault { (text : Bytes) (place : ℕ) (r : Rule) → Stops 0 text place r → tokens_of text ≡ Err (record { place = place; rule = r }) }
 {}
 
 /// The tokens of a text stand one behind another within it, each with one byte at least.

@@ -4,3 +4,6 @@ pub mod Views
 pub mod Falls
 pub mod EnumFalls
 pub mod Tokens
+pub mod Lexed
+pub mod Grammar
+pub mod Fails
