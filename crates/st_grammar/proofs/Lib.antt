@@ -1,0 +1,27 @@
+mod Rows
+pub mod Joins
+pub mod Follows
+pub mod Begins
+pub mod Elements
+pub mod Complete
+pub mod Paths
+pub mod Refuses
+pub mod OpenBrackets
+pub mod Shapes
+pub mod SoundWants
+pub mod SoundTrees
+pub mod SoundParts
+pub mod SoundSteps
+pub mod Sound
+pub mod Viable
+pub mod Exact
+pub mod OneAnswer
+pub mod Function
+pub mod TextWords
+pub mod TextEnds
+pub mod MinusCuts
+pub mod MinusFronts
+pub mod MinusSigns
+pub mod TextMinus
+pub mod Closing
+pub mod Supply

@@ -1,0 +1,6 @@
+pub mod Values
+pub mod Words
+pub mod Steps
+pub mod Messages
+pub mod Whole
+pub mod Readings

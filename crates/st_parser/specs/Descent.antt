@@ -1,0 +1,179 @@
+-- What the functions of the parser do, told by the machine of the grammar: where the machine stands before and behind what they read.
+use Rattle.std.specs.Prelude.{◌≡◌, ℕ, Bool, true, false, ◌&&◌, ◌||◌, Result, Ok, Err, List, [], ◌∷◌}
+use Rattle.st_tree.specs.Trees.{Bytes, Program, Statement, statement, Statements, Expression}
+use Rattle.st_tree.specs.Tokens.{Kind, identifier, keyword, number, character, string, symbol, binary, bar, assign, colon, caret, semicolon, period, open_paren, close_paren, open_bracket, close_bracket, open_array}
+use Rattle.st_tree.specs.Grammar.{Word, word, Rule, p4, p5, p6, p7, p8, p9, Scope, is_minus, no_message}
+use Rattle.st_tree.specs.Fails.{every}
+use Rattle.st_grammar.specs.Machine.{State, Body, top, in_block, in_body, Slot, outer, alone, have, has_messages, run, scopes_of, depth_of}
+use Rattle.st_parser.specs.declared.stops.Broken.{Broken}
+use Rattle.st_parser.specs.declared.stops.Broken.TheVariants.{Unexpected, MissingBracket, MissingParen, Declaration, Assignment, Depth}
+use Rattle.st_parser.specs.declared.stops.Stop.{Stop}
+use Rattle.st_parser.specs.declared.stops.Stop.TheVariants.{Breaks, Memory}
+
+abbrev pub rule_of : Broken → Rule
+rule_of Unexpected = p4
+rule_of MissingBracket = p5
+rule_of MissingParen = p6
+rule_of Declaration = p7
+rule_of Assignment = p8
+rule_of Depth = p9
+
+-- The machine goes on from the one state before the old words as from the other before the new ones.
+abbrev pub Runs : State → List Word → State → List Word → Type 0
+Runs s old t new = run every s old ≡ run every t new
+
+-- The machine stops at the new words, by the rule that the parser gives.
+abbrev pub StopsAt : State → List Word → List Word → Stop → Type 0
+StopsAt s old new (Breaks b) = run every s old ≡ Err (record { left = new; rule = rule_of b })
+StopsAt s old new Memory = Unit {0}
+
+-- What is read takes the machine from the one state to the other. Where nothing is read the machine stops at the new words.
+abbrev pub Reached : {X : Type 0} → State → List Word → (X → State) → List Word → Result X Stop → Type 0
+Reached s old to new (Ok x) = Runs s old (to x) new
+Reached s old to new (Err e) = StopsAt s old new e
+
+-- tests of the first word
+abbrev pub starts : (Kind → Bool) → List Word → Bool
+starts p [] = false
+starts p (word k x t ∷ ws) = p k
+
+abbrev pub is_identifier : Kind → Bool
+is_identifier identifier = true
+is_identifier _ = false
+
+abbrev pub is_keyword : Kind → Bool
+is_keyword keyword = true
+is_keyword _ = false
+
+abbrev pub is_bar : Kind → Bool
+is_bar bar = true
+is_bar _ = false
+
+abbrev pub is_colon : Kind → Bool
+is_colon colon = true
+is_colon _ = false
+
+abbrev pub is_caret : Kind → Bool
+is_caret caret = true
+is_caret _ = false
+
+abbrev pub is_semicolon : Kind → Bool
+is_semicolon semicolon = true
+is_semicolon _ = false
+
+abbrev pub is_period : Kind → Bool
+is_period period = true
+is_period _ = false
+
+abbrev pub is_close_paren : Kind → Bool
+is_close_paren close_paren = true
+is_close_paren _ = false
+
+abbrev pub is_close_bracket : Kind → Bool
+is_close_bracket close_bracket = true
+is_close_bracket _ = false
+
+-- an identifier, a binary selector or a keyword
+abbrev pub is_message : Kind → Bool
+is_message identifier = true
+is_message binary = true
+is_message bar = true
+is_message keyword = true
+is_message _ = false
+
+abbrev pub is_assign : Kind → Bool
+is_assign assign = true
+is_assign _ = false
+
+abbrev pub is_open_paren : Kind → Bool
+is_open_paren open_paren = true
+is_open_paren _ = false
+
+abbrev pub is_open_bracket : Kind → Bool
+is_open_bracket open_bracket = true
+is_open_bracket _ = false
+
+abbrev pub is_open_array : Kind → Bool
+is_open_array open_array = true
+is_open_array _ = false
+
+-- a binary selector
+abbrev pub is_selector : Kind → Bool
+is_selector binary = true
+is_selector bar = true
+is_selector _ = false
+
+-- an identifier or a binary selector
+abbrev pub is_short_message : Kind → Bool
+is_short_message identifier = true
+is_short_message binary = true
+is_short_message bar = true
+is_short_message _ = false
+
+-- a token that is a literal on its own, or none that a head begins with
+abbrev pub is_other_head : Kind → Bool
+is_other_head identifier = false
+is_other_head binary = false
+is_other_head open_paren = false
+is_other_head open_bracket = false
+is_other_head open_array = false
+is_other_head _ = true
+
+-- an identifier and `:=`
+abbrev pub assigns : List Word → Bool
+assigns (word identifier x t ∷ ws) = starts is_assign ws
+assigns _ = false
+
+-- an expression
+abbrev pub begins_expression : List Word → Bool
+begins_expression (word identifier x t ∷ ws) = true
+begins_expression (word number x t ∷ ws) = true
+begins_expression (word character x t ∷ ws) = true
+begins_expression (word string x t ∷ ws) = true
+begins_expression (word symbol x t ∷ ws) = true
+begins_expression (word binary x t ∷ ws) = is_minus x
+begins_expression (word open_paren x t ∷ ws) = true
+begins_expression (word open_bracket x t ∷ ws) = true
+begins_expression (word open_array x t ∷ ws) = true
+begins_expression _ = false
+
+-- a statement
+abbrev pub begins_statement : List Word → Bool
+begins_statement ws = starts is_caret ws || begins_expression ws
+
+-- the machine behind a statement of this body
+abbrev pub behind_statement : Body → Statement → State
+behind_statement b (statement r e) = have (outer (alone (in_body b r))) e no_message
+
+abbrev pub returns_of : Statement → Bool
+returns_of (statement r e) = r
+
+-- an expression that isn't followed by a cascade, though it has messages
+abbrev pub is_quiet : Expression → List Word → Type 0
+is_quiet e ws = (has_messages e && starts is_semicolon ws) ≡ false
+
+abbrev pub is_quiet_statement : Statement → List Word → Type 0
+is_quiet_statement (statement r e) ws = is_quiet e ws
+
+-- The slot stands in these scopes and so deep.
+abbrev pub Suits : Slot → List Scope → ℕ → Type 0
+Suits k ss d = (scopes_of k ≡ ss) × (depth_of k ≡ d)
+
+-- the body with these temporaries and statements in place of its own
+abbrev pub filled : Body → (temps : List Bytes) → Statements → Body
+filled (top selector ps ts body) temps new = top selector ps temps new
+filled (in_block k names ps ts body) temps new = in_block k names ps temps new
+
+abbrev pub params_of : Body → List Bytes
+params_of (top selector ps ts body) = ps
+params_of (in_block k names ps ts body) = ps
+
+-- the body with these statements in place of its own
+abbrev pub holding : Body → Statements → Body
+holding (top selector ps ts body) new = top selector ps ts new
+holding (in_block k names ps ts body) new = in_block k names ps ts new
+
+-- The machine reads the words to their end, and this is the tree. Where there is none the machine stops at the new words.
+abbrev pub Finished : State → List Word → List Word → Result Program Stop → Type 0
+Finished s old new (Ok program) = run every s old ≡ Ok program
+Finished s old new (Err e) = StopsAt s old new e

@@ -1,0 +1,8 @@
+pub mod Faults
+pub mod Numbers
+pub mod Reader
+pub mod Lexemes
+pub mod Scopes
+pub mod Descent
+pub mod Literals
+pub mod Levels

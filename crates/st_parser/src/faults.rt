@@ -1,0 +1,52 @@
+ghost use Rattle.std.specs.Prelude.{◌≡◌};
+ghost use Rattle.st_parser.specs.declared.faults.ParseFault.TheVariants.{Rule, NoMemory};
+ghost use Rattle.st_parser.specs.Faults.{fault_from};
+
+use st_lexer::LexFault;
+use std::alloc::{AllocError, AllocFailed};
+use thiserror::Error;
+
+/// Why a text has no tree.
+#[derive(Clone, Copy, Debug, PartialEq, Eq, Error)]
+pub enum ParseFault {
+    /// The text breaks a rule. Rules 1 to 3 are those of `LexFault::Bad`. Rule 4: another token is expected; 5: a `]` is missing;
+    /// 6: a `)` is missing; 7: a name twice among the parameters and temporaries of one method or block, or a pseudo-variable declared;
+    /// 8: an assignment to a pseudo-variable or a parameter; 9: blocks, parentheses and literal arrays nested 201 deep.
+    #[error("P{rule} at {at}")]
+    Rule {
+        /// The offset of the first token that can't stand there, or the text's length where the text ends too soon.
+        at: u32,
+        /// 1 to 9.
+        rule: u8,
+    },
+    /// Memory ran out.
+    #[error("out of memory")]
+    NoMemory,
+}
+
+impl From<AllocError> for ParseFault {
+    ghost from_gives = { λ _ fault. fault ≡ NoMemory };
+
+    fn from(_: AllocError) -> ParseFault {
+        ParseFault::NoMemory
+    }
+}
+
+impl<T: Drop> From<AllocFailed<T>> for ParseFault {
+    ghost from_gives = { λ _ fault. fault ≡ NoMemory };
+
+    fn from(_: AllocFailed<T>) -> ParseFault {
+        ParseFault::NoMemory
+    }
+}
+
+impl From<LexFault> for ParseFault {
+    ghost from_gives = { λ lexed fault. fault ≡ fault_from lexed };
+
+    fn from(lexed: LexFault) -> ParseFault {
+        match lexed {
+            LexFault::Bad { at, rule } => ParseFault::Rule { at, rule },
+            LexFault::NoMemory => ParseFault::NoMemory,
+        }
+    }
+}

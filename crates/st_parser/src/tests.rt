@@ -1,0 +1,120 @@
+use crate::{ParseFault, parse_chunk, parse_method};
+use st_tree::Tree;
+use std::test::Fail;
+
+fn fault_of(parsed: Result<Tree, ParseFault>) -> Option<(u32, u8)> {
+    match parsed {
+        Ok(_) => None,
+        Err(ParseFault::Rule { at, rule }) => Some((at, rule)),
+        Err(ParseFault::NoMemory) => Some((0, 0)),
+    }
+}
+
+// Where chunks fail, and by which rule.
+#[test]
+fn faults(rt: HostRuntime) -> Result<(), Fail> {
+    let table: [(&[u8], Option<(u32, u8)>); 34] = [
+        (b"", None),
+        (b"3 + }", Some((4, 1))),
+        (b"3 + 'it", Some((4, 2))),
+        (b"$", Some((0, 2))),
+        (b"1152921504606846976", Some((0, 3))),
+        (b"-1152921504606846975", None),
+        (b"3 + } + ] foo", Some((4, 1))),
+        (b"3 +\n", Some((4, 4))),
+        (b"(3 + [4", Some((7, 5))),
+        (b"[3 + (4", Some((7, 6))),
+        (b"(3 + [4)", Some((7, 5))),
+        (b"3 + 4 max: 9", None),
+        (b"3 +", Some((3, 4))),
+        (b"3 + - 4", Some((6, 4))),
+        (b"3 - -4", None),
+        (b"super := 3", Some((6, 8))),
+        (b"super", Some((5, 4))),
+        (b"super foo; bar: 3 - 4; + 4", None),
+        (b"| a a | a", Some((4, 7))),
+        (b"[:x]", None),
+        (b"[:x | x + 1. ^x. ]", None),
+        (b"[ 3 )", Some((4, 5))),
+        (b"( 3 ]", Some((4, 6))),
+        (b"([3", Some((3, 5))),
+        (b"#(1 -2 - 3 a b:c: d: + | (x nil) #(true) 'a')", None),
+        (b"#(1 ]", Some((4, 6))),
+        (b"[ + ]", Some((2, 5))),
+        (
+            b"a := b := 3 foo: 4 + 5 bar: [:y :z | | t | t := y. t]",
+            None,
+        ),
+        (b"[:x | x := 3]", Some((8, 8))),
+        (b"^3. 4", Some((4, 4))),
+        (b"[^3. 4]", Some((5, 5))),
+        (b"x foo: 3; bar baz", Some((14, 4))),
+        (b"3 ; foo", Some((2, 4))),
+        (b"(a) := 3", Some((4, 4))),
+    ];
+    for (text, wanted) in &table {
+        assert!(rt; text.len() < 10_000);
+        assert_eq!(rt; fault_of(parse_chunk(rt.alloc(), text)), *wanted);
+    }
+    Ok(())
+}
+
+// Brackets may be nested 200 deep, and no deeper.
+#[test]
+fn deep(rt: HostRuntime) -> Result<(), Fail> {
+    let alloc = rt.alloc();
+    let mut text = vec![in alloc; b'('; 200]?;
+    text.push(b'3')?;
+    for _ in 0..200 {
+        text.push(b')')?;
+    }
+    assert!(rt; text.len() < 10_000);
+    assert_eq!(rt; fault_of(parse_chunk(alloc, &text)), None);
+    let text = vec![in alloc; b'('; 201]?;
+    assert!(rt; text.len() < 10_000);
+    assert_eq!(rt; fault_of(parse_chunk(alloc, &text)), Some((200, 9)));
+    Ok(())
+}
+
+// A chunk of 65,536 bytes.
+#[test]
+fn long(rt: HostRuntime) -> Result<(), Fail> {
+    let alloc = rt.alloc();
+    let mut text = b"(#(1) at: [:x | x] )".to_vec(alloc)?;
+    for _ in 0..16_379 {
+        text.extend_from_slice(b" + 1")?;
+    }
+    assert!(rt; text.len() == 65_536);
+    assert_eq!(rt; fault_of(parse_chunk(alloc, &text)), None);
+    Ok(())
+}
+
+// Binary messages are sent before keyword messages.
+#[test]
+fn order_of_messages(rt: HostRuntime) -> Result<(), Fail> {
+    let tree = parse_chunk(rt.alloc(), b"3 + 4 max: 9")?;
+    assert_eq!(rt; tree.body.len(), 1);
+    for statement in &tree.body {
+        assert_eq!(rt; statement.expr.messages.len(), 2);
+        assert!(rt; statement.expr.messages[0].selector.bytes() == b"+".as_slice());
+        assert!(rt; statement.expr.messages[1].selector.bytes() == b"max:".as_slice());
+    }
+    Ok(())
+}
+
+// A method of each form of pattern, and two that fail.
+#[test]
+fn methods(rt: HostRuntime) -> Result<(), Fail> {
+    let table: [(&[u8], Option<(u32, u8)>); 5] = [
+        (b"sum | a | a := 3. ^a", None),
+        (b"+ other ^self foo: other", None),
+        (b"at: i put: x [:y | y foo: i]", None),
+        (b"at: i put: i ^i", Some((11, 7))),
+        (b"at: i put: x [:y | y := i]", Some((21, 8))),
+    ];
+    for (text, wanted) in &table {
+        assert!(rt; text.len() < 10_000);
+        assert_eq!(rt; fault_of(parse_method(rt.alloc(), text)), *wanted);
+    }
+    Ok(())
+}
