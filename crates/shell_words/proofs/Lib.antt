@@ -1,0 +1,7 @@
+mod LineFronts
+mod Bodies
+mod Drafts
+mod WordSizes
+mod Progress
+mod Outcomes
+pub mod OneAnswer

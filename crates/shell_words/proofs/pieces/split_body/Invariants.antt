@@ -1,0 +1,10 @@
+use Rattle.std.proofs.Common.{length, ◌≤◌}
+use Rattle.shell_words.specs.Lines.{lines_of}
+use Rattle.shell_words.proofs.Bodies.{Passed}
+use Rattle.shell_words.proofs.pieces.split_body.Given as goal
+
+abbrev pub invariant-loop-rest : goal.invariant-loop-rest
+invariant-loop-rest l = Passed (lines_of l.text) l.body.items l.lines (lines_of l.rest) × (length l.rest ≤ length l.text)
+
+abbrev pub decreases-loop-rest : goal.decreases-loop-rest
+decreases-loop-rest l = length l.rest

@@ -1,0 +1,256 @@
+//! The reader of scripts, line by line.
+ghost use Rattle.std.specs.Prelude.{◌≡◌, ℕ, ◌+◌, ◌<◌, ◌≤◌, true, List, [], ◌∷◌, ◌++◌, length, is_some, IsSome, None, IfSome, IfOk, IfErr, OnOk, MatchOption, MatchResult};
+ghost use Rattle.std.specs.List.{AllByRecursion, list_all};
+ghost use Rattle.st_tree.specs.Trees.{Bytes};
+ghost use Rattle.shell_words.specs.Lines.{lines_of};
+ghost use Rattle.shell_words.specs.Script.{SessionCommands, HasShortText, most_sessions, command_limit, most_script_bytes, is_logout, takes_commands, with_command};
+ghost use Rattle.shell_words.specs.ScriptGrammar.{Says, Adds, Leads, ReadsScript, HasOtherByte, IsPlain, is_user_name, is_script_byte, command_of};
+ghost use Rattle.shell_words.specs.Reading.{sessions_of, IsDraft, IsReading, FaultAt, FaultIn, IsFault};
+
+use crate::fault::ScriptFault;
+use crate::pieces::{split_body, split_line};
+use crate::script::{CHUNK_LIMIT, Command, SCRIPT_LIMIT, SESSION_LIMIT, Script, SessionScript};
+use crate::table::{Line, Opening, is_user_name, line_of};
+use st_tree::Text;
+use std::alloc::{AllocError, Global};
+
+// A session that takes commands.
+#[derive(Drop)]
+struct Draft {
+    user: Text,
+    commands: Vec<Command>,
+}
+
+// The sessions of the lines read so far: those that have ended, and the one that takes commands.
+#[derive(Drop)]
+struct Reading {
+    lines: u32,
+    ended: Vec<SessionScript>,
+    current: Option<Draft>,
+}
+
+/// Reads a script. The text may have any bytes.
+///
+/// # Errors
+/// `Rule` exactly where the text is no script: the line and the rule that it breaks first. `NoMemory` where memory ran out.
+pub fn read_script(alloc: Global, text: &[u8]) -> Result<Script, ScriptFault>
+    ensures { MatchResult result (λ script. ReadsScript text.now script) (λ fault. IsFault text.now fault) }
+{
+    if text.len() > SCRIPT_LIMIT {
+        return Err(ScriptFault::Rule { line: 0, rule: 7 });
+    }
+    if let Some(line) = other_byte(text) {
+        return Err(ScriptFault::Rule { line, rule: 8 });
+    }
+    read_lines(alloc, text)
+}
+
+// The number of the first line with a byte that no script has.
+fn other_byte(text: &[u8]) -> Option<u32>
+    requires { length text.now ≤ most_script_bytes }
+    ensures { MatchOption result (AllByRecursion IsPlain (lines_of text.now)) (λ line. HasOtherByte (lines_of text.now) line) }
+{
+    let mut number = 0;
+    let mut rest = text;
+    while !rest.is_empty() {
+        let (line, after) = split_line(rest);
+        number += 1;
+        if !is_plain(line) {
+            return Some(number);
+        }
+        rest = after;
+    }
+    None
+}
+
+fn is_plain(line: &[u8]) -> bool
+    ensures { result ≡ list_all is_script_byte line.now }
+{
+    line.iter().all(|byte| is_script_byte(*byte))
+}
+
+fn is_script_byte(byte: u8) -> bool
+    ensures { result ≡ is_script_byte byte }
+{
+    (32..=126).contains(&byte) || byte == b'\t' || byte == b'\n' || byte == b'\r'
+}
+
+fn read_lines(alloc: Global, text: &[u8]) -> Result<Script, ScriptFault>
+    requires { length text.now ≤ most_script_bytes }
+    ensures { MatchResult result (λ script. Leads [] (lines_of text.now) script []) (λ fault. FaultIn (lines_of text.now) fault) }
+{
+    let mut reading = Reading {
+        lines: 0,
+        ended: Vec::new(alloc),
+        current: None,
+    };
+    let mut rest = text;
+    while !rest.is_empty() {
+        let (line, after) = split_line(rest);
+        rest = reading.read_line(alloc, line, after)?;
+    }
+    reading.close()?;
+    Ok(Script::of(reading.ended))
+}
+
+impl Reading {
+    // Reads the line, and where it begins a chunk the chunk. What follows is left.
+    fn read_line<'a>(
+        &mut self,
+        alloc: Global,
+        line: &[u8],
+        after: &'a [u8],
+    ) -> Result<&'a [u8], ScriptFault>
+        requires reading { IsReading self.old }
+        requires size { length line.now ≤ most_script_bytes }
+        requires count { self.old.lines + length (lines_of after.now) < most_script_bytes }
+        ensures ok { IfOk result (λ rest. Adds (sessions_of self.old) (line.now ∷ lines_of after.now) (sessions_of self.new) (lines_of rest.now)) }
+        ensures reading { OnOk result (IsReading self.new) }
+        ensures lines { IfOk result (λ rest. self.new.lines + length (lines_of rest.now) ≡ self.old.lines + 1 + length (lines_of after.now)) }
+        ensures shorter { IfOk result (λ rest. length rest.now ≤ length after.now) }
+        ensures err { IfErr result (λ fault. FaultAt (self.old.lines + 1) (sessions_of self.old) line.now (lines_of after.now) fault) }
+    {
+        let number = self.lines + 1;
+        if line.is_empty() {
+            self.lines = number;
+            return Ok(after);
+        }
+        match line_of(alloc, line)? {
+            None => Err(ScriptFault::Rule {
+                line: number,
+                rule: 1,
+            }),
+            Some(Line::OfSession(user)) => {
+                self.begin(alloc, user)?;
+                Ok(after)
+            }
+            Some(Line::Orders(command)) => {
+                if self.current.is_none() {
+                    return Err(ScriptFault::Rule {
+                        line: number,
+                        rule: 2,
+                    });
+                }
+                self.order(command, 1)?;
+                Ok(after)
+            }
+            Some(Line::Opens(opening)) => self.read_chunk(alloc, opening, after),
+        }
+    }
+
+    // Reads the rest of a chunk whose first line was read. What follows the chunk is left.
+    fn read_chunk<'a>(
+        &mut self,
+        alloc: Global,
+        opening: Opening,
+        after: &'a [u8],
+    ) -> Result<&'a [u8], ScriptFault>
+        requires reading { IsReading self.old }
+        requires name { HasShortText (command_of opening []) }
+        requires count { self.old.lines + length (lines_of after.now) < most_script_bytes }
+        ensures ok { (line : Bytes) → Says line (Line.Opens opening) → IfOk result (λ rest. Adds (sessions_of self.old) (line ∷ lines_of after.now) (sessions_of self.new) (lines_of rest.now)) }
+        ensures reading { OnOk result (IsReading self.new) }
+        ensures lines { IfOk result (λ rest. self.new.lines + length (lines_of rest.now) ≡ self.old.lines + 1 + length (lines_of after.now)) }
+        ensures shorter { IfOk result (λ rest. length rest.now ≤ length after.now) }
+        ensures err { (line : Bytes) → Says line (Line.Opens opening) → IfErr result (λ fault. FaultAt (self.old.lines + 1) (sessions_of self.old) line (lines_of after.now) fault) }
+    {
+        let line = self.lines + 1;
+        if self.current.is_none() {
+            return Err(ScriptFault::Rule { line, rule: 2 });
+        }
+        let Some(body) = split_body(alloc, after)? else {
+            return Err(ScriptFault::Rule { line, rule: 3 });
+        };
+        if body.text.len() > CHUNK_LIMIT {
+            return Err(ScriptFault::Rule { line, rule: 4 });
+        }
+        self.order(command_of(opening, Text::of(body.text)), 1 + body.lines)?;
+        Ok(body.rest)
+    }
+
+    // Gives the open session a command, which takes so many lines.
+    fn order(&mut self, command: Command, lines: u32) -> Result<(), AllocError>
+        requires reading { IsReading self.old }
+        requires current { IsSome self.old.current }
+        requires short { HasShortText command }
+        requires some { 0 < lines }
+        requires count { self.old.lines + lines ≤ most_script_bytes }
+        ensures sessions { OnOk result (sessions_of self.new ≡ with_command (sessions_of self.old) command) }
+        ensures reading { OnOk result (IsReading self.new) }
+        ensures lines { OnOk result (self.new.lines ≡ self.old.lines + lines) }
+    {
+        let Some(mut draft) = self.current.take() else {
+            unreachable!()
+        };
+        let ends = is_logout(&command);
+        draft.commands.push(command)?;
+        self.lines += lines;
+        self.current = Some(draft);
+        if ends {
+            self.close()?;
+        }
+        Ok(())
+    }
+
+    // Begins a session, and ends the one that is open.
+    fn begin(&mut self, alloc: Global, user: Text) -> Result<(), ScriptFault>
+        requires reading { IsReading self.old }
+        requires count { self.old.lines < most_script_bytes }
+        ensures user { OnOk result (is_user_name user ≡ true) }
+        ensures room { OnOk result (length (sessions_of self.old) < most_sessions) }
+        ensures sessions { OnOk result (sessions_of self.new ≡ sessions_of self.old ++ record { user = user; commands = [] } ∷ []) }
+        ensures reading { OnOk result (IsReading self.new) }
+        ensures lines { OnOk result (self.new.lines ≡ self.old.lines + 1) }
+        ensures err { (line : Bytes) (rest : List Bytes) → Says line (Line.OfSession user) → IfErr result (λ fault. FaultAt (self.old.lines + 1) (sessions_of self.old) line rest fault) }
+    {
+        let line = self.lines + 1;
+        if !is_user_name(user.bytes()) {
+            return Err(ScriptFault::Rule { line, rule: 6 });
+        }
+        self.close()?;
+        if self.ended.len() == SESSION_LIMIT {
+            return Err(ScriptFault::Rule { line, rule: 5 });
+        }
+        self.lines = line;
+        self.current = Some(Draft {
+            user,
+            commands: Vec::new(alloc),
+        });
+        Ok(())
+    }
+
+    // Ends the session that is open, if there is one.
+    fn close(&mut self) -> Result<(), AllocError>
+        requires draft { IsDraft self.old.lines self.old.current }
+        requires count { self.old.lines ≤ command_limit }
+        ensures sessions { OnOk result (self.new.ended.items ≡ sessions_of self.old) }
+        ensures current { OnOk result (self.new.current ≡ None) }
+        ensures lines { self.new.lines ≡ self.old.lines }
+    {
+        if let Some(draft) = self.current.take() {
+            self.ended
+                .push(SessionScript::of(draft.user, draft.commands))?;
+        }
+        Ok(())
+    }
+}
+
+fn is_logout(command: &Command) -> bool
+    ensures { result ≡ is_logout command.now }
+{
+    matches!(command, Command::Logout)
+}
+
+// The command of a chunk that begins so and has this text.
+fn command_of(opening: Opening, text: Text) -> Command
+    ensures { result ≡ command_of opening text }
+{
+    match opening {
+        Opening::OfChunk { prints } => Command::Chunk { prints, text },
+        Opening::OfMethod { class_side, class } => Command::Method {
+            class_side,
+            class,
+            text,
+        },
+    }
+}

@@ -1,0 +1,131 @@
+//! Scripts, as they are read.
+ghost use Rattle.std.specs.Prelude.{◌≡◌, ◌<◌, ◌≤◌, length};
+ghost use Rattle.shell_words.specs.Script.{SessionCommands, most_sessions, IsWithinLimits};
+
+use st_tree::Text;
+use std::marker::Model;
+
+/// How many bytes a script has at most.
+pub const SCRIPT_LIMIT: usize = 1_048_576;
+
+/// How many sessions a script has at most.
+pub const SESSION_LIMIT: usize = 16;
+
+/// How many bytes a user name has at most.
+pub const USER_LIMIT: usize = 64;
+
+/// How many bytes the text of a chunk or a method has at most.
+pub const CHUNK_LIMIT: usize = 65_536;
+
+/// A command of a session.
+#[derive(Debug, Drop)]
+pub enum Command {
+    /// Runs the text. Where `prints` is true the reply shows the text of the chunk's value.
+    Chunk {
+        prints: bool,
+        text: Text,
+    },
+    /// Compiles the method whose source is the text into the class that the name refers to, on the class side where
+    /// `class_side` is true.
+    Method {
+        class_side: bool,
+        class: Text,
+        text: Text,
+    },
+    /// Ends the transaction and asks the Stone to keep what it did.
+    Commit,
+    /// Ends the transaction and forgets what it did.
+    Abort,
+    /// Ends the session.
+    Logout,
+    /// Locks the object that the name refers to: for writing where `write` is true, otherwise for reading.
+    Lock {
+        write: bool,
+        name: Text,
+    },
+    /// Gives the lock on the object that the name refers to back.
+    Unlock {
+        name: Text,
+    },
+}
+
+/// What a script asks of one session: a user and the commands in order.
+///
+/// A contract sees it as a `SessionCommands`. There are fewer than 1,048,576 commands, and no user name, chunk or
+/// method has more than 65,536 bytes.
+#[derive(Debug, Drop)]
+pub struct SessionScript {
+    user: Text,
+    commands: Vec<Command>,
+}
+
+impl Model for SessionScript {
+    ghost use Rattle.shell_words.specs.Script.{SessionCommands, IsWithinLimits};
+
+    ghost Value = { SessionCommands };
+
+    ghost view = { λ session. record { user = session.user; commands = session.commands.items } };
+
+    ghost invariant = { λ session.
+        IsWithinLimits (record { user = session.user; commands = session.commands.items }) };
+}
+
+impl SessionScript {
+    /// The session of this user with these commands. It keeps both, so it takes no memory.
+    pub fn of(user: Text, commands: Vec<Command>) -> SessionScript
+        requires { IsWithinLimits (record { user = user; commands = commands.items }) }
+        ensures { result ≡ record { user = user; commands = commands.items } }
+    {
+        SessionScript { user, commands }
+    }
+
+    /// The user who logs in.
+    pub fn user(&self) -> &Text
+        ensures { result.now ≡ self.now.user }
+    {
+        &self.user
+    }
+
+    /// The commands, in order.
+    pub fn commands(&self) -> &[Command]
+        ensures commands { result.now ≡ self.now.commands }
+        ensures limits { IsWithinLimits self.now }
+    {
+        self.commands.as_slice()
+    }
+}
+
+/// A script: at most 16 sessions, which run one after the other. A contract sees the list of them.
+#[derive(Debug, Drop)]
+pub struct Script {
+    sessions: Vec<SessionScript>,
+}
+
+impl Model for Script {
+    ghost use Rattle.std.specs.Prelude.{◌≤◌, List, length};
+    ghost use Rattle.shell_words.specs.Script.{SessionCommands, most_sessions};
+
+    ghost Value = { List SessionCommands };
+
+    ghost view = { λ script. script.sessions.items };
+
+    ghost invariant = { λ script. length script.sessions.items ≤ most_sessions };
+}
+
+impl Script {
+    /// The script of these sessions. It keeps the vector, so it takes no memory.
+    pub fn of(sessions: Vec<SessionScript>) -> Script
+        requires { length sessions.items ≤ most_sessions }
+        ensures { result ≡ sessions.items }
+    {
+        Script { sessions }
+    }
+
+    /// The sessions, in order.
+    pub fn sessions(&self) -> &[SessionScript]
+        ensures sessions { result.now ≡ self.now }
+        ensures limit { length self.now ≤ most_sessions }
+    {
+        self.sessions.as_slice()
+    }
+}
