@@ -2,3 +2,4 @@ pub mod Oid
 pub mod Conflict
 pub mod Image
 pub mod Writes
+pub mod Entry

@@ -3,6 +3,7 @@ ghost use Rattle.std.specs.Prelude.{◌≡◌};
 ghost use Rattle.gem_value.specs.Conflict.{kind_number};
 
 use crate::oid::Oid;
+use crate::sequence::Sequence;
 
 /// What stands against a commit at one object. The order is that of the variants, so of the numbers
 /// from 1 to 8 that a report prints after `C`.
@@ -45,3 +46,6 @@ pub struct Conflict {
     /// that last changed the object.
     pub shown: u64,
 }
+
+/// All that stands against a commit, in order. A contract sees the list.
+pub type Conflicts = Sequence<Conflict>;

@@ -1,17 +1,21 @@
 //! The image: what is shared at one number of commits.
 ghost use Rattle.std.specs.Prelude.{◌≡◌, IfOk};
 ghost use Rattle.std.specs.FinMap as map;
+ghost use Rattle.gem_value.specs.Image.{globals_by_name};
+ghost use Rattle.gem_value.specs.Writes.{with_written};
 
+use crate::record::Writes;
+use st_tree::Text;
 use std::alloc::{AllocError, Global};
 use std::collections::BTreeMap;
 use std::marker::Model;
 use std::sync::Arc;
 
-/// The globals, each a name, as bytes, with an integer. An image never changes: `with_name` makes
-/// another one. A contract sees it as the finite map from the names to the integers.
+/// The globals, each a name, as bytes, with an integer. An image never changes: `with_name` and
+/// `with_writes` make another one. A contract sees it as the finite map from the names to the integers.
 ///
-/// `share` takes no copy of the map. `with_name` takes one, so its time and memory grow with the
-/// number of globals.
+/// `share` takes no copy of the map. `with_name` and `with_writes` take one, so their time and memory
+/// grow with the number of globals.
 #[derive(Debug, Drop)]
 pub struct Image {
     globals: Arc<BTreeMap<Vec<u8>, i64>>,
@@ -65,4 +69,33 @@ impl Image {
             globals: Arc::new(alloc, globals)?,
         })
     }
+
+    /// The image with these globals set, one write after the other, and all else as in this one.
+    ///
+    /// # Errors
+    ///
+    /// `AllocError` where memory ran out.
+    pub fn with_writes(&self, alloc: Global, writes: &Writes) -> Result<Image, AllocError>
+        ensures { IfOk result (λ image. image ≡ with_written writes.now self.now) }
+    {
+        let mut written = BTreeMap::clone(&self.globals)?;
+        set_globals(alloc, &mut written, writes.as_slice())?;
+        Ok(Image {
+            globals: Arc::new(alloc, written)?,
+        })
+    }
+}
+
+/// Sets these globals, one write after the other. Where memory runs out some are set.
+fn set_globals(
+    alloc: Global,
+    globals: &mut BTreeMap<Vec<u8>, i64>,
+    writes: &[(Text, i64)],
+) -> Result<(), AllocError>
+    ensures { IfOk result (λ _. globals_by_name globals.new.entries ≡ with_written writes.now (globals_by_name globals.old.entries)) }
+{
+    for (name, value) in writes {
+        globals.insert(Vec::from_slice(alloc, name.bytes())?, *value)?;
+    }
+    Ok(())
 }

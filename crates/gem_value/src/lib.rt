@@ -1,5 +1,5 @@
 //! The values that sessions and the Stone hand each other: names of objects, conflicts, the image of
-//! the globals, and the record of a transaction.
+//! the globals, the record of a transaction and its entry in the history.
 #![tactic(auto)]
 
 mod conflict;
@@ -7,10 +7,12 @@ mod image;
 pub mod laws;
 mod oid;
 mod record;
+mod sequence;
 #[cfg(test)]
 mod tests;
 
-pub use conflict::{Conflict, ConflictKind};
+pub use conflict::{Conflict, ConflictKind, Conflicts};
 pub use image::Image;
 pub use oid::Oid;
-pub use record::{TxnRecord, Writes};
+pub use record::{Entry, TxnRecord, Writes};
+pub use sequence::Sequence;

@@ -1,6 +1,7 @@
 //! What a session hands to the Stone when it commits.
 ghost use Rattle.std.specs.Prelude.{◌≡◌};
 ghost use Rattle.gem_value.specs.Writes.{IsInNameOrder};
+ghost use Rattle.gem_value.specs.Entry.{entry_of};
 
 use st_tree::Text;
 use std::marker::Model;
@@ -67,4 +68,34 @@ pub struct TxnRecord {
     pub view: u64,
     /// What it wrote.
     pub written: Writes,
+}
+
+impl TxnRecord {
+    /// What the history keeps of this record.
+    pub fn entry(&self) -> Entry
+        ensures { result ≡ entry_of self.now }
+    {
+        Entry {
+            session: self.session,
+            transaction: self.transaction,
+            first_command: self.first_command,
+            last_command: self.last_command,
+            view: self.view,
+        }
+    }
+}
+
+/// An entry of the history: what is kept of a transaction that was committed.
+#[derive(Clone, Copy, Debug, PartialEq, Eq)]
+pub struct Entry {
+    /// The session's number, from 1.
+    pub session: u32,
+    /// The transaction's number within the session, from 1.
+    pub transaction: u32,
+    /// The number of its first command within the session, from 1.
+    pub first_command: u32,
+    /// The number of the commit that ended it.
+    pub last_command: u32,
+    /// The number of commits in the image that it ran on.
+    pub view: u64,
 }

@@ -84,16 +84,53 @@ fn one_write(alloc: Global, name: &[u8], value: i64) -> Result<Vec<(Text, i64)>,
 fn record_of_a_transaction(rt: HostRuntime) -> Result<(), Fail> {
     let record = TxnRecord {
         session: 1,
-        transaction: 1,
-        first_command: 1,
-        last_command: 2,
-        view: 0,
+        transaction: 2,
+        first_command: 3,
+        last_command: 4,
+        view: 5,
         written: Writes::of(one_write(rt.alloc(), b"T", 3)?),
     };
+    assert_eq!(rt;
+        record.entry(),
+        Entry {
+            session: 1,
+            transaction: 2,
+            first_command: 3,
+            last_command: 4,
+            view: 5
+        }
+    );
     assert_eq!(rt; record.written.as_slice().len(), 1);
     for (name, value) in record.written.into_entries() {
         assert!(rt; name.bytes() == b"T".as_slice());
         assert_eq!(rt; value, 3);
     }
+    Ok(())
+}
+
+#[test]
+fn lists(rt: HostRuntime) -> Result<(), Fail> {
+    let conflict = Conflict {
+        oid: Oid::from_parts(0, 5),
+        kind: ConflictKind::WriteWrite,
+        shown: 7,
+    };
+    let conflicts = Conflicts::of(vec![in rt.alloc(); conflict, conflict]?);
+    assert!(rt; conflicts.as_slice() == [conflict, conflict].as_slice());
+    assert_eq!(rt; conflicts.into_items().len(), 2);
+    Ok(())
+}
+
+#[test]
+fn all_writes_of_a_transaction(rt: HostRuntime) -> Result<(), Fail> {
+    let alloc = rt.alloc();
+    let image = Image::empty(alloc)?
+        .with_name(alloc, b"T", 5)?
+        .with_name(alloc, b"Total", -7)?;
+    let written = Writes::of(one_write(alloc, b"T", 3)?);
+    let after = image.with_writes(alloc, &written)?;
+    assert_eq!(rt; after.look_name(b"T"), Some(3));
+    assert_eq!(rt; after.look_name(b"Total"), Some(-7));
+    assert_eq!(rt; image.look_name(b"T"), Some(5));
     Ok(())
 }

@@ -1,0 +1,76 @@
+//! What sessions reply, and the book that a run leaves.
+use gem_value::{Conflicts, Entry, Sequence};
+use st_tree::Text;
+
+/// A reply to a command. Its line in the report stands beside it.
+#[derive(Debug, Drop)]
+pub enum Line {
+    /// `no user at view V`: the image with this number knows no such user, and nobody is logged in.
+    NoUser(u64),
+    /// `not logged in`: the command isn't done, since nobody is logged in.
+    NotLoggedIn,
+    /// `login view V`: the session begins, at the view with this number.
+    Login(u64),
+    /// `no memory`: it could not be done for want of memory.
+    NoMemory,
+    /// `parse PR at A`: the chunk breaks this rule of the grammar, at this place in bytes from 0.
+    Parse { at: u32, rule: u8 },
+    /// `not built`: the chunk uses what this stage doesn't run.
+    NotBuilt,
+    /// `error EK TEXT`: running the chunk ended with an error of this kind.
+    Error { kind: u8, detail: Text },
+    /// `ok`: the chunk ran.
+    Ran,
+    /// The text of the chunk's value.
+    Printed(Text),
+    /// `spoiled`: nothing is committed, since a chunk of the transaction was short of memory.
+    Spoiled,
+    /// `committed unchanged at N view V`: nothing had been written. It counts after commit `at`, and
+    /// the view `view` begins.
+    Unchanged { at: u64, view: u64 },
+    /// `refused K`, and a line for each of the K conflicts.
+    Refused(Conflicts),
+    /// `committed N view V`: it is commit `number`, and the view `view` begins.
+    Committed { number: u64, view: u64 },
+    /// `aborted view V`: the view with this number begins.
+    Aborted(u64),
+    /// `logout`: the session ends.
+    Logout,
+}
+
+/// A reply with the number of its command within the session. Login is 0.
+#[derive(Debug, Drop)]
+pub struct Reply {
+    pub command: u32,
+    pub line: Line,
+}
+
+/// The replies of a session, in order. A contract sees the list.
+pub type Replies = Sequence<Reply>;
+
+/// What one session replied.
+#[derive(Debug, Drop)]
+pub struct Transcript {
+    /// The session's number, from 1.
+    pub session: u32,
+    pub user: Text,
+    pub replies: Replies,
+}
+
+/// The transcripts of a run, in the order of the script. A contract sees the list.
+pub type Transcripts = Sequence<Transcript>;
+
+/// The transactions that a run committed, in order. A contract sees the list of their entries.
+pub type History = Sequence<Entry>;
+
+/// What a run leaves: what its sessions replied, and what was committed.
+#[derive(Debug, Drop)]
+pub struct RunBook {
+    /// The number of commits before the run.
+    pub first: u64,
+    /// The serial of the first session. The sessions have the serials from it on, in the order of the
+    /// script.
+    pub base: u32,
+    pub transcripts: Transcripts,
+    pub history: History,
+}
