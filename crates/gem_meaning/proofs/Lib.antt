@@ -1,2 +1,6 @@
+pub mod Evaluation
+pub mod Running
+pub mod Shapes
+pub mod Stays
 pub mod Steps
-pub mod OneMeaning
+pub mod Written

@@ -1,44 +1,31 @@
--- How the meaning of a tree goes on from message to message.
-use Rattle.std.proofs.Common.{◌≡◌, ℕ, ℤ, ◌+◌, ◌<◌, List, [], ◌∷◌, length, get_or, drop, Ok, Err, IsTrue, refl, add-one, drop-cons, arith}
-use Rattle.st_tree.specs.Trees.{Bytes, Head, Expression, expression, expressions, Send, send, Sends, no_sends, a_send, sends}
-use Rattle.st_tree.specs.Falls.{size_expression, size_sends}
-use Rattle.gem_meaning.specs.declared.evaluator.EvaluationError.{EvaluationError}
-use Rattle.gem_meaning.specs.SmallInteger.{is_small_integer}
-use Rattle.gem_meaning.specs.Meaning.{Outcome, Means, HeadMeans, SendMeans, SendsMean, Answers}
-use Rattle.gem_meaning.specs.Arithmetic.{IsArithmetic, IsArithmeticSend, AllArithmetic}
-
--- after an error no message is sent
-pub errors_stay : (ms : Sends) (e : EvaluationError) → SendsMean (Err e) ms (Err e)
-errors_stay no_sends e = refl
-errors_stay (a_send m ms) e = (Err e, refl, errors_stay ms e)
-
--- a message with its one argument
-pub sent : (x : ℤ) (s : Bytes) (e : Expression) (es : List Expression) (y o : Outcome)
-    → IsArithmeticSend (send s (expressions (e ∷ es))) → Means e y → Answers s x y o → SendMeans (Ok x) (send s (expressions (e ∷ es))) o
-sent x s e [] y o arithmetic argument answer = (y, argument, answer)
-sent x s e (f ∷ fs) y o arithmetic argument answer = absurd arithmetic
-
--- Where an evaluation stands: with the value x, and with messages left whose meaning is that of the whole.
-pub record Stands (whole : Expression) (x : ℤ) (left : Sends) : Type 0 where
-  pub means : (o : Outcome) → SendsMean (Ok x) left o → Means whole o
-  pub arithmetic : AllArithmetic left
-  pub small : IsTrue (is_small_integer x)
-  pub below : size_sends left < size_expression whole
-
-pub at_head : (names : List Bytes) (h : Head) (ms cascade : Sends) (x : ℤ) → IsArithmetic (expression names h ms cascade) → HeadMeans h (Ok x)
-    → IsTrue (is_small_integer x) → Stands (expression names h ms cascade) x ms
-at_head [] h ms no_sends x arithmetic head small = record { means = λ o left. (Ok x, head, left); arithmetic = arithmetic.1; small = small; below = omega arith }
-at_head [] h ms (a_send m more) x arithmetic head small = absurd arithmetic
-at_head (n ∷ ns) h ms cascade x arithmetic head small = absurd arithmetic
-
-pub after_one : {whole : Expression} {x : ℤ} {m : Send} {ms : Sends} (y : ℤ) → Stands whole x (a_send m ms) → SendMeans (Ok x) m (Ok y)
-    → IsTrue (is_small_integer y) → Stands whole y ms
-after_one y here one small = record { means = λ o left. here.means o (Ok y, one, left); arithmetic = here.arithmetic.1; small = small; below = omega (arith, here.below) }
-
-pub at_error : {whole : Expression} {x : ℤ} {m : Send} {ms : Sends} (e : EvaluationError) → Stands whole x (a_send m ms) → SendMeans (Ok x) m (Err e)
-    → Means whole (Err e)
-at_error {ms = ms} e here one = here.means (Err e) (Err e, one, errors_stay ms e)
+-- How a list of messages or statements goes on from one to the next.
+use Rattle.std.proofs.Common.{◌≡◌, ℕ, ◌+◌, ◌<◌, ◌&&◌, true, false, true≢false, Option, Some, None, is_some, List, [], ◌∷◌, length, get_or, drop, refl, ap, add-one, drop-cons, arith}
+use Rattle.st_tree.specs.Trees.{Bytes, Head, expression, Send, Sends, a_send, sends, Statement, a_statement, statements}
+use Rattle.gem_meaning.specs.Form.{is_arithmetic, is_operand, is_operation, are_operations, is_step, are_steps, is_chunk}
 
 -- the messages from one on are this one and those after it
 pub next_message : (ms : List Send) (k : ℕ) (m : Send) → k < length ms → m ≡ get_or ms k m → sends (drop k ms) ≡ a_send m (sends (drop (k + 1) ms))
 next_message ms k m below is = rw (add-one, drop-cons ms k m, ← is) refl
+
+pub next_statement : (ss : List Statement) (k : ℕ) (s : Statement) → k < length ss → s ≡ get_or ss k s → statements (drop k ss) ≡ a_statement s (statements (drop (k + 1) ss))
+next_statement ss k s below is = rw (add-one, drop-cons ss k s, ← is) refl
+
+pub head_fits : (ns : List Bytes) (h : Head) (ms : Sends) (cs : List Send) → length ns ≡ 0 → length cs ≡ 0 → true ≡ is_operand h → is_arithmetic (expression ns h ms (sends cs)) ≡ are_operations ms
+head_fits [] h ms [] assigns cascade operand = rw (← operand) refl
+head_fits [] h ms (c ∷ cs) assigns cascade operand = absurd (omega (arith, cascade))
+head_fits (n ∷ ns) h ms cs assigns cascade operand = absurd (omega (arith, assigns))
+
+pub next_operation : (ms : List Send) (k : ℕ) (m : Send) → k < length ms → m ≡ get_or ms k m → are_operations (sends (drop k ms)) ≡ (is_operation m && are_operations (sends (drop (k + 1) ms)))
+next_operation ms k m below is = ap are_operations (next_message ms k m below is)
+
+pub next_step : (ss : List Statement) (k : ℕ) (s : Statement) → k < length ss → s ≡ get_or ss k s → are_steps (statements (drop k ss)) ≡ (is_step s && are_steps (statements (drop (k + 1) ss)))
+next_step ss k s below is = ap are_steps (next_statement ss k s below is)
+
+-- a chunk with a body is of the form if its statements are
+pub chunk_by_body : (s : Option Bytes) (ps ts : List Bytes) (ss : List Statement) → is_some s ≡ false → length ps ≡ 0 → length ts ≡ 0 → 0 < length ss
+    → is_chunk (record { selector = s; params = ps; temps = ts; body = statements ss }) ≡ are_steps (statements ss)
+chunk_by_body None [] [] [] none params temps some = absurd (omega (arith, some))
+chunk_by_body None [] [] (s ∷ ss) none params temps some = refl
+chunk_by_body None [] (t ∷ ts) ss none params temps some = absurd (omega (arith, temps))
+chunk_by_body None (p ∷ ps) ts ss none params temps some = absurd (omega (arith, params))
+chunk_by_body (Some x) ps ts ss none params temps some = absurd (true≢false none)

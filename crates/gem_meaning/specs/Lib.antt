@@ -1,5 +1,11 @@
 pub mod SmallInteger
 pub mod Operation
+pub mod Form
+pub mod State
 pub mod Meaning
-pub mod Arithmetic
+pub mod Transaction
+pub mod Events
+pub mod Serial
+pub mod Session
+pub mod Legal
 pub use Rattle.st_tree.specs.Trees

@@ -1,5 +1,6 @@
 -- The binary messages that have a meaning, with their selectors and their exact results.
-use Rattle.std.specs.Prelude.{ℤ, ◌+ℤ◌, ◌-ℤ◌, ◌*ℤ◌, codes}
+use Rattle.std.specs.Prelude.{ℤ, ◌+ℤ◌, ◌-ℤ◌, ◌*ℤ◌, codes, Option, Some, None, if◌then◌else◌}
+use Rattle.std.specs.Str.{bytes_eq}
 use Rattle.st_tree.specs.Trees.{Bytes}
 use Rattle.gem_meaning.specs.declared.operation.Operation.{Operation}
 use Rattle.gem_meaning.specs.declared.operation.Operation.TheVariants.{Addition, Subtraction, Multiplication}
@@ -8,6 +9,12 @@ abbrev pub selector_of : Operation → Bytes
 selector_of Addition = codes "+"
 selector_of Subtraction = codes "-"
 selector_of Multiplication = codes "*"
+
+-- the operation with this selector
+abbrev pub operation_with : Bytes → Option Operation
+operation_with selector = if bytes_eq selector (codes "+") then Some Addition
+    else if bytes_eq selector (codes "-") then Some Subtraction
+    else if bytes_eq selector (codes "*") then Some Multiplication else None
 
 -- the result before it is held to the range of the language
 abbrev pub exact_result : Operation → ℤ → ℤ → ℤ

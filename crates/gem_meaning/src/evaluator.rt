@@ -1,89 +1,185 @@
-ghost use Rattle.std.specs.Prelude.{◌≡◌, IsTrue, IfOk, Some, Ok};
+//! What a chunk does when it runs.
+ghost use Rattle.std.specs.Prelude.{◌≡◌, true, Some, Ok, IfOk, OnErr};
 ghost use Rattle.st_tree.specs.Views.{head_of};
-ghost use Rattle.gem_meaning.specs.SmallInteger.{is_small_integer};
+ghost use Rattle.gem_meaning.specs.Form.{is_arithmetic, is_operand, is_operation, is_step, is_chunk};
 ghost use Rattle.gem_meaning.specs.Operation.{exact_result};
-ghost use Rattle.gem_meaning.specs.Meaning.{note_of, Means, SendMeans, HeadMeans, IsRanged};
-ghost use Rattle.gem_meaning.specs.Arithmetic.{IsArithmetic, IsArithmeticSend, IsNumeral};
+ghost use Rattle.gem_meaning.specs.State.{shown};
+ghost use Rattle.gem_meaning.specs.Meaning.{kind_of, detail_of, ranged, global, value_of, head_value, answer, stored, statement_run, run};
 
+use crate::form::{is_small_integer, put_of};
 use crate::operation::Operation;
-use st_tree::{Expr, Literal, Message, Primary};
-use std::error::Error;
-use std::fmt;
+use crate::state::PlainState;
+use st_tree::{Expr, Literal, Message, Primary, Stat, Text, Tree};
+use std::alloc::{AllocError, Global};
 
-/// Why an expression has no value. Its text is the error's letter and number, and what is wrong.
-#[derive(Clone, Copy, Debug, PartialEq, Eq)]
+/// Why a chunk ended with an error. Its text is the error's letter and number, and what is wrong.
+#[derive(Debug, Drop)]
 pub enum EvaluationError {
+    /// A global with this name isn't there.
+    UndefinedVariable(Text),
     /// A result outside the integers from -2^60 to 2^60 - 1.
     IntegerRange,
 }
 
-impl fmt::Display for EvaluationError {
-    ghost output = { λ error. Some (note_of error) };
+impl EvaluationError {
+    /// The number of the error among the errors of evaluation.
+    pub fn kind(&self) -> u8
+        ensures { result ≡ kind_of self.now }
+    {
+        match self {
+            EvaluationError::UndefinedVariable(_) => 2,
+            EvaluationError::IntegerRange => 6,
+        }
+    }
 
-    fn fmt<W: fmt::Write>(&self, f: &mut fmt::Formatter<W>) -> fmt::Result {
-        f.write_str(match self {
-            EvaluationError::IntegerRange => "E6 integer range",
-        })
+    /// What is wrong, in words.
+    pub fn detail(&self, alloc: Global) -> Result<Text, AllocError>
+        ensures { IfOk result (λ text. text ≡ detail_of self.now) }
+    {
+        let mut words = Vec::new(alloc);
+        match self {
+            EvaluationError::UndefinedVariable(name) => {
+                words.extend_from_slice(b"undefined variable: ")?;
+                words.extend_from_slice(name.bytes())?;
+            }
+            EvaluationError::IntegerRange => words.extend_from_slice(b"integer range")?,
+        }
+        Ok(Text::of(words))
     }
 }
 
-impl Error for EvaluationError {}
-
-/// The value of an expression of whole numbers and the messages `+`, `-` and `*`, which are sent from left to right.
-/// `IntegerRange` where a result leaves the integers from -2^60 to 2^60 - 1, also one in between.
-#[cycle(evaluate)]
-pub fn evaluate(expr: &Expr) -> Result<i64, EvaluationError>
-    requires { IsArithmetic expr.now }
-    ensures means { Means expr.now result }
-    ensures small { IfOk result (λ z. IsTrue (is_small_integer z)) }
+/// Runs the statements of a chunk one after the other, up to the first error. What the statements before an error
+/// set stays set. The value is that of the last statement. Without memory some of the statements may have run.
+pub fn plain_run(
+    alloc: Global,
+    state: &mut PlainState,
+    tree: &Tree,
+) -> Result<Result<i64, EvaluationError>, AllocError>
+    requires { is_chunk tree.now ≡ true }
+    ensures ok { IfOk result (λ outcome. (Some outcome, state.new) ≡ run state.old tree.now.body) }
+    ensures err { OnErr result (state.new.base ≡ state.old.base) }
 {
-    let mut value = numeral(&expr.head);
+    let Some((first, rest)) = tree.body.split_first() else {
+        unreachable!()
+    };
+    let mut value = match run_statement(alloc, state, first)? {
+        Ok(value) => value,
+        Err(error) => return Ok(Err(error)),
+    };
+    for statement in rest {
+        value = match run_statement(alloc, state, statement)? {
+            Ok(value) => value,
+            Err(error) => return Ok(Err(error)),
+        };
+    }
+    Ok(Ok(value))
+}
+
+fn run_statement(
+    alloc: Global,
+    state: &mut PlainState,
+    statement: &Stat,
+) -> Result<Result<i64, EvaluationError>, AllocError>
+    requires { is_step statement.now ≡ true }
+    ensures ok { IfOk result (λ outcome. (Some outcome, state.new) ≡ statement_run state.old statement.now) }
+    ensures err { OnErr result (state.new.base ≡ state.old.base) }
+{
+    match put_of(&statement.expr) {
+        Some((name, expr)) => put(alloc, state, name, expr),
+        None => evaluate(state, &statement.expr),
+    }
+}
+
+// Sets a global to the value of an expression, where it has one.
+fn put(
+    alloc: Global,
+    state: &mut PlainState,
+    name: &Text,
+    expr: &Expr,
+) -> Result<Result<i64, EvaluationError>, AllocError>
+    requires { is_arithmetic expr.now ≡ true }
+    ensures ok { IfOk result (λ outcome. (Some outcome, state.new) ≡ stored state.old name.now (value_of state.old expr.now)) }
+    ensures err { OnErr result (state.new.base ≡ state.old.base) }
+{
+    match evaluate(state, expr)? {
+        Ok(value) => {
+            state.set(alloc, name.bytes(), value)?;
+            Ok(Ok(value))
+        }
+        Err(error) => Ok(Err(error)),
+    }
+}
+
+/// The value of an expression of whole numbers, names of globals, `+`, `-`, `*` and parentheses, whose messages are
+/// sent from left to right. It evaluates no message after an error.
+#[cycle(evaluate)]
+pub fn evaluate(state: &PlainState, expr: &Expr) -> Result<Result<i64, EvaluationError>, AllocError>
+    requires { is_arithmetic expr.now ≡ true }
+    ensures { IfOk result (λ outcome. Some outcome ≡ value_of state.now expr.now) }
+{
+    let mut value = match operand(state, &expr.head)? {
+        Ok(value) => value,
+        Err(error) => return Ok(Err(error)),
+    };
     for message in &expr.messages {
-        value = send(value, message)?;
+        value = match send(state, value, message)? {
+            Ok(value) => value,
+            Err(error) => return Ok(Err(error)),
+        };
     }
-    Ok(value)
+    Ok(Ok(value))
 }
 
-// The answer to a message.
+// What the first message of an expression is sent to.
 #[cycle(evaluate)]
-fn send(receiver: i64, message: &Message) -> Result<i64, EvaluationError>
-    requires arithmetic { IsArithmeticSend message.now }
-    requires small { IsTrue (is_small_integer receiver) }
-    ensures means { SendMeans (Ok receiver) message.now result }
-    ensures small { IfOk result (λ z. IsTrue (is_small_integer z)) }
-{
-    let Some(operation) = Operation::of(message.selector.bytes()) else {
-        unreachable!()
-    };
-    let Some((argument, _)) = message.args.split_first() else {
-        unreachable!()
-    };
-    compute(operation, receiver, evaluate(argument)?)
-}
-
-fn numeral(head: &Primary) -> i64
-    requires { IsNumeral (head_of head.now) }
-    ensures means { HeadMeans (head_of head.now) (Ok result) }
-    ensures small { IsTrue (is_small_integer result) }
+fn operand(state: &PlainState, head: &Primary) -> Result<Result<i64, EvaluationError>, AllocError>
+    requires { is_operand (head_of head.now) ≡ true }
+    ensures { IfOk result (λ outcome. Some outcome ≡ head_value state.now (head_of head.now)) }
 {
     match head {
-        Primary::Lit(Literal::Int(value)) => *value,
+        Primary::Lit(Literal::Int(value)) => Ok(Ok(*value)),
+        Primary::Name(name) => look_up(state, name),
+        Primary::Paren(expr) => evaluate(state, expr),
         _ => unreachable!(),
     }
 }
 
-fn compute(operation: Operation, receiver: i64, argument: i64) -> Result<i64, EvaluationError>
-    ensures means { IsRanged (exact_result operation receiver argument) result }
-    ensures small { IfOk result (λ z. IsTrue (is_small_integer z)) }
+// The answer to a message.
+#[cycle(evaluate)]
+fn send(
+    state: &PlainState,
+    receiver: i64,
+    message: &Message,
+) -> Result<Result<i64, EvaluationError>, AllocError>
+    requires { is_operation message.now ≡ true }
+    ensures { IfOk result (λ outcome. Some outcome ≡ answer state.now (Some (Ok receiver)) message.now) }
 {
-    match operation.exact(receiver, argument) {
-        Some(z) if is_small_integer(z) => Ok(z),
-        _ => Err(EvaluationError::IntegerRange),
+    let Some(operation) = Operation::of(message.selector.bytes()) else {
+        unreachable!()
+    };
+    let [argument] = message.args.as_slice() else {
+        unreachable!()
+    };
+    match evaluate(state, argument)? {
+        Ok(argument) => Ok(compute(operation, receiver, argument)),
+        Err(error) => Ok(Err(error)),
     }
 }
 
-fn is_small_integer(z: i64) -> bool
-    ensures { result ≡ is_small_integer z }
+fn look_up(state: &PlainState, name: &Text) -> Result<Result<i64, EvaluationError>, AllocError>
+    ensures { IfOk result (λ outcome. outcome ≡ global name.now (shown state.now name.now)) }
 {
-    -(1 << 60) <= z && z < 1 << 60
+    Ok(match state.look(name.bytes()) {
+        Some(value) => Ok(value),
+        None => Err(EvaluationError::UndefinedVariable(name.clone()?)),
+    })
+}
+
+fn compute(operation: Operation, receiver: i64, argument: i64) -> Result<i64, EvaluationError>
+    ensures { result ≡ ranged (exact_result operation receiver argument) }
+{
+    match operation.exact(receiver, argument) {
+        Some(value) if is_small_integer(value) => Ok(value),
+        _ => Err(EvaluationError::IntegerRange),
+    }
 }

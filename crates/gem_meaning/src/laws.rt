@@ -1,9 +1,32 @@
-//! What holds of the meaning of every expression.
-ghost use Rattle.std.specs.Prelude.{◌≡◌};
-ghost use Rattle.st_tree.specs.Trees.{Expression};
-ghost use Rattle.gem_meaning.specs.Meaning.{Outcome, Means};
+//! What follows from the meaning of chunks alone. Each law is the contract of a function that does nothing.
+ghost use Rattle.std.specs.Prelude.{◌≡◌, ◌≢◌, ℤ, Bool, Some, Ok, Err};
+ghost use Rattle.st_tree.specs.Trees.{Bytes, Expression, statement, Statements, append_statements};
+ghost use Rattle.gem_meaning.specs.declared.evaluator.EvaluationError.{EvaluationError};
+ghost use Rattle.gem_meaning.specs.Form.{put_of};
+ghost use Rattle.gem_meaning.specs.State.{State, shown, set};
+ghost use Rattle.gem_meaning.specs.Meaning.{value_of, statement_run, run};
 
-/// An expression has at most one meaning.
-pub fn one_meaning()
-    ensures { (e : Expression) (a b : Outcome) → Means e a → Means e b → a ≡ b }
+/// A run never changes the globals of the view.
+pub fn view_stays()
+    ensures { (s : State) (ss : Statements) → (run s ss).1.base ≡ s.base }
+{}
+
+/// After an error no statement is run: whatever follows, the outcome is the error, and what was written is what
+/// the statements up to it wrote.
+pub fn error_ends()
+    ensures { (s : State) (ss ts : Statements) (e : EvaluationError) → (run s ss).0 ≡ Some (Err e) →
+        run s (append_statements ss ts) ≡ run s ss }
+{}
+
+/// A put leaves the global set to the value that its expression had in the state before.
+pub fn put_sets()
+    ensures { (s : State) (returns : Bool) (e : Expression) (n : Bytes) (value : Expression) (z : ℤ) →
+        put_of e ≡ Some (n, value) → value_of s value ≡ Some (Ok z) → (statement_run s (statement returns e)).1 ≡ set n z s }
+{}
+
+/// A global that is set is shown with its new value to all that follows, whatever the view has, and other
+/// globals are shown as before.
+pub fn set_is_shown()
+    ensures same_name { (s : State) (n : Bytes) (z : ℤ) → shown (set n z s) n ≡ Some z }
+    ensures other_name { (s : State) (n other : Bytes) (z : ℤ) → other ≢ n → shown (set n z s) other ≡ shown s other }
 {}

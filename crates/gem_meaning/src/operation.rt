@@ -1,7 +1,6 @@
-ghost use Rattle.std.specs.Prelude.{◌≡◌, MatchOption, SomeIff, FitsSigned};
+ghost use Rattle.std.specs.Prelude.{◌≡◌, SomeIff, FitsSigned};
 ghost use Rattle.std.specs.Int.{w64};
-ghost use Rattle.gem_meaning.specs.declared.operation.Operation.{Operation};
-ghost use Rattle.gem_meaning.specs.Operation.{selector_of, exact_result};
+ghost use Rattle.gem_meaning.specs.Operation.{selector_of, operation_with, exact_result};
 
 /// A binary message between whole numbers.
 #[derive(Clone, Copy, Debug, PartialEq, Eq)]
@@ -17,8 +16,7 @@ pub enum Operation {
 impl Operation {
     /// The operation with this selector, if there is one.
     pub fn of(selector: &[u8]) -> Option<Operation>
-        ensures { MatchOption result ((operation : Operation) → selector.now ≡ selector_of operation → ⊥)
-            (λ operation. selector.now ≡ selector_of operation) }
+        ensures { result ≡ operation_with selector.now }
     {
         match selector {
             [b'+'] => Some(Operation::Addition),

@@ -34,7 +34,7 @@ consumes_kept (Some xs) None c x p q = absurd p
 consumes_kept (Some xs) (Some ys) None x p q = absurd q
 consumes_kept (Some xs) (Some ys) (Some zs) x p q = rw (p, q) refl
 
-consumes_none : (a : Option Bytes) → Consumes a a []
+pub consumes_none : (a : Option Bytes) → Consumes a a []
 consumes_none None = tt
 consumes_none (Some xs) = refl
 

@@ -1,10 +1,5 @@
-pub mod Numbers
-pub mod Pieces
-pub mod Messages
-pub mod Lines
-pub mod Bodies
-pub mod Chunks
-pub mod Replies
 pub mod Devices
-pub mod Trees
-pub mod OneReport
+pub mod Empty
+pub mod Sessions
+pub mod ScriptRules
+pub mod Completes

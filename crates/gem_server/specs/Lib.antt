@@ -1,9 +1,3 @@
-pub mod Lines
-pub mod Tokens
-pub mod Expressions
-pub mod Scripts
-pub mod Report
 pub mod Server
 pub use Rattle.gem_io.specs.Faults
 pub use Rattle.gem_io.specs.Io
-pub use Rattle.gem_meaning.specs.Meaning

@@ -1,46 +1,54 @@
 -- What the end of a call of the server says.
-use Rattle.std.specs.Prelude.{◌≡◌, ◌⊎◌, ℕ, codes, List, [], ◌∷◌, take, Option}
-use Rattle.std.specs.Io.KnownBytes.{Appends, Consumes, IsAtEnd}
-use Rattle.st_tree.specs.Trees.{Bytes, Expression}
+use Rattle.std.specs.Prelude.{◌≡◌, ◌<◌, ◌⊎◌, codes, List, [], ◌∷◌, length, Option}
+use Rattle.std.specs.FinMap as map
+use Rattle.std.specs.Io.KnownBytes.{Consumes, IsAtEnd}
+use Rattle.st_tree.specs.Trees.{Bytes}
+use Rattle.shell_words.specs.Script.{SessionCommands, most_script_bytes}
+use Rattle.shell_words.specs.ScriptGrammar.{ReadsScript}
+use Rattle.gem_replies.specs.declared.reply.RunBook.{RunBook}
+use Rattle.gem_meaning.specs.Events.{Opened, Event}
+use Rattle.gem_meaning.specs.Legal.{IsLegal}
 use Rattle.gem_server.specs.declared.status.Status.{Status}
 use Rattle.gem_server.specs.declared.status.Status.TheVariants.{Done, Script, WriteFault}
-use Rattle.gem_server.specs.Scripts.{Reads}
-use Rattle.gem_server.specs.Report.{Reports}
 
 -- the words of the command line are the one word serve
 abbrev pub IsServe : List Bytes → Type 0
 IsServe words = words ≡ codes "serve" ∷ []
 
--- the text is no script
-abbrev pub IsOfNoForm : Bytes → Type 0
-IsOfNoForm text = (script : Option (List Expression)) → Reads text script → ⊥
-
--- The status says that the script was read to its end, and whether it is of the form.
+-- The status says that the text was read to its end, or past the limit of a script.
 abbrev pub WasRead : Status → Type 0
 WasRead Done = Unit {0}
 WasRead WriteFault = Unit {0}
-WasRead (Script line rule) = rule ≡ 9
+WasRead (Script line rule) = Unit {0}
 WasRead _ = ⊥
 
--- the faults of a script that are told: that it is too long, and that it isn't of the form
-abbrev pub IsScriptFault : ℕ → ℕ → Type 0
-IsScriptFault line rule = (line ≡ 0) × ((rule ≡ 7) ⊎ (rule ≡ 9))
+-- The status says that the script's sessions ran.
+abbrev pub HasRun : Status → Type 0
+HasRun Done = Unit {0}
+HasRun WriteFault = Unit {0}
+HasRun _ = ⊥
 
--- The source gave a script to its end, and the sink took its report.
-pub record WritesReport (left left' written written' : Option Bytes) : Type 0 where
+-- The text that the source gave is all that it has, or it is longer than a script may be.
+abbrev pub IsWhole : Option Bytes → Bytes → Type 0
+IsWhole left text = IsAtEnd left ⊎ (most_script_bytes < length text)
+
+-- what the Stone is opened with: the image without globals, and no commit
+abbrev pub opened : List SessionCommands → Opened
+opened script = record { image = map.empty; number = 0; script = script }
+
+-- The source gave a script to its end, and the events and the book are those of a legal run of it.
+pub record IsRun (left left' : Option Bytes) (events : List Event) (book : RunBook) : Type 0 where
   pub text : Bytes
-  pub report : Bytes
+  pub script : List SessionCommands
   pub given : Consumes left left' text
   pub ended : IsAtEnd left'
-  pub reports : Reports text report
-  pub taken : Appends written written' report
+  pub reads : ReadsScript text script
+  pub legal : IsLegal (opened script) events book
 
--- The source gave a script to its end, and the sink took a part of its report from the front.
-pub record WritesPart (left left' written written' : Option Bytes) : Type 0 where
-  pub text : Bytes
-  pub report : Bytes
-  pub count : ℕ
-  pub given : Consumes left left' text
-  pub ended : IsAtEnd left'
-  pub reports : Reports text report
-  pub taken : Appends written written' (take count report)
+-- nothing has run
+pub record IsBlank (events : List Event) (book : RunBook) : Type 0 where
+  pub no_events : events ≡ []
+  pub first : book.first ≡ 0
+  pub base : book.base ≡ 0
+  pub no_transcripts : book.transcripts ≡ []
+  pub no_history : book.history ≡ []

@@ -2,16 +2,12 @@
 #![tactic(auto)]
 
 mod intake;
-pub mod laws;
-mod lexer;
 mod output;
-mod parser;
-mod report;
-mod script;
+mod run;
 mod server;
 mod status;
 #[cfg(test)]
 mod tests;
 
 pub use server::gemstone;
-pub use status::{Ended, Status};
+pub use status::{Ended, Events, Status};

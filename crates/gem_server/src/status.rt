@@ -1,3 +1,11 @@
+ghost use Rattle.gem_server.specs.Server.{IsBlank};
+ghost use Rattle.std.specs.Prelude.{◌≡◌};
+
+use gem_meaning::What;
+use gem_replies::RunBook;
+use gem_value::Sequence;
+use std::alloc::Global;
+
 /// How a call of the server ended.
 #[derive(Clone, Copy, Debug, PartialEq, Eq)]
 pub enum Status {
@@ -6,7 +14,7 @@ pub enum Status {
     /// The words are none that the program knows.
     Usage,
     /// The script breaks a rule of its form, first at this line. Line 0 is the script as a whole. The rule is printed with an
-    /// `S` before it: 7 for a script that is too long, 9 for one that isn't of the form.
+    /// `S` before it.
     Script { line: u32, rule: u8 },
     /// The source failed.
     ReadFault,
@@ -16,9 +24,35 @@ pub enum Status {
     NoMemory,
 }
 
+/// The events of a run, each with the number of the session that made it. A contract sees the list.
+pub type Events = Sequence<(u32, What)>;
+
 /// What a call of the server leaves.
-#[derive(Clone, Copy, Debug, PartialEq, Eq)]
+#[derive(Debug, Drop)]
 pub struct Ended {
     /// Whether the report was written, or else what kept it from being so.
     pub status: Status,
+    /// What the sessions replied, and what was committed. Where nothing ran it is blank.
+    pub book: RunBook,
+    /// What happened to the Stone, in order.
+    pub events: Events,
+}
+
+impl Ended {
+    // An end before anything ran.
+    pub(crate) fn unrun(alloc: Global, status: Status) -> Ended
+        ensures status { result.status ≡ status }
+        ensures blank { IsBlank result.events result.book }
+    {
+        Ended {
+            status,
+            book: RunBook {
+                first: 0,
+                base: 0,
+                transcripts: Sequence::of(Vec::new(alloc)),
+                history: Sequence::of(Vec::new(alloc)),
+            },
+            events: Sequence::of(Vec::new(alloc)),
+        }
+    }
 }

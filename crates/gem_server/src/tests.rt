@@ -2,6 +2,7 @@ ghost use Rattle.std.specs.Prelude.{None};
 
 use super::*;
 use gem_io::{Failed, MemSink, MemSource, Sink};
+use gem_meaning::What;
 use std::alloc::{AllocError, Global};
 use std::test::Fail;
 
@@ -15,17 +16,17 @@ fn words(alloc: Global, line: &str) -> Result<Vec<String>, AllocError> {
 }
 
 // How a script ends, and what is written.
-fn served(alloc: Global, script: &[u8]) -> Result<(Status, MemSink), AllocError> {
+fn served(alloc: Global, script: &[u8]) -> Result<(Ended, MemSink), AllocError> {
     let mut source = MemSource::new(script.to_vec(alloc)?, Vec::new(alloc));
     let mut sink = MemSink::new(Vec::new(alloc));
     let ended = gemstone(alloc, &words(alloc, "serve")?, &mut source, &mut sink);
-    Ok((ended.status, sink))
+    Ok((ended, sink))
 }
 
 #[test]
 fn not_always_no_memory(rt: HostRuntime) -> Result<(), Fail> {
-    let (status, sink) = served(rt.alloc(), b"session DataCurator\nprintit\n3\n%\n")?;
-    assert_eq!(rt; status, Status::Done);
+    let (ended, sink) = served(rt.alloc(), b"session DataCurator\nprintit\n3\n%\n")?;
+    assert_eq!(rt; ended.status, Status::Done);
     assert!(rt; !sink.written().is_empty());
     Ok(())
 }
@@ -39,90 +40,74 @@ fn scripts_and_their_reports(rt: HostRuntime) -> Result<(), Fail> {
         ),
         ("", "commits 0\n"),
         (
-            "session DataCurator",
-            "session 1 DataCurator\n[0] login view 0\n[1] logout\ncommits 0\n",
+            "session DataCurator\nrun\nGlobals at: #T put: 2 + 3\n%\ncommit\nsession DataCurator\nprintit\nT * T\n%\ncommit\n",
+            "session 1 DataCurator\n[0] login view 0\n[1] ok\n[2] committed 1 view 1\n[3] logout\nsession 2 DataCurator\n[0] login view 1\n[1] 25\n[2] committed unchanged at 1 view 1\n[3] logout\ncommits 1\n1 session 1 transaction 1 view 0\n",
         ),
         (
-            "session DataCurator\nprintit\n1152921504606846975 + 1\n%\nprintit\n0 - 1152921504606846975 - 1\n%",
-            "session 1 DataCurator\n[0] login view 0\n[1] error E6 integer range\n[2] -1152921504606846976\n[3] logout\ncommits 0\n",
+            "session DataCurator\nrun\nGlobals at: #T put: 3. 1152921504606846975 + 1\n%\ncommit\nprintit\nT\n%\n",
+            "session 1 DataCurator\n[0] login view 0\n[1] error E6 integer range\n[2] committed 1 view 1\n[3] 3\n[4] logout\ncommits 1\n1 session 1 transaction 1 view 0\n",
         ),
         (
-            "session DataCurator\nprintit\n1152921504606846975 * 2 - 1152921504606846975\n%\nprintit\n3-4\n%\n",
-            "session 1 DataCurator\n[0] login view 0\n[1] error E6 integer range\n[2] -1\n[3] logout\ncommits 0\n",
+            "session Nobody\ncommit\n",
+            "session 1 Nobody\n[0] no user at view 0\n[1] not logged in\n[2] not logged in\ncommits 0\n",
         ),
         (
-            "session DataCurator\nprintit\n\n007\n *\n 6\n\n%\n",
-            "session 1 DataCurator\n[0] login view 0\n[1] 42\n[2] logout\ncommits 0\n",
+            "session DataCurator\nprintit\n3 +\n%\nprintit\n3 + 4 max: 9\n%\nlock read T\nlogout\n",
+            "session 1 DataCurator\n[0] login view 0\n[1] parse P4 at 4\n[2] not built\n[3] not built\n[4] logout\ncommits 0\n",
+        ),
+        (
+            "session DataCurator\nrun\nGlobals at: #T put: 1\n%\nabort\nprintit\nT\n%\nrun\nGlobals at: #T put: 1. Globals at: #T put: T + 1\n%\ncommit\nprintit\n(T + 1) * (T - 4)\n%",
+            "session 1 DataCurator\n[0] login view 0\n[1] ok\n[2] aborted view 0\n[3] error E2 undefined variable: T\n[4] ok\n[5] committed 1 view 1\n[6] -6\n[7] logout\ncommits 1\n1 session 1 transaction 2 view 0\n",
         ),
     ];
     for (script, report) in cases {
-        let (status, sink) = served(rt.alloc(), script.as_bytes())?;
-        assert_eq!(rt; status, Status::Done, "{script}");
+        let (ended, sink) = served(rt.alloc(), script.as_bytes())?;
+        assert_eq!(rt; ended.status, Status::Done, "{script}");
         assert_eq!(rt; sink.written(), report.as_bytes(), "{script}");
     }
     Ok(())
 }
 
 #[test]
+fn book_and_events(rt: HostRuntime) -> Result<(), Fail> {
+    let (ended, _) = served(
+        rt.alloc(),
+        b"session DataCurator\nrun\nGlobals at: #T put: 2\n%\ncommit\n",
+    )?;
+    assert_eq!(rt; ended.book.first, 0);
+    assert_eq!(rt; ended.book.base, 1);
+    assert_eq!(rt; ended.book.transcripts.as_slice().len(), 1);
+    let entry = ended.book.history.as_slice()[0];
+    assert_eq!(rt; (entry.session, entry.transaction, entry.view), (1, 1, 0));
+    assert_eq!(rt; (entry.first_command, entry.last_command), (1, 2));
+    assert!(rt; ended.events.as_slice() == [(1, What::Placed(entry))].as_slice());
+    Ok(())
+}
+
+#[test]
 fn texts_that_are_no_script(rt: HostRuntime) -> Result<(), Fail> {
     let cases = [
-        "\n",
-        "session Nobody\n",
-        "session DataCurator \n",
-        "session DataCurator\n\n",
-        "session DataCurator\r\n",
-        "session DataCurator\nprintit\n3",
-        "session DataCurator\nprintit\n%\n",
-        "session DataCurator\nprintit\n\n%\n",
-        "session DataCurator\nprintit\n3 +\n%\n",
-        "session DataCurator\nprintit\n3 4\n%\n",
-        "session DataCurator\nprintit\n+ 3\n%\n",
-        "session DataCurator\nprintit\n-3\n%\n",
-        "session DataCurator\nprintit\n3 + 4a\n%\n",
-        "session DataCurator\nprintit\n3\t+ 4\n%\n",
-        "session DataCurator\nprintit\n1152921504606846976\n%\n",
-        "session DataCurator\nprintit\n(3)\n%\n",
-        "session DataCurator\nprintit\n3\n%\ncommit\n",
+        ("session DataCurator\nrun\n3\n", 2, 3),
+        ("checkpoint\n", 1, 1),
+        ("commit\n", 1, 2),
+        ("\nsession 2nd\n", 2, 6),
+        ("session DataCurator\nrun\n\u{7f}\n%\n", 3, 8),
     ];
-    for script in cases {
-        let (status, sink) = served(rt.alloc(), script.as_bytes())?;
-        assert_eq!(rt; status, Status::Script { line: 0, rule: 9 }, "{script}");
+    for (script, line, rule) in cases {
+        let (ended, sink) = served(rt.alloc(), script.as_bytes())?;
+        assert_eq!(rt; ended.status, Status::Script { line, rule }, "{script}");
         assert_eq!(rt; sink.written(), b"".as_slice(), "{script}");
     }
     Ok(())
 }
 
-// A script of one chunk whose text has so many bytes.
-fn long_chunk(alloc: Global, bytes: usize) -> Result<Vec<u8>, AllocError> {
-    let mut script = b"session DataCurator\nprintit\n7".to_vec(alloc)?;
-    for _ in 2..bytes {
-        script.push(b' ')?;
-    }
-    script.extend_from_slice(b"\n%\n")?;
-    Ok(script)
-}
-
 #[test]
-fn the_longest_texts(rt: HostRuntime) -> Result<(), Fail> {
+fn longest_scripts(rt: HostRuntime) -> Result<(), Fail> {
     let alloc = rt.alloc();
-    let cases = [
-        (long_chunk(alloc, 65_536)?, Status::Done),
-        (
-            long_chunk(alloc, 65_537)?,
-            Status::Script { line: 0, rule: 9 },
-        ),
-        (
-            vec![in alloc; b'7'; 1_048_576]?,
-            Status::Script { line: 0, rule: 9 },
-        ),
-        (
-            vec![in alloc; b'7'; 1_048_577]?,
-            Status::Script { line: 0, rule: 7 },
-        ),
-    ];
-    for (script, status) in cases {
-        assert_eq!(rt; served(alloc, &script)?.0, status, "{}", script.len());
-    }
+    let (ended, _) = served(alloc, &vec![in alloc; b'\n'; 1_048_576]?)?;
+    assert_eq!(rt; ended.status, Status::Done);
+    let (ended, _) = served(alloc, &vec![in alloc; b'\n'; 1_048_577]?)?;
+    assert_eq!(rt; ended.status, Status::Script { line: 0, rule: 7 });
     Ok(())
 }
 

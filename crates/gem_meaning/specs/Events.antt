@@ -1,0 +1,91 @@
+-- What the Stone was opened with, the events that changed it since, and what stands after them.
+use Rattle.std.specs.Prelude.{◌≡◌, ℕ, ◌+◌, ◌-◌, ◌==◌, List, [], ◌∷◌, ◌++◌, take, drop, Option, Some, None, nat_lt, if◌then◌else◌, get_or}
+use Rattle.std.specs.List.{fold, filter, filter_map, slice_get}
+use Rattle.gem_value.specs.Image.{Image}
+use Rattle.gem_value.specs.declared.record.Entry.{Entry}
+use Rattle.gem_value.specs.declared.conflict.Conflict.{Conflict}
+use Rattle.gem_value.specs.declared.conflict.ConflictKind.TheVariants.{WriteWrite}
+use Rattle.gem_value.specs.Oid.{oid_number}
+use Rattle.gem_value.specs.Writes.{with_written}
+use Rattle.shell_words.specs.Script.{SessionCommands}
+use Rattle.shell_words.specs.declared.script.Command.{Command}
+use Rattle.gem_meaning.specs.declared.event.What.{What}
+use Rattle.gem_meaning.specs.declared.event.What.TheVariants.{Placed}
+use Rattle.gem_meaning.specs.Transaction.{Run, transaction, written_of}
+
+-- What the Stone was opened with: an image, the number of commits in it, and the script that is served.
+pub record Opened : Type 0 where
+  pub image : Image
+  pub number : ℕ
+  pub script : List SessionCommands
+
+-- an event: the number of the session that made it, and what it was
+abbrev pub Event : Type 0
+Event = ℕ × What
+
+-- What stands after some events.
+pub record Standing : Type 0 where
+  -- the image
+  pub image : Image
+  -- the images before each commit, the last one first
+  pub earlier : List Image
+  -- the number of commits in the image
+  pub number : ℕ
+
+abbrev pub commands_or_none : Option SessionCommands → List Command
+commands_or_none (Some session) = session.commands
+commands_or_none None = []
+
+-- the commands of the session with this number, which counts from 1
+abbrev pub commands_of : List SessionCommands → ℕ → List Command
+commands_of script session = commands_or_none (slice_get script (session - 1))
+
+-- the commands of a transaction: from its first to its last one, whose numbers count from 1
+abbrev pub entry_commands : List SessionCommands → Entry → List Command
+entry_commands script e = drop (e.first_command - 1) (take e.last_command (commands_of script e.session))
+
+-- the image with so many commits, up to the number that stands
+abbrev pub image_at : Standing → ℕ → Image
+image_at s number = get_or (s.image ∷ s.earlier) (s.number - number) s.image
+
+-- a transaction run at its place, which is where all that stands is there
+unfoldable pub entry_run : Opened → Standing → Entry → Run
+entry_run o s e = transaction (entry_commands o.script e) s.image (image_at s e.view)
+
+-- A commit sets what its transaction, run at this place, writes.
+abbrev pub after_event : Opened → Standing → Event → Standing
+after_event o s (session, Placed e) = record {
+  image = with_written (written_of (entry_run o s e)) s.image;
+  earlier = s.image ∷ s.earlier;
+  number = s.number + 1;
+}
+
+abbrev pub before_events : Opened → Standing
+before_events o = record { image = o.image; earlier = []; number = o.number }
+
+-- what stands after these events, in their order
+unfoldable pub after_events : Opened → List Event → Standing
+after_events o events = fold (after_event o) (before_events o) events
+
+abbrev pub placed_entry : Event → Option Entry
+placed_entry (session, Placed e) = Some e
+
+-- the history: the entries of the commits, in order
+abbrev pub entries_of : List Event → List Entry
+entries_of events = filter_map placed_entry events
+
+-- the events that a session made
+abbrev pub own : ℕ → List Event → List Event
+own session events = filter (λ event. event.0 == session) events
+
+-- only events of other sessions came
+abbrev pub OthersCame : ℕ → List Event → List Event → Type 0
+OthersCame session before after = (others : List Event) × (own session others ≡ []) × (after ≡ before ++ others)
+
+-- the object that every global of this stage lies in: the dictionary Globals, 0:27
+abbrev pub globals : ℕ
+globals = oid_number 0 27
+
+-- The conflicts of a transaction that wrote something, with this view: in this stage one, and only where a commit came after the view.
+abbrev pub conflicts_at : Standing → ℕ → List Conflict
+conflicts_at s view = if nat_lt view s.number then record { oid = globals; kind = WriteWrite; shown = s.number } ∷ [] else []

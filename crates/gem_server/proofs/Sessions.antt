@@ -1,0 +1,70 @@
+-- The sessions of a script, one after another.
+use Rattle.std.proofs.Common.{◌≡◌, ◌≢◌, ◌∙◌, refl, sym, ap, subst, ℕ, ◌+◌, ◌≤◌, ◌<◌, List, [], ◌∷◌, ◌++◌, length, take, get_or, arith, length-take, append-nil, ◌==◌}
+use Rattle.std.proofs.lemmas.List.{take_more, take_all, append_cancel_left}
+use Rattle.std.proofs.lemmas.List.Elements.{filter-append}
+use Rattle.shell_words.specs.Script.{SessionCommands}
+use Rattle.gem_replies.specs.declared.reply.Transcript.{Transcript}
+use Rattle.gem_meaning.specs.Events.{Event, own}
+use Rattle.gem_meaning.specs.Legal.{IsTranscript, AreTranscripts}
+use Rattle.gem_meaning.proofs.Stays.{transcripts_stay, one_transcript}
+use Rattle.stone_core.specs.Told.{Told}
+
+-- The first sessions have ended, with these transcripts, and no other has begun.
+pub record HaveRun (start now : Told) (scripts : List SessionCommands) (count : ℕ) (ts : List Transcript) : Type 0 where
+  pub opened : now.opened ≡ start.opened
+  pub transcripts : AreTranscripts now.opened now.events 1 (take count scripts) ts
+  pub unbegun : (session : ℕ) → count < session → own session now.events ≡ []
+
+pub none_has_run : (now : Told) (scripts : List SessionCommands) → now.events ≡ [] → HaveRun now now scripts 0 []
+none_has_run now scripts none = record {
+  opened = refl;
+  transcripts = tt;
+  unbegun = λ session later. ap (own session) none;
+}
+
+-- a session that has as many events as before has none of the further ones
+nothing_more : (session : ℕ) (es more : List Event) → own session (es ++ more) ≡ own session es → own session more ≡ []
+nothing_more session es more same =
+    append_cancel_left (own session es) (own session more) []
+    (sym (filter-append (λ event. event.0 == session) es more) ∙ same ∙ sym (append-nil (own session es)))
+
+still_none : (session count : ℕ) (before after more : List Event) → after ≡ before ++ more
+    → ((other : ℕ) → other ≢ count + 1 → own other after ≡ own other before) → session ≢ count + 1 → own session more ≡ []
+still_none session count before after more extends alone different =
+    nothing_more session before more (ap (own session) (sym extends) ∙ alone session different)
+
+not_next : (session count : ℕ) → session < 1 + count → session ≢ count + 1
+not_next session count lt is = absurd (omega (arith, lt, is))
+
+not_earlier : (session count : ℕ) → count + 1 < session → session ≢ count + 1
+not_earlier session count lt is = absurd (omega (arith, lt, is))
+
+-- one session more has run
+pub one_session : (start before after : Told) (scripts : List SessionCommands) (count : ℕ) (ts : List Transcript) (script : SessionCommands) (t : Transcript) (more : List Event)
+    → count < length scripts → script ≡ get_or scripts count script → HaveRun start before scripts count ts → after.opened ≡ before.opened
+    → after.events ≡ before.events ++ more → ((other : ℕ) → other ≢ count + 1 → own other after.events ≡ own other before.events)
+    → IsTranscript before.opened after.events (count + 1) script t → HaveRun start after scripts (count + 1) (ts ++ t ∷ [])
+one_session start before after scripts count ts script t more lt is ran same extends alone told =
+    let size : length (take count scripts) ≡ count = omega (arith, length-take count scripts, lt) in
+    let stayed : AreTranscripts before.opened (before.events ++ more) 1 (take count scripts) ts =
+    transcripts_stay before.opened before.events more 1 (take count scripts) ts
+    (λ session low high. still_none session count before.events after.events more extends alone (not_next session count (omega (arith, high, size)))) ran.transcripts in
+    let here : IsTranscript before.opened after.events (1 + length (take count scripts)) script t =
+    subst (λ (n : ℕ). IsTranscript before.opened after.events n script t) (omega (arith, size)) told in
+    let all : AreTranscripts before.opened after.events 1 (take count scripts ++ script ∷ []) (ts ++ t ∷ []) =
+    one_transcript before.opened after.events 1 (take count scripts) ts script t
+    (subst (λ es. AreTranscripts before.opened es 1 (take count scripts) ts) (sym extends) stayed) here in
+    let front : take count scripts ++ script ∷ [] ≡ take (count + 1) scripts =
+    ap (λ s. take count scripts ++ s ∷ []) is ∙ sym (take_more scripts count script lt) in
+    record {
+      opened = same ∙ ran.opened;
+      transcripts = subst (λ o. AreTranscripts o after.events 1 (take (count + 1) scripts) (ts ++ t ∷ [])) (sym same)
+          (subst (λ ss. AreTranscripts before.opened after.events 1 ss (ts ++ t ∷ [])) front all);
+      unbegun = λ session later. alone session (not_earlier session count later) ∙ ran.unbegun session (omega (arith, later));
+    }
+
+-- all sessions have run
+pub all_have_run : (start now : Told) (scripts : List SessionCommands) (count : ℕ) (ts : List Transcript) → length scripts ≤ count → HaveRun start now scripts count ts
+    → AreTranscripts now.opened now.events 1 scripts ts
+all_have_run start now scripts count ts over ran =
+    subst (λ ss. AreTranscripts now.opened now.events 1 ss ts) (take_all count scripts over) ran.transcripts

@@ -1,0 +1,9 @@
+mod Grown
+mod Own
+mod Between
+mod Chunks
+mod Commits
+mod Faults
+mod Told
+mod Refusals
+mod Limits

@@ -1,0 +1,4 @@
+pub mod OneMore
+pub mod Views
+pub mod Alone
+pub mod Nothing

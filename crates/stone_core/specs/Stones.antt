@@ -1,0 +1,12 @@
+-- From the fields of a Stone to what contracts see.
+use Rattle.stone_core.specs.Told.{Told, IsStone}
+use Rattle.stone_core.specs.declared.stone.Stone.TheInside.{Inside}
+
+abbrev pub told_by : Inside → Told
+told_by stone = record {
+  opened = record { image = stone.opened_image; number = stone.opened_number; script = stone.script.value };
+  events = stone.events.items;
+}
+
+abbrev pub IsWhole : Inside → Type 0
+IsWhole stone = IsStone (told_by stone) stone.image stone.number stone.history.items

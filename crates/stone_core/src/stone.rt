@@ -1,0 +1,217 @@
+//! The Stone.
+ghost use Rattle.std.specs.Prelude.{◌≡◌, ◌≤◌, [], ◌∷◌, ◌++◌, ◌+◌, IfOk, IfErr};
+ghost use Rattle.std.specs.List.{AllByRecursion};
+ghost use Rattle.gem_value.specs.Entry.{entry_of};
+ghost use Rattle.gem_meaning.specs.Events.{globals as globals_name, conflicts_at, entries_of};
+ghost use Rattle.gem_meaning.specs.declared.event.What.TheVariants.{Placed};
+ghost use Rattle.gem_meaning.specs.Serial.{IsRecorded, IsSerial};
+ghost use Rattle.gem_meaning.specs.Legal.{IsOfScript};
+ghost use Rattle.stone_core.specs.Told.{Told, now_in, most_at_opening};
+ghost use Rattle.stone_core.specs.Port.{made, AnswerFits};
+
+#[cfg(test)]
+mod tests;
+
+use crate::port::{Begun, CommitAnswer, StonePort};
+use gem_meaning::What;
+use gem_replies::History;
+use gem_value::{Conflict, ConflictKind, Conflicts, Entry, Image, Oid, TxnRecord};
+use shell_words::Script;
+use std::alloc::{AllocError, Global};
+use std::marker::Model;
+use std::sync::Arc;
+
+/// The one place where transactions of a script are committed, one after the other. Each is judged by
+/// what has been committed since its view.
+///
+/// A contract sees it as a `Told`: what it was opened with, and its events since. The image and the
+/// number of commits are those that stand after the events, each event is of a session of the script,
+/// and the commits have a serial order.
+#[derive(Debug, Drop)]
+pub struct Stone {
+    opened_image: Image,
+    opened_number: u64,
+    script: Arc<Script>,
+    image: Image,
+    number: u64,
+    history: Vec<Entry>,
+    events: Vec<(u32, What)>,
+}
+
+/// What is left of a Stone that was closed.
+#[derive(Debug, Drop)]
+pub struct Closed {
+    /// The entries of the commits, in order.
+    pub history: History,
+    /// The events, in order, each with the number of the session that made it.
+    pub events: Vec<(u32, What)>,
+}
+
+impl Model for Stone {
+    ghost use Rattle.std.specs.Coded.{codes};
+    ghost use Rattle.gem_value.specs.Image.{image_code};
+    ghost use Rattle.stone_core.specs.Told.{Told};
+
+    ghost Value = { Told };
+
+    ghost coded = { Prim.hlevel (codes, image_code) };
+
+    ghost use Rattle.stone_core.specs.Stones.{told_by, IsWhole};
+
+    ghost view = { told_by };
+
+    ghost invariant = { IsWhole };
+}
+
+impl Stone {
+    /// A Stone that is opened with this image, which has so many commits, for the sessions of this
+    /// script.
+    ///
+    /// # Errors
+    ///
+    /// `AllocError` where memory ran out.
+    pub fn start(
+        alloc: Global,
+        image: Image,
+        number: u64,
+        script: Arc<Script>,
+    ) -> Result<Stone, AllocError>
+        requires number { number ≤ most_at_opening }
+        ensures { IfOk result (λ stone. stone ≡ record { opened = record { image = image; number = number; script = script.value }; events = [] }) }
+    {
+        Ok(Stone {
+            opened_image: image.share()?,
+            opened_number: number,
+            script,
+            image,
+            number,
+            history: Vec::new(alloc),
+            events: Vec::new(alloc),
+        })
+    }
+
+    /// The image and the number of this moment.
+    ///
+    /// # Errors
+    ///
+    /// `AllocError` where memory ran out.
+    pub fn begin(&self) -> Result<Begun, AllocError>
+        ensures image { IfOk result (λ begun. begun.image ≡ (now_in self.now).image) }
+        ensures number { IfOk result (λ begun. begun.number ≡ (now_in self.now).number) }
+    {
+        Ok(Begun {
+            image: self.image.share()?,
+            number: self.number,
+        })
+    }
+
+    /// Commits what a transaction wrote. The record has to be what running its commands gives where all
+    /// stands as at its view.
+    ///
+    /// It is read only exactly where nothing was written. Else it is refused exactly where there are
+    /// conflicts, and else placed, with the next number. Every other answer, also that memory ran out,
+    /// leaves the Stone as it was.
+    pub fn commit(&mut self, alloc: Global, done: &TxnRecord) -> CommitAnswer
+        requires recorded { IsRecorded self.old.opened self.old.events done.now }
+        ensures events { self.new ≡ record self.old { events = self.old.events ++ made done.now.session (entry_of done.now) result } }
+        ensures answer { AnswerFits (now_in self.old) done.now result }
+    {
+        match self.answer(alloc, done) {
+            Ok(answer) => answer,
+            Err(_) => CommitAnswer::NoMemory,
+        }
+    }
+
+    /// Closes the Stone. It takes no memory.
+    pub fn close(self) -> Closed
+        ensures events { result.events.items ≡ self.events }
+        ensures history { result.history ≡ entries_of self.events }
+        ensures sessions { AllByRecursion (IsOfScript self.opened.script) self.events }
+        ensures serial { IsSerial self.opened self.events }
+    {
+        Closed {
+            history: History::of(self.history),
+            events: self.events,
+        }
+    }
+
+    /// The answer to a commit where memory suffices.
+    fn answer(&mut self, alloc: Global, done: &TxnRecord) -> Result<CommitAnswer, AllocError>
+        requires recorded { IsRecorded self.old.opened self.old.events done.now }
+        ensures events { IfOk result (λ answer. self.new ≡ record self.old { events = self.old.events ++ made done.now.session (entry_of done.now) answer }) }
+        ensures answer { IfOk result (λ answer. AnswerFits (now_in self.old) done.now answer) }
+        ensures starved { IfErr result (λ _. self.new ≡ self.old) }
+    {
+        if done.written.as_slice().is_empty() {
+            return Ok(CommitAnswer::ReadOnly(done.view));
+        }
+        let found = self.conflicts(alloc, done.view)?;
+        if !found.as_slice().is_empty() {
+            return Ok(CommitAnswer::Conflicts(found));
+        }
+        Ok(CommitAnswer::Placed(self.place(alloc, done)?))
+    }
+
+    /// The conflicts of a transaction that wrote something, with this view.
+    fn conflicts(&self, alloc: Global, view: u64) -> Result<Conflicts, AllocError>
+        ensures { IfOk result (λ found. found ≡ conflicts_at (now_in self.now) view) }
+    {
+        let mut found = Vec::new(alloc);
+        if view < self.number {
+            found.push(Conflict {
+                oid: globals(),
+                kind: ConflictKind::WriteWrite,
+                shown: self.number,
+            })?;
+        }
+        Ok(Conflicts::of(found))
+    }
+
+    /// Places the commit of a transaction that has no conflict, and gives its number.
+    fn place(&mut self, alloc: Global, done: &TxnRecord) -> Result<u64, AllocError>
+        requires recorded { IsRecorded self.old.opened self.old.events done.now }
+        requires no_conflict { conflicts_at (now_in self.old) done.now.view ≡ [] }
+        ensures number { IfOk result (λ number. number ≡ (now_in self.old).number + 1) }
+        ensures placed { IfOk result (λ _. self.new ≡ record self.old { events = self.old.events ++ (done.now.session, Placed (entry_of done.now)) ∷ [] }) }
+        ensures starved { IfErr result (λ _. self.new ≡ self.old) }
+    {
+        let entry = done.entry();
+        let image = self.image.with_writes(alloc, &done.written)?;
+        self.history.reserve(1)?;
+        self.events.push((done.session, What::Placed(entry)))?;
+        let Ok(()) = self.history.push(entry) else {
+            unreachable!()
+        };
+        self.image = image;
+        self.number += 1;
+        Ok(self.number)
+    }
+}
+
+/// A Stone alone: no event of others ever comes between.
+impl StonePort for Stone {
+    ghost use Rattle.std.specs.Prelude.{true};
+
+    ghost opened = { λ stone. stone.opened };
+
+    ghost seen = { λ stone. stone.events };
+
+    ghost serves = { λ stone session. true };
+
+    ghost alone = { λ stone. true };
+
+    fn begin(&mut self, session: u32) -> Result<Begun, AllocError> {
+        Stone::begin(self)
+    }
+
+    fn commit(&mut self, alloc: Global, done: &TxnRecord) -> CommitAnswer {
+        Stone::commit(self, alloc, done)
+    }
+}
+
+/// The dictionary Globals, in which every global lies.
+fn globals() -> Oid
+    ensures { result ≡ globals_name }
+{
+    Oid::from_parts(0, 27)
+}
