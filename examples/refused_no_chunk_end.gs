@@ -1,4 +1,3 @@
 session DataCurator
-printit
-3 +
-%
+run
+3

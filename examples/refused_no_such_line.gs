@@ -1,0 +1,2 @@
+session DataCurator
+checkpoint
