@@ -1,11 +1,11 @@
 -- The chunks that have a meaning in this stage: statements of whole numbers, global names, the messages + - * and
 -- parentheses, and `Globals at: #NAME put:` with such an expression.
-use Rattle.std.specs.Prelude.{Bool, true, false, not, ◌&&◌, codes, List, [], ◌∷◌, Option, Some, None, is_some}
-use Rattle.std.specs.List.{list_any}
+use Rattle.std.specs.Prelude.{Bool, true, false, not, ◌&&◌, codes, List, [], ◌∷◌, Option, Some, None, is_some, ℤ, pos, negsuc, ◌^◌, nat_lt}
+use Rattle.std.specs.List.{list_any, list_all}
 use Rattle.std.specs.Str.{bytes_eq}
 use Rattle.std.specs.Char.{is_ascii_uppercase}
 use Rattle.st_tree.specs.Trees.{Bytes, int, sym, Head, name, constant, paren, Expression, expression, Send, send, Sends, no_sends, a_send, no_expressions, an_expression, Statement, statement, Statements, no_statements, a_statement, Program}
-use Rattle.gem_meaning.specs.SmallInteger.{is_small_integer}
+use Rattle.st_tree.specs.Tokens.{is_name_byte}
 use Rattle.gem_meaning.specs.Operation.{operation_with}
 
 -- The names that every image has, and that no chunk may set in this stage.
@@ -25,9 +25,9 @@ abbrev pub begins_with_capital : Bytes → Bool
 begins_with_capital [] = false
 begins_with_capital (b ∷ bs) = is_ascii_uppercase b
 
--- a name that a chunk may use for a global of its own
+-- a name that a chunk may use for a global of its own: an identifier with a capital first
 abbrev pub is_global_name : Bytes → Bool
-is_global_name n = begins_with_capital n && not (is_kernel_name n)
+is_global_name n = begins_with_capital n && list_all is_name_byte n && not (is_kernel_name n)
 
 -- the symbol that an expression is
 abbrev pub symbol_of : Expression → Option Bytes
@@ -51,6 +51,11 @@ abbrev pub put_of : Expression → Option (Bytes × Expression)
 put_of (expression [] (name g) (a_send message no_sends) no_sends) = put_message g message
 put_of _ = None
 
+-- A whole number as a text writes it. None is negative: in this stage a `-` is a message.
+abbrev pub is_numeral : ℤ → Bool
+is_numeral (pos n) = nat_lt n (2 ^ 60)
+is_numeral (negsuc n) = false
+
 abbrev mutual
   -- an expression of whole numbers, global names, + - * and parentheses
   pub is_arithmetic : Expression → Bool
@@ -58,7 +63,7 @@ abbrev mutual
   is_arithmetic _ = false
 
   pub is_operand : Head → Bool
-  is_operand (constant (int z)) = is_small_integer z
+  is_operand (constant (int z)) = is_numeral z
   is_operand (name n) = is_global_name n
   is_operand (paren e) = is_arithmetic e
   is_operand _ = false

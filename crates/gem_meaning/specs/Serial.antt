@@ -32,7 +32,8 @@ pub record IsPlaced (o : Opened) (s : Standing) (session : ℕ) (e : Entry) : Ty
   pub of_script : IsTransaction o.script e
   pub from : o.number ≤ e.view
   pub to : e.view ≤ s.number
-  pub same : entry_run o s e ≡ transaction (entry_commands o.script e) (image_at s e.view) (image_at s e.view)
+  pub same_replies : (entry_run o s e).replies ≡ (transaction (entry_commands o.script e) (image_at s e.view) (image_at s e.view)).replies
+  pub same_writes : written_of (entry_run o s e) ≡ written_of (transaction (entry_commands o.script e) (image_at s e.view) (image_at s e.view))
 
 abbrev pub IsSerialEvent : Opened → Standing → Event → Type 0
 IsSerialEvent o s (session, Placed e) = IsPlaced o s session e

@@ -59,7 +59,7 @@ ChunkSays o events prints text s line s' = IsChunkReply s.spoiled line (run_chun
 -- The reply to a method, and what the session carries then. It doesn't look at the Stone either.
 abbrev pub MethodSays : Command → Bytes → SessionState → Line → SessionState → Type 0
 MethodSays c text s NoMemory s' = s' ≡ record (with_command c s) { spoiled = true }
-MethodSays c text s line s' = IsChunkReply s.spoiled line (method_line text) × (s' ≡ with_command c s)
+MethodSays c text s line s' = (line ≡ method_line text) × (s' ≡ with_command c s)
 
 -- The transaction isn't spoiled, and nothing is written in it.
 abbrev pub IsUnwritten : Opened → List Event → SessionState → Type 0

@@ -2,7 +2,9 @@
 ghost use Rattle.std.specs.Prelude.{◌≡◌, codes, ◌&&◌, None, Some, MatchOption};
 ghost use Rattle.std.specs.Str.{bytes_eq};
 ghost use Rattle.st_tree.specs.Views.{head_of};
-ghost use Rattle.gem_meaning.specs.Form.{is_kernel_name, is_global_name, symbol_of, put_with, put_message, put_of, is_arithmetic, is_operand, is_operation, is_step, is_chunk};
+ghost use Rattle.gem_meaning.specs.Form.{is_kernel_name, is_global_name, symbol_of, put_with, put_message, put_of, is_numeral, is_arithmetic, is_operand, is_operation, is_step, is_chunk};
+ghost use Rattle.std.specs.List.{list_all};
+ghost use Rattle.st_tree.specs.Tokens.{is_name_byte};
 ghost use Rattle.gem_meaning.specs.SmallInteger.{is_small_integer};
 
 use crate::operation::Operation;
@@ -50,14 +52,33 @@ fn is_kernel_name(name: &[u8]) -> bool
     KERNEL_NAMES.iter().any(|kernel| name == *kernel)
 }
 
+fn is_name_byte(byte: u8) -> bool
+    ensures { result ≡ is_name_byte byte }
+{
+    byte.is_ascii_alphabetic() || byte == b'_' || byte.is_ascii_digit()
+}
+
+fn has_name_bytes(name: &[u8]) -> bool
+    ensures { result ≡ list_all is_name_byte name.now }
+{
+    name.iter().all(|byte| is_name_byte(*byte))
+}
+
 // Whether a chunk may use this name for a global of its own.
 fn is_global_name(name: &[u8]) -> bool
     ensures { result ≡ is_global_name name.now }
 {
     match name.first() {
-        Some(first) => first.is_ascii_uppercase() && !is_kernel_name(name),
+        Some(first) => first.is_ascii_uppercase() && has_name_bytes(name) && !is_kernel_name(name),
         None => false,
     }
+}
+
+// Whether a text may write this number. In this stage a `-` is a message.
+fn is_numeral(value: i64) -> bool
+    ensures { result ≡ is_numeral value }
+{
+    0 <= value && value < 1 << 60
 }
 
 pub(crate) fn is_small_integer(value: i64) -> bool
@@ -165,7 +186,7 @@ fn is_operand(head: &Primary) -> bool
     ensures { result ≡ is_operand (head_of head.now) }
 {
     match head {
-        Primary::Lit(Literal::Int(value)) => is_small_integer(*value),
+        Primary::Lit(Literal::Int(value)) => is_numeral(*value),
         Primary::Name(name) => is_global_name(name.bytes()),
         Primary::Paren(expr) => is_arithmetic(expr),
         _ => false,

@@ -1,6 +1,10 @@
-//! What follows from the meaning of chunks alone. Each law is the contract of a function that does nothing.
-ghost use Rattle.std.specs.Prelude.{◌≡◌, ◌≢◌, ℤ, Bool, Some, Ok, Err};
+//! What follows from the definitions alone. Each law is the contract of a function that does nothing.
+ghost use Rattle.std.specs.Prelude.{◌≡◌, ◌≢◌, ℕ, ℤ, Bool, Some, Ok, Err, List, [], ◌++◌};
 ghost use Rattle.st_tree.specs.Trees.{Bytes, Expression, statement, Statements, append_statements};
+ghost use Rattle.shell_words.specs.Script.{SessionCommands};
+ghost use Rattle.gem_replies.specs.declared.reply.Reply.{Reply};
+ghost use Rattle.gem_meaning.specs.Events.{Opened, Event, own};
+ghost use Rattle.gem_meaning.specs.Session.{Says};
 ghost use Rattle.gem_meaning.specs.declared.evaluator.EvaluationError.{EvaluationError};
 ghost use Rattle.gem_meaning.specs.Form.{put_of};
 ghost use Rattle.gem_meaning.specs.State.{State, shown, set};
@@ -29,4 +33,10 @@ pub fn put_sets()
 pub fn set_is_shown()
     ensures same_name { (s : State) (n : Bytes) (z : ℤ) → shown (set n z s) n ≡ Some z }
     ensures other_name { (s : State) (n other : Bytes) (z : ℤ) → other ≢ n → shown (set n z s) other ≡ shown s other }
+{}
+
+/// What a session says by some events it says by them with later events of other sessions, too.
+pub fn says_stay()
+    ensures { (o : Opened) (events more : List Event) (session : ℕ) (script : SessionCommands) (replies : List Reply) → own session more ≡ [] →
+        Says o events session script replies → Says o (events ++ more) session script replies }
 {}

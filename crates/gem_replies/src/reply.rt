@@ -13,9 +13,9 @@ pub enum Line {
     Login(u64),
     /// `no memory`: it could not be done for want of memory.
     NoMemory,
-    /// `parse PR at A`: the chunk breaks this rule of the grammar, at this place in bytes from 0.
+    /// `parse PR at A`: the chunk or method breaks this rule of the grammar, at this place in bytes from 0.
     Parse { at: u32, rule: u8 },
-    /// `not built`: the chunk uses what this stage doesn't run.
+    /// `not built`: the command asks for what isn't run yet.
     NotBuilt,
     /// `error EK TEXT`: running the chunk ended with an error of this kind.
     Error { kind: u8, detail: Text },

@@ -170,21 +170,3 @@ fn commits_alone(rt: HostRuntime) -> Result<(), Fail> {
     assert!(rt; report_text(alloc, &book)?.as_slice() == wanted.as_slice());
     Ok(())
 }
-
-#[test]
-fn scripts(rt: HostRuntime) -> Result<(), Fail> {
-    let alloc = rt.alloc();
-    let chunk = Command::Chunk {
-        prints: true,
-        text: text(alloc, b"3 + 4\n")?,
-    };
-    let session = SessionScript::of(
-        text(alloc, b"DataCurator")?,
-        vec![in alloc; chunk, Command::Commit, Command::Abort, Command::Logout]?,
-    );
-    assert!(rt; session.user().bytes() == b"DataCurator".as_slice());
-    assert_eq!(rt; session.commands().len(), 4);
-    let script = Script::of(vec![in alloc; session]?);
-    assert_eq!(rt; script.sessions().len(), 1);
-    Ok(())
-}

@@ -168,7 +168,7 @@ line_served : (text : Bytes) → IsServed (method_line text)
 unfolding method_line
 line_served text = method_served (tree_of method text)
 
-method_says : (c : Command) (text : Bytes) (s : SessionState) (line : Line) (s' : SessionState) → IsServed line → IsChunkReply s.spoiled line (method_line text) →
+method_says : (c : Command) (text : Bytes) (s : SessionState) (line : Line) (s' : SessionState) → IsServed line → line ≡ method_line text →
     s' ≡ with_command c s → MethodSays c text s line s'
 method_says c text s NoMemory s' served reply left = absurd served
 method_says c text s line s' served reply left = (reply, left)
@@ -210,7 +210,7 @@ method_told o es number s class_side class text is stands =
       says = (
         refl,
         method_says (Method class_side class text) text (carried o number s) (method_line text) (carried o (number + 1) s) (line_served text)
-            (reply_fits s.spoiled (method_line text) (method_line text) (λ calm. refl))
+            refl
             (left_behind o number s class_side class text s.spoiled is stands.first.0 stands.first.1),
       );
       stands = record {

@@ -25,3 +25,4 @@ pub mod MinusSigns
 pub mod TextMinus
 pub mod Closing
 pub mod Supply
+pub mod Bounded

@@ -1,8 +1,9 @@
 //! What holds of the trees and the faults of texts, whatever parser finds them.
-ghost use Rattle.std.specs.Prelude.{◌≡◌, ℕ, ◌⊎◌, Ok, Err};
+ghost use Rattle.std.specs.Prelude.{◌≡◌, ℕ, ◌+◌, ◌*◌, ◌≤◌, ◌⊎◌, length, Ok, Err};
 ghost use Rattle.st_tree.specs.Trees.{Bytes, Program};
 ghost use Rattle.st_tree.specs.Grammar.{Form};
 ghost use Rattle.st_tree.specs.Fails.{Reads, Fails, AnyRule};
+ghost use Rattle.st_tree.specs.Falls.{size_program};
 ghost use Rattle.st_grammar.specs.TreeOf.{TextFault, tree_of};
 
 /// A text has a tree, or a place where it fails and a rule that it breaks there: never both, always one of the
@@ -20,4 +21,11 @@ pub fn as_function()
     ensures fault { (form : Form) (text : Bytes) (place : ℕ) (r : AnyRule) → Fails form text place r → tree_of form text ≡ Err (record { place = place; rule = r }) }
     ensures reads { (form : Form) (text : Bytes) (program : Program) → tree_of form text ≡ Ok program → Reads form text program }
     ensures fails { (form : Form) (text : Bytes) (fault : TextFault) → tree_of form text ≡ Err fault → Fails form text fault.place fault.rule }
+{}
+
+/// The size of a tree, as the recursions over trees go down by it, is at most three times the length of its text in
+/// bytes, and three more. It counts statements, expressions, messages and literals, and no names that are declared or
+/// assigned to.
+pub fn tree_is_bounded()
+    ensures { (form : Form) (text : Bytes) (program : Program) → Reads form text program → size_program program ≤ 3 * length text + 3 }
 {}

@@ -1,6 +1,6 @@
 //! A reader over the tokens of a text.
 ghost use Rattle.std.specs.Prelude.{◌≡◌, length};
-ghost use Rattle.st_tree.specs.Grammar.{words_of, starts_with_joined_number};
+ghost use Rattle.st_tree.specs.Grammar.{words_of};
 ghost use Rattle.st_parser.specs.Descent.{starts, is_bar, is_colon, is_caret, is_semicolon, is_period, is_close_paren, is_close_bracket, begins_expression, begins_statement};
 ghost use Rattle.st_parser.specs.Levels.{level_seen, Assigned, Selects};
 ghost use Rattle.st_grammar.specs.Machine.{super_takes};
@@ -170,20 +170,6 @@ impl<'a> Reader<'a> {
             self.peek(),
             Some(Lexeme {
                 kind: TokenKind::CloseBracket,
-                ..
-            })
-        )
-    }
-
-    // The next token is a number that touches the token before it.
-    pub(crate) fn is_at_joined_number(&self) -> bool
-        ensures { result ≡ starts_with_joined_number self.now }
-    {
-        matches!(
-            self.peek(),
-            Some(Lexeme {
-                kind: TokenKind::Number,
-                touches: true,
                 ..
             })
         )

@@ -1,5 +1,5 @@
 use crate::{ParseFault, parse_chunk, parse_method};
-use st_tree::Tree;
+use st_tree::{Literal, Primary, Tree};
 use std::test::Fail;
 
 fn fault_of(parsed: Result<Tree, ParseFault>) -> Option<(u32, u8)> {
@@ -13,7 +13,7 @@ fn fault_of(parsed: Result<Tree, ParseFault>) -> Option<(u32, u8)> {
 // Where chunks fail, and by which rule.
 #[test]
 fn faults(rt: HostRuntime) -> Result<(), Fail> {
-    let table: [(&[u8], Option<(u32, u8)>); 34] = [
+    let table: [(&[u8], Option<(u32, u8)>); 40] = [
         (b"", None),
         (b"3 + }", Some((4, 1))),
         (b"3 + 'it", Some((4, 2))),
@@ -46,6 +46,12 @@ fn faults(rt: HostRuntime) -> Result<(), Fail> {
             None,
         ),
         (b"[:x | x := 3]", Some((8, 8))),
+        (b"[:x | [:y | x := 3]]", Some((14, 8))),
+        (b"[:x | [:y :y | y]]", Some((11, 7))),
+        (b"[:x | | x | x]", Some((8, 7))),
+        (b"[:x | [:x | x]]", None),
+        (b"| t | [t := 3. | u | u]", Some((15, 5))),
+        (b"#(1 (2 $a", Some((9, 6))),
         (b"^3. 4", Some((4, 4))),
         (b"[^3. 4]", Some((5, 5))),
         (b"x foo: 3; bar baz", Some((14, 4))),
@@ -98,6 +104,24 @@ fn order_of_messages(rt: HostRuntime) -> Result<(), Fail> {
         assert_eq!(rt; statement.expr.messages.len(), 2);
         assert!(rt; statement.expr.messages[0].selector.bytes() == b"+".as_slice());
         assert!(rt; statement.expr.messages[1].selector.bytes() == b"max:".as_slice());
+    }
+    Ok(())
+}
+
+// What stands in a literal array, and the receiver of a cascade.
+#[test]
+fn arrays_and_cascades(rt: HostRuntime) -> Result<(), Fail> {
+    let tree = parse_chunk(rt.alloc(), b"#(1 -2 a b:c: nil) at: 3 - -4; + 5")?;
+    for statement in &tree.body {
+        assert_eq!(rt; statement.expr.messages.len(), 1);
+        assert_eq!(rt; statement.expr.cascade.len(), 1);
+        let Primary::Lit(Literal::Array(array)) = &statement.expr.head else {
+            return Err(Fail::new("no array"));
+        };
+        assert_eq!(rt; array.items.len(), 5);
+        assert!(rt; matches!(array.items[1], Literal::Int(-2)));
+        assert!(rt; matches!(&array.items[3], Literal::Sym(t) if t.bytes() == b"b:c:".as_slice()));
+        assert!(rt; matches!(array.items[4], Literal::Nil));
     }
     Ok(())
 }

@@ -71,7 +71,8 @@ placed_now o s e of_script from now = record {
   of_script = of_script;
   from = from;
   to = omega arith;
-  same = sym (runs_here o s e now);
+  same_replies = ap (λ r. r.replies) (sym (runs_here o s e now));
+  same_writes = ap written_of (sym (runs_here o s e now));
 }
 
 -- What the Stone is when a transaction without conflicts has been placed.

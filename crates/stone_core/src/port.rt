@@ -1,7 +1,9 @@
 //! What sessions may ask of a Stone.
 ghost use Rattle.std.specs.Prelude.{◌≡◌, ℕ, Bool, true, List, IfOk, IfErr};
 ghost use Rattle.gem_meaning.specs.Events.{Opened, Event, OthersCame};
-ghost use Rattle.gem_meaning.specs.Serial.{IsRecorded};
+ghost use Rattle.std.specs.List.{AllByRecursion};
+ghost use Rattle.gem_meaning.specs.Serial.{IsRecorded, IsSerial};
+ghost use Rattle.gem_meaning.specs.Legal.{IsOfScript};
 ghost use Rattle.stone_core.specs.Port.{BeginSays, CommitSays, IsAloneStill};
 
 use gem_value::{Conflicts, Image, TxnRecord};
@@ -30,7 +32,8 @@ pub enum CommitAnswer {
 }
 
 /// What sessions may ask of a Stone that they may share with others. Each call says what it answers by the events that the port has
-/// seen: events of other sessions may have come first, and then the call's own one.
+/// seen: events of other sessions may have come first, and then the call's own one. The events that it has seen are of sessions of the
+/// script, each entry is of the session that its event names, and the commits have a serial order.
 pub trait StonePort {
     /// What the Stone was opened with.
     ghost opened: { Self → Opened };
@@ -55,7 +58,9 @@ pub trait StonePort {
         ensures starved { IfErr result (λ _. OthersCame session (seen self.old) (seen self.new)) }
         ensures opened { opened self.new ≡ opened self.old }
         ensures serves { (other : ℕ) → serves self.old other ≡ true → serves self.new other ≡ true }
-        ensures alone { IsAloneStill (alone self.old) session (alone self.new) (seen self.old) (seen self.new) };
+        ensures alone { IsAloneStill (alone self.old) session (alone self.new) (seen self.old) (seen self.new) }
+        ensures serial { IsSerial (opened self.new) (seen self.new) }
+        ensures sessions { AllByRecursion (IsOfScript (opened self.new).script) (seen self.new) };
 
     /// Commits what a transaction wrote. The record has to be what running its commands gives where all stands as at its view.
     ///
@@ -67,5 +72,7 @@ pub trait StonePort {
         ensures says { CommitSays (opened self.old) (seen self.old) (seen self.new) done.now result }
         ensures opened { opened self.new ≡ opened self.old }
         ensures serves { (other : ℕ) → serves self.old other ≡ true → serves self.new other ≡ true }
-        ensures alone { IsAloneStill (alone self.old) done.now.session (alone self.new) (seen self.old) (seen self.new) };
+        ensures alone { IsAloneStill (alone self.old) done.now.session (alone self.new) (seen self.old) (seen self.new) }
+        ensures serial { IsSerial (opened self.new) (seen self.new) }
+        ensures sessions { AllByRecursion (IsOfScript (opened self.new).script) (seen self.new) };
 }

@@ -135,6 +135,14 @@ impl Stone {
         }
     }
 
+    /// Whether the number hasn't fallen since the opening, which is always so. What else the type says of every Stone is told with it.
+    fn keeps_order(&self) -> bool
+        ensures sessions { AllByRecursion (IsOfScript self.now.opened.script) self.now.events }
+        ensures serial { IsSerial self.now.opened self.now.events }
+    {
+        self.opened_number <= self.number
+    }
+
     /// The answer to a commit where memory suffices.
     fn answer(&mut self, alloc: Global, done: &TxnRecord) -> Result<CommitAnswer, AllocError>
         requires recorded { IsRecorded self.old.opened self.old.events done.now }
@@ -201,11 +209,15 @@ impl StonePort for Stone {
     ghost alone = { λ stone. true };
 
     fn begin(&mut self, session: u32) -> Result<Begun, AllocError> {
-        Stone::begin(self)
+        let begun = Stone::begin(self);
+        self.keeps_order();
+        begun
     }
 
     fn commit(&mut self, alloc: Global, done: &TxnRecord) -> CommitAnswer {
-        Stone::commit(self, alloc, done)
+        let answer = Stone::commit(self, alloc, done);
+        self.keeps_order();
+        answer
     }
 }
 

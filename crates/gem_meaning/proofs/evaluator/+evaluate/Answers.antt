@@ -4,10 +4,15 @@ use Rattle.st_tree.specs.Trees.{sends}
 use Rattle.st_tree.specs.Views.{head_of}
 use Rattle.gem_meaning.specs.Operation.{operation_with, exact_result}
 use Rattle.gem_meaning.specs.Meaning.{ranged}
-use Rattle.gem_meaning.proofs.Evaluation.{at_head, head_error, message_fits, after_one, at_error, one_argument, lone, answered}
+use Rattle.gem_meaning.proofs.Evaluation.{operand_fits, at_head, head_error, message_fits, after_one, at_error, one_argument, lone, answered}
 use Rattle.gem_meaning.proofs.Steps.{next_message}
 use Rattle.gem_meaning.proofs.evaluator.+evaluate.Goals as goal
 use Rattle.gem_meaning.proofs.evaluator.+evaluate.Goals.{send-in_default-as_slice-via-then-as_slice-lt1, send-in_default-as_slice-via-else-as_slice-lt1+else-this-lt2}
+
+pub evaluate-operand-requires : goal.evaluate-operand-requires
+evaluate-operand-requires t c =
+    let e = c.expr.inside in
+    (search rules, operand_fits e.assigns.items (head_of e.head) (sends e.messages.items) (sends e.cascade.items) (rw (← c.expr.view_is) at c.requires))
 
 pub evaluate-returns-in-Err : goal.evaluate-returns-in-Err
 evaluate-returns-in-Err t c =

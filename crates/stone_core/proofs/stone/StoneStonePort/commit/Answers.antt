@@ -9,6 +9,6 @@ pub returns-clause-alone : goal.returns-clause-alone
 returns-clause-alone c = λ _. (
   refl,
   λ other different.
-      ap (λ (t : Told). own other t.events) c.commit.ensures.events
-      ∙ others_unmoved c.args.done.now.session other (entry_of c.args.done.now) c.commit.result c.args.self.now.events different,
+      ap (λ (t : Told). own other t.events) c.commit-answer.ensures.events
+      ∙ others_unmoved c.args.done.now.session other (entry_of c.args.done.now) c.commit-answer.result c.args.self.now.events different,
 )

@@ -1,0 +1,4 @@
+session DataCurator
+printit
+"café" 3
+%

@@ -1,0 +1,17 @@
+session DataCurator
+session DataCurator
+session DataCurator
+session DataCurator
+session DataCurator
+session DataCurator
+session DataCurator
+session DataCurator
+session DataCurator
+session DataCurator
+session DataCurator
+session DataCurator
+session DataCurator
+session DataCurator
+session DataCurator
+session DataCurator
+session DataCurator
