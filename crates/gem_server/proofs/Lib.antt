@@ -1,5 +1,6 @@
 pub mod Devices
 pub mod Empty
+pub mod Turns
 pub mod Sessions
 pub mod ScriptRules
 pub mod Completes

@@ -1,32 +1,32 @@
 -- The sessions of a script, one after another.
-use Rattle.std.proofs.Common.{◌≡◌, ◌≢◌, ◌∙◌, refl, sym, ap, subst, ℕ, ◌+◌, ◌≤◌, ◌<◌, List, [], ◌∷◌, ◌++◌, length, take, get_or, arith, length-take, append-nil, ◌==◌}
-use Rattle.std.proofs.lemmas.List.{take_more, take_all, append_cancel_left}
-use Rattle.std.proofs.lemmas.List.Elements.{filter-append}
+use Rattle.std.proofs.Common.{◌≡◌, ◌≢◌, ◌∙◌, refl, sym, ap, subst, ℕ, ◌+◌, ◌≤◌, ◌<◌, List, [], ◌∷◌, ◌++◌, length, take, get_or, arith, length-take, length-append}
+use Rattle.std.proofs.lemmas.List.{take_more, take_all}
 use Rattle.shell_words.specs.Script.{SessionCommands}
 use Rattle.gem_replies.specs.declared.reply.Transcript.{Transcript}
 use Rattle.gem_meaning.specs.Events.{Event, own}
 use Rattle.gem_meaning.specs.Legal.{IsTranscript, AreTranscripts}
 use Rattle.gem_meaning.proofs.Stays.{transcripts_stay, one_transcript}
 use Rattle.stone_core.specs.Told.{Told}
+use Rattle.gem_session.specs.Login.{LogsIn}
+use Rattle.gem_server.specs.Server.{AreInTurn}
+use Rattle.gem_server.proofs.Turns.{nothing_more, one_turn, login_is}
 
--- The first sessions have ended, with these transcripts, and no other has begun.
+-- The first sessions have ended, with these transcripts, and no other has begun. They took turns.
 pub record HaveRun (start now : Told) (scripts : List SessionCommands) (count : ℕ) (ts : List Transcript) : Type 0 where
   pub opened : now.opened ≡ start.opened
   pub transcripts : AreTranscripts now.opened now.events 1 (take count scripts) ts
   pub unbegun : (session : ℕ) → count < session → own session now.events ≡ []
+  pub counted : length ts ≡ count
+  pub in_turn : AreInTurn now.opened now.events 1 ts
 
 pub none_has_run : (now : Told) (scripts : List SessionCommands) → now.events ≡ [] → HaveRun now now scripts 0 []
 none_has_run now scripts none = record {
   opened = refl;
   transcripts = tt;
   unbegun = λ session later. ap (own session) none;
+  counted = refl;
+  in_turn = tt;
 }
-
--- a session that has as many events as before has none of the further ones
-nothing_more : (session : ℕ) (es more : List Event) → own session (es ++ more) ≡ own session es → own session more ≡ []
-nothing_more session es more same =
-    append_cancel_left (own session es) (own session more) []
-    (sym (filter-append (λ event. event.0 == session) es more) ∙ same ∙ sym (append-nil (own session es)))
 
 still_none : (session count : ℕ) (before after more : List Event) → after ≡ before ++ more
     → ((other : ℕ) → other ≢ count + 1 → own other after ≡ own other before) → session ≢ count + 1 → own session more ≡ []
@@ -43,8 +43,9 @@ not_earlier session count lt is = absurd (omega (arith, lt, is))
 pub one_session : (start before after : Told) (scripts : List SessionCommands) (count : ℕ) (ts : List Transcript) (script : SessionCommands) (t : Transcript) (more : List Event)
     → count < length scripts → script ≡ get_or scripts count script → HaveRun start before scripts count ts → after.opened ≡ before.opened
     → after.events ≡ before.events ++ more → ((other : ℕ) → other ≢ count + 1 → own other after.events ≡ own other before.events)
-    → IsTranscript before.opened after.events (count + 1) script t → HaveRun start after scripts (count + 1) (ts ++ t ∷ [])
-one_session start before after scripts count ts script t more lt is ran same extends alone told =
+    → IsTranscript before.opened after.events (count + 1) script t → LogsIn before.opened (count + 1) before.events after.events t.replies
+    → HaveRun start after scripts (count + 1) (ts ++ t ∷ [])
+one_session start before after scripts count ts script t more lt is ran same extends alone told login =
     let size : length (take count scripts) ≡ count = omega (arith, length-take count scripts, lt) in
     let stayed : AreTranscripts before.opened (before.events ++ more) 1 (take count scripts) ts =
     transcripts_stay before.opened before.events more 1 (take count scripts) ts
@@ -61,6 +62,12 @@ one_session start before after scripts count ts script t more lt is ran same ext
       transcripts = subst (λ o. AreTranscripts o after.events 1 (take (count + 1) scripts) (ts ++ t ∷ [])) (sym same)
           (subst (λ ss. AreTranscripts before.opened after.events 1 ss (ts ++ t ∷ [])) front all);
       unbegun = λ session later. alone session (not_earlier session count later) ∙ ran.unbegun session (omega (arith, later));
+      counted = length-append ts (t ∷ []) ∙ ap (λ (n : ℕ). n + 1) ran.counted;
+      in_turn = subst (λ o. AreInTurn o after.events 1 (ts ++ t ∷ [])) (sym same)
+          (subst (λ es. AreInTurn before.opened es 1 (ts ++ t ∷ [])) (sym extends)
+          (one_turn before.opened before.events more count ts t ran.unbegun
+          (λ session different. still_none session count before.events after.events more extends alone different) ran.counted ran.in_turn
+          (login_is before.opened count before.events after.events t.replies login alone)));
     }
 
 -- all sessions have run

@@ -1,13 +1,16 @@
 -- What the end of a call of the server says.
-use Rattle.std.specs.Prelude.{◌≡◌, ◌<◌, ◌⊎◌, codes, List, [], ◌∷◌, length, Option}
+use Rattle.std.specs.Prelude.{◌≡◌, ℕ, ◌+◌, ◌<◌, ◌⊎◌, codes, List, [], ◌∷◌, length, nat_lt, Option}
+use Rattle.std.specs.List.{filter}
 use Rattle.std.specs.FinMap as map
 use Rattle.std.specs.Io.KnownBytes.{Consumes, IsAtEnd}
 use Rattle.st_tree.specs.Trees.{Bytes}
 use Rattle.shell_words.specs.Script.{SessionCommands, most_script_bytes}
 use Rattle.shell_words.specs.ScriptGrammar.{ReadsScript}
 use Rattle.gem_replies.specs.declared.reply.RunBook.{RunBook}
-use Rattle.gem_meaning.specs.Events.{Opened, Event}
+use Rattle.gem_replies.specs.declared.reply.Transcript.{Transcript}
+use Rattle.gem_meaning.specs.Events.{Opened, Event, after_events}
 use Rattle.gem_meaning.specs.Legal.{IsLegal}
+use Rattle.gem_session.specs.Login.{TellsLogin}
 use Rattle.gem_server.specs.declared.status.Status.{Status}
 use Rattle.gem_server.specs.declared.status.Status.TheVariants.{Done, Script, WriteFault}
 
@@ -36,7 +39,17 @@ IsWhole left text = IsAtEnd left ⊎ (most_script_bytes < length text)
 abbrev pub opened : List SessionCommands → Opened
 opened script = record { image = map.empty; number = 0; script = script }
 
--- The source gave a script to its end, and the events and the book are those of a legal run of it.
+-- the events of the sessions before this one
+abbrev pub earlier : ℕ → List Event → List Event
+earlier session events = filter (λ event. nat_lt event.0 session) events
+
+-- The sessions ran one after another, in the order of the script: each login, the first of which is of the session with this number, tells
+-- the number that stands when the sessions before it have made all their events, and no other session any.
+abbrev pub AreInTurn : Opened → List Event → ℕ → List Transcript → Type 0
+AreInTurn o events session [] = Unit {0}
+AreInTurn o events session (t ∷ ts) = TellsLogin (after_events o (earlier session events)).number t.replies × AreInTurn o events (session + 1) ts
+
+-- The source gave a script to its end, and the events and the book are those of a legal run of it, in which the sessions took turns.
 pub record IsRun (left left' : Option Bytes) (events : List Event) (book : RunBook) : Type 0 where
   pub text : Bytes
   pub script : List SessionCommands
@@ -44,6 +57,7 @@ pub record IsRun (left left' : Option Bytes) (events : List Event) (book : RunBo
   pub ended : IsAtEnd left'
   pub reads : ReadsScript text script
   pub legal : IsLegal (opened script) events book
+  pub in_turn : AreInTurn (opened script) events 1 book.transcripts
 
 -- nothing has run
 pub record IsBlank (events : List Event) (book : RunBook) : Type 0 where

@@ -2,7 +2,7 @@
 ghost use Rattle.std.specs.Prelude.{◌≡◌, ◌≤◌, [], IfOk, length};
 ghost use Rattle.shell_words.specs.Script.{most_sessions};
 ghost use Rattle.gem_meaning.specs.Legal.{IsLegal, AreTranscripts};
-ghost use Rattle.gem_server.specs.Server.{opened};
+ghost use Rattle.gem_server.specs.Server.{opened, AreInTurn};
 
 use crate::status::Events;
 use gem_replies::{RunBook, Transcript, Transcripts};
@@ -18,7 +18,8 @@ const FIRST_SERIAL: u32 = 1;
 
 // The book of a run of the script, and the events of its Stone.
 pub(crate) fn run(alloc: Global, script: Script) -> Result<(RunBook, Events), AllocError>
-    ensures { IfOk result (λ run. IsLegal (opened script) run.1 run.0) }
+    ensures legal { IfOk result (λ run. IsLegal (opened script) run.1 run.0) }
+    ensures in_turn { IfOk result (λ run. AreInTurn (opened script) run.1 1 run.0.transcripts) }
 {
     let script = Arc::new(alloc, script)?;
     let mut stone = Stone::start(alloc, Image::empty(alloc)?, 0, script.clone()?)?;
@@ -43,6 +44,7 @@ fn run_sessions(
     requires begun { stone.old.events ≡ [] }
     requires count { length sessions.now ≤ most_sessions }
     ensures transcripts { IfOk result (λ transcripts. AreTranscripts stone.new.opened stone.new.events 1 sessions.now transcripts.items) }
+    ensures in_turn { IfOk result (λ transcripts. AreInTurn stone.new.opened stone.new.events 1 transcripts.items) }
     ensures opened { stone.new.opened ≡ stone.old.opened }
 {
     let mut transcripts = Vec::new(alloc);

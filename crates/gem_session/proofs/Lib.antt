@@ -5,5 +5,6 @@ mod Chunks
 mod Commits
 mod Faults
 mod Told
+mod Logins
 mod Refusals
 mod Limits

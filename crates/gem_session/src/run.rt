@@ -8,6 +8,7 @@ ghost use Rattle.gem_meaning.specs.Session.{until_logout, is_user};
 ghost use Rattle.gem_meaning.specs.Legal.{IsTranscript};
 ghost use Rattle.stone_core.specs.Port.{IsAloneStill};
 ghost use Rattle.gem_session.specs.Running.{goes_on, Extends};
+ghost use Rattle.gem_session.specs.Login.{LogsIn};
 ghost use Rattle.gem_session.specs.Refused.{not_logged_in};
 
 use crate::session::Session;
@@ -38,6 +39,7 @@ pub fn run_session<P: StonePort>(
     requires session { (1 ≤ session) × (session ≤ length (P.opened port.old).script) }
     requires commands { slice_get (P.opened port.old).script (session - 1) ≡ Some commands.now }
     ensures transcript { IfOk result (λ transcript. IsTranscript (P.opened port.old) (P.seen port.new) session commands.now transcript) }
+    ensures login { IfOk result (λ transcript. LogsIn (P.opened port.old) session (P.seen port.old) (P.seen port.new) transcript.replies) }
     ensures extends { Extends (P.seen port.old) (P.seen port.new) }
     ensures opened { P.opened port.new ≡ P.opened port.old }
     ensures serves { (other : ℕ) → P.serves port.old other ≡ true → P.serves port.new other ≡ true }
@@ -70,6 +72,7 @@ fn serve<P: StonePort>(
     requires commands { slice_get (P.opened port.old).script (session - 1) ≡ Some commands.now }
     requires user { is_user commands.now.user ≡ true }
     ensures transcript { IfOk result (λ transcript. IsTranscript (P.opened port.old) (P.seen port.new) session commands.now transcript) }
+    ensures login { IfOk result (λ transcript. LogsIn (P.opened port.old) session (P.seen port.old) (P.seen port.new) transcript.replies) }
     ensures extends { Extends (P.seen port.old) (P.seen port.new) }
     ensures opened { P.opened port.new ≡ P.opened port.old }
     ensures serves { (other : ℕ) → P.serves port.old other ≡ true → P.serves port.new other ≡ true }
@@ -112,6 +115,7 @@ fn refuse<P: StonePort>(
     requires fresh { own session (P.seen port.old) ≡ [] }
     requires user { is_user commands.now.user ≡ false }
     ensures transcript { IfOk result (λ transcript. IsTranscript (P.opened port.old) (P.seen port.new) session commands.now transcript) }
+    ensures login { IfOk result (λ transcript. LogsIn (P.opened port.old) session (P.seen port.old) (P.seen port.new) transcript.replies) }
     ensures extends { Extends (P.seen port.old) (P.seen port.new) }
     ensures opened { P.opened port.new ≡ P.opened port.old }
     ensures serves { (other : ℕ) → P.serves port.old other ≡ true → P.serves port.new other ≡ true }

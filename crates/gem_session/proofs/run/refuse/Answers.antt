@@ -2,6 +2,7 @@ use Rattle.std.proofs.Common.{◌∙◌, refl, sym, ap}
 use Rattle.shell_words.specs.declared.script.Command.TheVariants.{Logout}
 use Rattle.gem_meaning.specs.Session.{until_logout}
 use Rattle.gem_session.proofs.Refusals.{refused, counted_commands}
+use Rattle.gem_session.proofs.Logins.{login_of_nobody}
 use Rattle.gem_session.proofs.run.refuse.Goals as goal
 
 pub returns-clause-transcript : goal.returns-clause-transcript
@@ -14,3 +15,7 @@ returns-clause-transcript g c =
       user_is = c.in_ok-clone.ensures.cases ∙ c.user.ensures;
       says = rw (c.of.ensures, c.in_ok-refusals.ensures) says;
     }
+
+pub returns-clause-login : goal.returns-clause-login
+returns-clause-login g c =
+    rw (c.of.ensures, c.in_ok-refusals.ensures) (login_of_nobody _ _ _ _ _ _ _ _ c.in_ok-begun.ensures.begun refl)

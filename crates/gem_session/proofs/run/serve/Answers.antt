@@ -1,4 +1,4 @@
-use Rattle.std.proofs.Common.{◌≡◌, ◌∙◌, ◌+◌, ◌-◌, true, refl, sym, ap, subst, ℕ, length, arith}
+use Rattle.std.proofs.Common.{◌≡◌, ◌∙◌, ◌+◌, ◌-◌, true, [], refl, sym, ap, subst, ℕ, length, arith}
 use Rattle.std.proofs.lemmas.Option.{slice_get_read}
 use Rattle.gem_replies.specs.declared.reply.Line.TheVariants.{Logout}
 use Rattle.gem_meaning.specs.Session.{until_logout}
@@ -6,6 +6,7 @@ use Rattle.stone_core.specs.Port.{IsAloneStill}
 use Rattle.gem_session.proofs.Limits.{short_at}
 use Rattle.gem_session.proofs.Own.{extends_twice, alone_twice}
 use Rattle.gem_session.proofs.Told.{command_at, told_login, told_reply, told_logout}
+use Rattle.gem_session.proofs.Logins.{login_of_user, login_stays, nothing_came}
 use Rattle.gem_session.proofs.run.serve.Goals as goal
 
 pub loop-command-init : goal.loop-command-init
@@ -18,6 +19,7 @@ loop-command-init g c =
       alone = c.begin.ensures.alone;
       counted = refl;
       told = rw (c.in_ok-push.ensures.items, c.new-replies.ensures.items) told;
+      login = rw (c.in_ok-push.ensures.items, c.new-replies.ensures.items) (login_of_user _ _ _ _ _ _ [] c.in_ok-running.ensures.begins.sees refl);
     }
 
 pub reply-requires-clause-serves : goal.reply-requires-clause-serves
@@ -52,6 +54,7 @@ loop-command-preserved g c =
       alone = alone_twice _ _ _ c.args.session _ _ _ i.alone (subst (λ (n : ℕ). IsAloneStill (g.P.StonePort.alone c.loop-command.port) n (g.P.StonePort.alone c.reply.new.port) (g.P.StonePort.seen c.loop-command.port) (g.P.StonePort.seen c.reply.new.port)) i.told.of_session c.reply.ensures.alone);
       counted = omega (arith, i.counted);
       told = rw c.in_ok-push-2.ensures.items told;
+      login = rw c.in_ok-push-2.ensures.items (login_stays _ _ _ _ _ _ _ i.login c.reply.ensures.extends);
     }
 
 pub returns-clause-transcript : goal.returns-clause-transcript
@@ -65,6 +68,10 @@ returns-clause-transcript g c =
       user_is = c.in_ok-clone.ensures.cases ∙ c.user.ensures;
       says = rw (c.of.ensures, c.in_ok-push-3.ensures.items) says;
     }
+
+pub returns-clause-login : goal.returns-clause-login
+returns-clause-login g c =
+    rw (c.of.ensures, c.in_ok-push-3.ensures.items) (login_stays _ _ _ _ _ _ _ c.loop-command.invariant.login (nothing_came _))
 
 pub returns-in_err-line-clause-alone : goal.returns-in_err-line-clause-alone
 returns-in_err-line-clause-alone g c =

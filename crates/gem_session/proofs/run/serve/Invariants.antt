@@ -1,6 +1,7 @@
 use Rattle.std.proofs.Common.{◌≡◌, ℕ, true}
 use Rattle.stone_core.specs.Port.{IsAloneStill}
 use Rattle.gem_session.specs.Running.{Extends}
+use Rattle.gem_session.specs.Login.{LogsIn}
 use Rattle.gem_session.proofs.Told.{Told}
 use Rattle.gem_session.proofs.run.serve.Given as goal
 
@@ -13,4 +14,5 @@ invariant-loop-command g l = record {
   counted : l.number ≡ l.command-index;
   told : Told (g.P.StonePort.opened l.fn.port) (g.P.StonePort.seen l.fn.port) (g.P.StonePort.seen l.port) l.session
       l.command-items l.command-index l.running l.replies.items;
+  login : LogsIn (g.P.StonePort.opened l.fn.port) l.session (g.P.StonePort.seen l.fn.port) (g.P.StonePort.seen l.port) l.replies.items;
 }
