@@ -1,6 +1,7 @@
 -- What the Stone was opened with, the events that changed it since, and what stands after them.
-use Rattle.std.specs.Prelude.{◌≡◌, ℕ, ◌+◌, ◌-◌, ◌==◌, List, [], ◌∷◌, ◌++◌, take, drop, Option, Some, None, nat_lt, if◌then◌else◌, get_or}
+use Rattle.std.specs.Prelude.{◌≡◌, ℕ, ℤ, ◌+◌, ◌-◌, ◌==◌, List, [], ◌∷◌, ◌++◌, take, drop, Option, Some, None, nat_lt, if◌then◌else◌, get_or}
 use Rattle.std.specs.List.{fold, filter, filter_map, slice_get}
+use Rattle.st_tree.specs.Trees.{Bytes}
 use Rattle.gem_value.specs.Image.{Image}
 use Rattle.gem_value.specs.declared.record.Entry.{Entry}
 use Rattle.gem_value.specs.declared.conflict.Conflict.{Conflict}
@@ -52,10 +53,14 @@ image_at s number = get_or (s.image ∷ s.earlier) (s.number - number) s.image
 unfoldable pub entry_run : Opened → Standing → Entry → Run
 entry_run o s e = transaction (entry_commands o.script e) s.image (image_at s e.view)
 
--- A commit sets what its transaction, run at this place, writes.
+-- the effect of a commit: what its transaction, run at this place, writes
+abbrev pub effect_of : Opened → Standing → Entry → List (Bytes × ℤ)
+effect_of o s e = written_of (entry_run o s e)
+
+-- A commit sets what its effect says.
 abbrev pub after_event : Opened → Standing → Event → Standing
 after_event o s (session, Placed e) = record {
-  image = with_written (written_of (entry_run o s e)) s.image;
+  image = with_written (effect_of o s e) s.image;
   earlier = s.image ∷ s.earlier;
   number = s.number + 1;
 }

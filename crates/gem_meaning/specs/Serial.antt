@@ -1,6 +1,6 @@
 -- Entries of the history that are transactions of the script, and the serial order: each one did at its place what it did on its view.
 use Rattle.std.specs.Prelude.{◌≡◌, ℕ, ◌-◌, ◌≤◌, ◌⊎◌, List, [], ◌∷◌, length, Option, Some}
-use Rattle.std.specs.List.{slice_get}
+use Rattle.std.specs.List.{AllByRecursion, slice_get}
 use Rattle.gem_value.specs.declared.record.Entry.{Entry}
 use Rattle.gem_value.specs.declared.record.TxnRecord.{TxnRecord}
 use Rattle.gem_value.specs.Entry.{entry_of}
@@ -17,13 +17,19 @@ EndsTransaction (Some Commit) = Unit {0}
 EndsTransaction (Some Abort) = Unit {0}
 EndsTransaction _ = ⊥
 
--- The entry names commands of its session that are one transaction: they end with a commit, and they begin with the session or
--- behind a commit or an abort.
+-- A transaction may go on behind this command: behind any but an abort, also behind a commit, which may have been refused.
+abbrev pub MayGoOn : Command → Type 0
+MayGoOn Abort = ⊥
+MayGoOn _ = Unit {0}
+
+-- The entry names commands of its session that are one transaction: they end with a commit, none of them is an abort, and they begin with the
+-- session or behind a commit or an abort. A logout is the last command of a session, by the rules of scripts.
 pub record IsTransaction (script : List SessionCommands) (e : Entry) : Type 0 where
   pub session : (1 ≤ e.session) × (e.session ≤ length script)
   pub first : (e.first_command ≡ 1) ⊎ ((2 ≤ e.first_command) × EndsTransaction (slice_get (commands_of script e.session) (e.first_command - 2)))
   pub order : e.first_command ≤ e.last_command
   pub last : slice_get (commands_of script e.session) (e.last_command - 1) ≡ Some Commit
+  pub whole : AllByRecursion MayGoOn (entry_commands script e)
 
 -- The entry is a transaction of this session, with a view that there was, and it replies and writes at its place what it does where
 -- all stands as at its view.

@@ -1,9 +1,10 @@
 -- The sessions of a script, one after another.
-use Rattle.std.proofs.Common.{◌≡◌, ◌≢◌, ◌∙◌, refl, sym, ap, subst, ℕ, ◌+◌, ◌≤◌, ◌<◌, List, [], ◌∷◌, ◌++◌, length, take, get_or, arith, length-take, length-append}
+use Rattle.std.proofs.Common.{◌≡◌, ◌≢◌, ◌∙◌, refl, sym, ap, subst, ℕ, ◌+◌, ◌≤◌, ◌<◌, List, [], ◌∷◌, ◌++◌, length, take, get_or, arith, length-take}
 use Rattle.std.proofs.lemmas.List.{take_more, take_all}
 use Rattle.shell_words.specs.Script.{SessionCommands}
 use Rattle.gem_replies.specs.declared.reply.Transcript.{Transcript}
 use Rattle.gem_meaning.specs.Events.{Event, own}
+use Rattle.gem_meaning.specs.Session.{Says}
 use Rattle.gem_meaning.specs.Legal.{IsTranscript, AreTranscripts}
 use Rattle.gem_meaning.proofs.Stays.{transcripts_stay, one_transcript}
 use Rattle.stone_core.specs.Told.{Told}
@@ -16,15 +17,13 @@ pub record HaveRun (start now : Told) (scripts : List SessionCommands) (count : 
   pub opened : now.opened ≡ start.opened
   pub transcripts : AreTranscripts now.opened now.events 1 (take count scripts) ts
   pub unbegun : (session : ℕ) → count < session → own session now.events ≡ []
-  pub counted : length ts ≡ count
-  pub in_turn : AreInTurn now.opened now.events 1 ts
+  pub in_turn : AreInTurn now.opened now.events 1 (take count scripts) ts
 
 pub none_has_run : (now : Told) (scripts : List SessionCommands) → now.events ≡ [] → HaveRun now now scripts 0 []
 none_has_run now scripts none = record {
   opened = refl;
   transcripts = tt;
   unbegun = λ session later. ap (own session) none;
-  counted = refl;
   in_turn = tt;
 }
 
@@ -57,17 +56,19 @@ one_session start before after scripts count ts script t more lt is ran same ext
     (subst (λ es. AreTranscripts before.opened es 1 (take count scripts) ts) (sym extends) stayed) here in
     let front : take count scripts ++ script ∷ [] ≡ take (count + 1) scripts =
     ap (λ s. take count scripts ++ s ∷ []) is ∙ sym (take_more scripts count script lt) in
+    let turns : AreInTurn before.opened (before.events ++ more) 1 (take count scripts ++ script ∷ []) (ts ++ t ∷ []) =
+    one_turn before.opened before.events more count (take count scripts) ts script t ran.unbegun
+    (λ session different. still_none session count before.events after.events more extends alone different) size ran.in_turn
+    (login_is before.opened count before.events after.events t.replies login alone)
+    (subst (λ es. Says before.opened es (count + 1) script t.replies) extends told.says) in
     record {
       opened = same ∙ ran.opened;
       transcripts = subst (λ o. AreTranscripts o after.events 1 (take (count + 1) scripts) (ts ++ t ∷ [])) (sym same)
           (subst (λ ss. AreTranscripts before.opened after.events 1 ss (ts ++ t ∷ [])) front all);
       unbegun = λ session later. alone session (not_earlier session count later) ∙ ran.unbegun session (omega (arith, later));
-      counted = length-append ts (t ∷ []) ∙ ap (λ (n : ℕ). n + 1) ran.counted;
-      in_turn = subst (λ o. AreInTurn o after.events 1 (ts ++ t ∷ [])) (sym same)
-          (subst (λ es. AreInTurn before.opened es 1 (ts ++ t ∷ [])) (sym extends)
-          (one_turn before.opened before.events more count ts t ran.unbegun
-          (λ session different. still_none session count before.events after.events more extends alone different) ran.counted ran.in_turn
-          (login_is before.opened count before.events after.events t.replies login alone)));
+      in_turn = subst (λ o. AreInTurn o after.events 1 (take (count + 1) scripts) (ts ++ t ∷ [])) (sym same)
+          (subst (λ ss. AreInTurn before.opened after.events 1 ss (ts ++ t ∷ [])) front
+          (subst (λ es. AreInTurn before.opened es 1 (take count scripts ++ script ∷ []) (ts ++ t ∷ [])) (sym extends) turns));
     }
 
 -- all sessions have run
@@ -75,3 +76,9 @@ pub all_have_run : (start now : Told) (scripts : List SessionCommands) (count : 
     → AreTranscripts now.opened now.events 1 scripts ts
 all_have_run start now scripts count ts over ran =
     subst (λ ss. AreTranscripts now.opened now.events 1 ss ts) (take_all count scripts over) ran.transcripts
+
+-- and all have taken their turns
+pub all_in_turn : (start now : Told) (scripts : List SessionCommands) (count : ℕ) (ts : List Transcript) → length scripts ≤ count → HaveRun start now scripts count ts
+    → AreInTurn now.opened now.events 1 scripts ts
+all_in_turn start now scripts count ts over ran =
+    subst (λ ss. AreInTurn now.opened now.events 1 ss ts) (take_all count scripts over) ran.in_turn

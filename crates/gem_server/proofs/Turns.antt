@@ -3,11 +3,14 @@ use Rattle.std.proofs.Common.{◌≡◌, ◌≢◌, ◌∙◌, refl, sym, ap, su
 use Rattle.std.proofs.lemmas.Bool.{eq-eqb, eqb-true, ltb-true, ltb-false}
 use Rattle.std.proofs.lemmas.List.{append_cancel_left}
 use Rattle.std.proofs.lemmas.List.Elements.{filter-append}
+use Rattle.shell_words.specs.Script.{SessionCommands}
 use Rattle.gem_replies.specs.declared.reply.Reply.{Reply}
 use Rattle.gem_replies.specs.declared.reply.Transcript.{Transcript}
 use Rattle.gem_meaning.specs.Events.{Opened, Event, own, after_events}
+use Rattle.gem_meaning.specs.Session.{Says}
+use Rattle.gem_meaning.proofs.Stays.{own_none}
 use Rattle.gem_session.specs.Login.{TellsLogin, LogsIn}
-use Rattle.gem_server.specs.Server.{earlier, AreInTurn}
+use Rattle.gem_server.specs.Server.{earlier, IsTurn, AreInTurn}
 
 -- a session that has as many events as before has none of the further ones
 pub nothing_more : (session : ℕ) (es more : List Event) → own session (es ++ more) ≡ own session es → own session more ≡ []
@@ -69,6 +72,12 @@ below session other under = go (nat_lt other session) refl
     go true is = refl
     go false is = absurd (under (ltb-false other session is))
 
+another : (other session : ℕ) → other < session → other ≢ session
+another other session lt is = absurd (omega (arith, lt, is))
+
+beyond : (other session : ℕ) → session < other → other ≢ session
+beyond other session lt is = absurd (omega (arith, lt, is))
+
 -- events of later sessions alone
 none_earlier : (session : ℕ) (es : List Event) → ((other : ℕ) → other < session → own other es ≡ []) → earlier session es ≡ []
 none_earlier session [] none = refl
@@ -88,35 +97,43 @@ earlier_stays session es more none =
     filter-append (λ event. nat_lt event.0 session) es more
     ∙ ap (λ xs. earlier session es ++ xs) (none_earlier session more none) ∙ append-nil (earlier session es)
 
--- The logins of sessions stay in turn when later sessions go on, and one more login is in turn.
-in_turn_so_far : (o : Opened) (es more : List Event) (first count : ℕ) (ts : List Transcript) (t : Transcript)
-    → ((other : ℕ) → other ≢ count → own other more ≡ []) → first + length ts ≡ count → AreInTurn o es first ts
-    → TellsLogin (after_events o (earlier count (es ++ more))).number t.replies → AreInTurn o (es ++ more) first (ts ++ t ∷ [])
-in_turn_so_far o es more first count [] t alone counted turn login =
-    let here : count ≡ first = omega (arith, counted) in
-    (subst (λ (n : ℕ). TellsLogin (after_events o (earlier n (es ++ more))).number t.replies) here login, tt)
-in_turn_so_far o es more first count (u ∷ us) t alone counted turn login =
-    let below : (other : ℕ) → other < first → own other more ≡ [] = λ other lt. alone other (not_count other (omega (arith, lt, counted))) in (
-      subst (λ xs. TellsLogin (after_events o xs).number u.replies) (sym (earlier_stays first es more below)) turn.0,
-      in_turn_so_far o es more (first + 1) count us t alone (omega (arith, counted)) turn.1 login,
+-- Sessions that took turns have taken them when a later session goes on, and one more turn follows theirs.
+one_turn_more : (o : Opened) (es more : List Event) (first session : ℕ) (scripts : List SessionCommands) (ts : List Transcript) (script : SessionCommands) (t : Transcript)
+    → ((other : ℕ) → other ≢ session → own other more ≡ []) → first + length scripts ≡ session → AreInTurn o es first scripts ts
+    → IsTurn o (earlier session (es ++ more)) (earlier (session + 1) (es ++ more)) session script t → AreInTurn o (es ++ more) first (scripts ++ script ∷ []) (ts ++ t ∷ [])
+one_turn_more o es more first session [] [] script t alone counted turns turn =
+    let here : session ≡ first = omega (arith, counted) in
+    (subst (λ (n : ℕ). IsTurn o (earlier n (es ++ more)) (earlier (n + 1) (es ++ more)) n script t) here turn, tt)
+one_turn_more o es more first session [] (u ∷ us) script t alone counted turns turn = absurd turns
+one_turn_more o es more first session (s ∷ ss) [] script t alone counted turns turn = absurd turns
+one_turn_more o es more first session (s ∷ ss) (u ∷ us) script t alone counted turns turn =
+    let before : earlier first (es ++ more) ≡ earlier first es = earlier_stays first es more (λ other lt. alone other (another other session (omega (arith, lt, counted)))) in
+    let after : earlier (first + 1) (es ++ more) ≡ earlier (first + 1) es =
+    earlier_stays (first + 1) es more (λ other lt. alone other (another other session (omega (arith, lt, counted)))) in (
+      record {
+        login = subst (λ xs. TellsLogin (after_events o xs).number u.replies) (sym before) turns.0.login;
+        says = subst (λ xs. Says o xs first s u.replies) (sym after) turns.0.says;
+      },
+      one_turn_more o es more (first + 1) session ss us script t alone (omega (arith, counted)) turns.1 turn,
     )
-  where
-    not_count : (other : ℕ) → other < count → other ≢ count
-    not_count other lt is = absurd (omega (arith, lt, is))
 
 -- one session more has taken its turn
-pub one_turn : (o : Opened) (es more : List Event) (count : ℕ) (ts : List Transcript) (t : Transcript)
+pub one_turn : (o : Opened) (es more : List Event) (count : ℕ) (scripts : List SessionCommands) (ts : List Transcript) (script : SessionCommands) (t : Transcript)
     → ((session : ℕ) → count < session → own session es ≡ []) → ((session : ℕ) → session ≢ count + 1 → own session more ≡ [])
-    → length ts ≡ count → AreInTurn o es 1 ts → TellsLogin (after_events o es).number t.replies → AreInTurn o (es ++ more) 1 (ts ++ t ∷ [])
-one_turn o es more count ts t unbegun alone counted turn login =
+    → length scripts ≡ count → AreInTurn o es 1 scripts ts → TellsLogin (after_events o es).number t.replies → Says o (es ++ more) (count + 1) script t.replies
+    → AreInTurn o (es ++ more) 1 (scripts ++ script ∷ []) (ts ++ t ∷ [])
+one_turn o es more count scripts ts script t unbegun alone counted turns login says =
     let before : earlier (count + 1) (es ++ more) ≡ es =
-    earlier_stays (count + 1) es more (λ other lt. alone other (not_here other lt))
+    earlier_stays (count + 1) es more (λ other lt. alone other (another other (count + 1) lt))
     ∙ all_earlier (count + 1) es (λ other le. unbegun other (omega (arith, le))) in
-    in_turn_so_far o es more 1 (count + 1) ts t alone (omega (arith, counted)) turn
-    (subst (λ xs. TellsLogin (after_events o xs).number t.replies) (sym before) login)
-  where
-    not_here : (other : ℕ) → other < count + 1 → other ≢ count + 1
-    not_here other lt is = absurd (omega (arith, lt, is))
+    let after : earlier (count + 1 + 1) (es ++ more) ≡ es ++ more =
+    all_earlier (count + 1 + 1) (es ++ more)
+    (λ other le. own_none other es more (unbegun other (omega (arith, le))) (alone other (beyond other (count + 1) (omega (arith, le))))) in
+    one_turn_more o es more 1 (count + 1) scripts ts script t alone (omega (arith, counted)) turns
+    (record {
+      login = subst (λ xs. TellsLogin (after_events o xs).number t.replies) (sym before) login;
+      says = subst (λ xs. Says o xs (count + 1) script t.replies) (sym after) says;
+    })
 
 -- Where no other session has a further event, those of others that a login has seen are none.
 others_none : (count session : ℕ) (before others rest : List Event) (same : Bool) → (session == count + 1) ≡ same → own (count + 1) others ≡ []

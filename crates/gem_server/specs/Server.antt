@@ -9,6 +9,7 @@ use Rattle.shell_words.specs.ScriptGrammar.{ReadsScript}
 use Rattle.gem_replies.specs.declared.reply.RunBook.{RunBook}
 use Rattle.gem_replies.specs.declared.reply.Transcript.{Transcript}
 use Rattle.gem_meaning.specs.Events.{Opened, Event, after_events}
+use Rattle.gem_meaning.specs.Session.{Says}
 use Rattle.gem_meaning.specs.Legal.{IsLegal}
 use Rattle.gem_session.specs.Login.{TellsLogin}
 use Rattle.gem_server.specs.declared.status.Status.{Status}
@@ -43,11 +44,19 @@ opened script = record { image = map.empty; number = 0; script = script }
 abbrev pub earlier : ℕ → List Event → List Event
 earlier session events = filter (λ event. nat_lt event.0 session) events
 
--- The sessions ran one after another, in the order of the script: each login, the first of which is of the session with this number, tells
--- the number that stands when the sessions before it have made all their events, and no other session any.
-abbrev pub AreInTurn : Opened → List Event → ℕ → List Transcript → Type 0
-AreInTurn o events session [] = Unit {0}
-AreInTurn o events session (t ∷ ts) = TellsLogin (after_events o (earlier session events)).number t.replies × AreInTurn o events (session + 1) ts
+-- A session's turn: its login tells the number that stands behind the events before it, and what it says it says by those after it.
+pub record IsTurn (o : Opened) (before after : List Event) (session : ℕ) (script : SessionCommands) (t : Transcript) : Type 0 where
+  pub login : TellsLogin (after_events o before).number t.replies
+  pub says : Says o after session script t.replies
+
+-- The sessions, whose numbers go on from this one, took turns in the order of the script: each logged in when the sessions before it had made
+-- all their events, and said what it said by these and its own events alone.
+abbrev pub AreInTurn : Opened → List Event → ℕ → List SessionCommands → List Transcript → Type 0
+AreInTurn o events session [] [] = Unit {0}
+AreInTurn o events session (script ∷ scripts) (t ∷ ts) = IsTurn o (earlier session events) (earlier (session + 1) events) session script t
+    × AreInTurn o events (session + 1) scripts ts
+AreInTurn o events session [] (t ∷ ts) = ⊥
+AreInTurn o events session (script ∷ scripts) [] = ⊥
 
 -- The source gave a script to its end, and the events and the book are those of a legal run of it, in which the sessions took turns.
 pub record IsRun (left left' : Option Bytes) (events : List Event) (book : RunBook) : Type 0 where
@@ -57,7 +66,7 @@ pub record IsRun (left left' : Option Bytes) (events : List Event) (book : RunBo
   pub ended : IsAtEnd left'
   pub reads : ReadsScript text script
   pub legal : IsLegal (opened script) events book
-  pub in_turn : AreInTurn (opened script) events 1 book.transcripts
+  pub in_turn : AreInTurn (opened script) events 1 script book.transcripts
 
 -- nothing has run
 pub record IsBlank (events : List Event) (book : RunBook) : Type 0 where

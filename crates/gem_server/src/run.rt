@@ -19,7 +19,7 @@ const FIRST_SERIAL: u32 = 1;
 // The book of a run of the script, and the events of its Stone.
 pub(crate) fn run(alloc: Global, script: Script) -> Result<(RunBook, Events), AllocError>
     ensures legal { IfOk result (λ run. IsLegal (opened script) run.1 run.0) }
-    ensures in_turn { IfOk result (λ run. AreInTurn (opened script) run.1 1 run.0.transcripts) }
+    ensures in_turn { IfOk result (λ run. AreInTurn (opened script) run.1 1 script run.0.transcripts) }
 {
     let script = Arc::new(alloc, script)?;
     let mut stone = Stone::start(alloc, Image::empty(alloc)?, 0, script.clone()?)?;
@@ -44,7 +44,7 @@ fn run_sessions(
     requires begun { stone.old.events ≡ [] }
     requires count { length sessions.now ≤ most_sessions }
     ensures transcripts { IfOk result (λ transcripts. AreTranscripts stone.new.opened stone.new.events 1 sessions.now transcripts.items) }
-    ensures in_turn { IfOk result (λ transcripts. AreInTurn stone.new.opened stone.new.events 1 transcripts.items) }
+    ensures in_turn { IfOk result (λ transcripts. AreInTurn stone.new.opened stone.new.events 1 sessions.now transcripts.items) }
     ensures opened { stone.new.opened ≡ stone.old.opened }
 {
     let mut transcripts = Vec::new(alloc);

@@ -51,6 +51,10 @@ fn scripts_and_their_reports(rt: HostRuntime) -> Result<(), Fail> {
             "session 1 Nobody\n[0] no user at view 0\n[1] not logged in\n[2] not logged in\ncommits 0\n",
         ),
         (
+            "session DataCurator\nrun\nGlobals at: #T put: 1\n%\ncommit\nsession Nobody\nprintit\nT\n%\nlogout\n",
+            "session 1 DataCurator\n[0] login view 0\n[1] ok\n[2] committed 1 view 1\n[3] logout\nsession 2 Nobody\n[0] no user at view 1\n[1] not logged in\n[2] not logged in\ncommits 1\n1 session 1 transaction 1 view 0\n",
+        ),
+        (
             "session DataCurator\nprintit\n3 - -4\n%\nrun\nGlobals at: #T:u: put: 3\n%\nrun\nGlobals at: #Array put: 3\n%\nrun\nGlobals at: #t put: 3\n%\ncommit\n",
             "session 1 DataCurator\n[0] login view 0\n[1] not built\n[2] not built\n[3] not built\n[4] not built\n[5] committed unchanged at 0 view 0\n[6] logout\ncommits 0\n",
         ),

@@ -1,6 +1,6 @@
 -- The commands of a transaction so far, and what they do.
-use Rattle.std.proofs.Common.{◌≡◌, ◌∙◌, refl, sym, ap, ℕ, ◌+◌, ◌-◌, ◌≤◌, ◌<◌, true, false, Some, List, [], ◌∷◌, ◌++◌, take, drop, length, arith}
-use Rattle.std.specs.List.{fold, slice_get}
+use Rattle.std.proofs.Common.{◌≡◌, ◌∙◌, refl, sym, ap, subst, ℕ, ◌+◌, ◌-◌, ◌≤◌, ◌<◌, true, false, Some, List, [], ◌∷◌, ◌++◌, take, drop, length, arith}
+use Rattle.std.specs.List.{AllByRecursion, fold, slice_get}
 use Rattle.std.proofs.lemmas.Bool.{true≢false}
 use Rattle.std.proofs.lemmas.List.{append-nil, drop-append-le, drop_all, length-take, take_more}
 use Rattle.std.proofs.lemmas.List.Elements.{filter-append}
@@ -11,6 +11,8 @@ use Rattle.shell_words.specs.declared.script.Command.{Command}
 use Rattle.shell_words.specs.declared.script.Command.TheVariants.{Chunk, Method, Commit, Abort, Logout, Lock, Unlock}
 use Rattle.gem_meaning.specs.Transaction.{Run, did, begun_run, transaction}
 use Rattle.gem_meaning.specs.Events.{Opened, commands_of}
+use Rattle.gem_meaning.specs.Serial.{MayGoOn}
+use Rattle.stone_core.proofs.OneMore.{all_one_more}
 use Rattle.gem_session.specs.declared.session.Session.{Session}
 use Rattle.gem_session.specs.Running.{is_done_within, done_of, commands_between, carried}
 
@@ -32,6 +34,24 @@ between_more o session first number c is low le =
 pub between_none : (o : Opened) (session first : ℕ) → commands_between o session first first ≡ []
 between_none o session first =
     drop_all (first - 1) (take (first - 1) (commands_of o.script session)) (omega (arith, length-take (first - 1) (commands_of o.script session)))
+
+-- no command of the transaction is an abort, with one more
+pub whole_more : (o : Opened) (session first number : ℕ) (c : Command) → slice_get (commands_of o.script session) (number - 1) ≡ Some c →
+    1 ≤ first → first ≤ number → MayGoOn c → AllByRecursion MayGoOn (commands_between o session first number) →
+    AllByRecursion MayGoOn (commands_between o session first (number + 1))
+whole_more o session first number c is low le one whole =
+    subst (AllByRecursion MayGoOn) (sym (between_more o session first number c is low le))
+    (all_one_more MayGoOn (commands_between o session first number) c whole one)
+
+-- nor of the transaction with the commit that ends it
+pub entry_goes_on : (o : Opened) (session first number : ℕ) → slice_get (commands_of o.script session) (number - 1) ≡ Some Commit → 1 ≤ first → first ≤ number →
+    AllByRecursion MayGoOn (commands_between o session first number) → AllByRecursion MayGoOn (drop (first - 1) (take number (commands_of o.script session)))
+entry_goes_on o session first number is low le whole =
+    let one : number ≡ number - 1 + 1 = omega arith in
+    let commands = commands_of o.script session in
+    let cut : drop (first - 1) (take number commands) ≡ commands_between o session first number ++ Commit ∷ [] =
+    ap (λ (n : ℕ). drop (first - 1) (take n commands)) one ∙ cut_more commands (first - 1) (number - 1) Commit is (omega arith) in
+    subst (AllByRecursion MayGoOn) (sym cut) (all_one_more MayGoOn (commands_between o session first number) Commit whole tt)
 
 one_chunk : (c : Command) → is_done_within c ≡ true → done_of (c ∷ []) ≡ c ∷ []
 one_chunk (Chunk prints text) is = refl

@@ -1,7 +1,7 @@
 -- A session's transaction begins, runs chunks, and stays.
 use Rattle.std.proofs.Common.{◌≡◌, ◌∙◌, refl, sym, ap, subst, if◌then◌else◌, ℕ, ◌+◌, ◌-◌, ◌≤◌, Bool, true, false, Some, None, Result, Ok, Err, List, [], length, arith, inl, inr}
 use Rattle.std.proofs.lemmas.Bool.{true≢false}
-use Rattle.std.specs.List.{slice_get}
+use Rattle.std.specs.List.{AllByRecursion, slice_get}
 use Rattle.st_tree.specs.Trees.{Bytes, Program}
 use Rattle.gem_value.specs.Image.{Image}
 use Rattle.gem_replies.specs.declared.reply.Line.{Line}
@@ -15,6 +15,7 @@ use Rattle.gem_meaning.specs.State.{State, begun}
 use Rattle.gem_meaning.specs.Meaning.{Ended, run}
 use Rattle.gem_meaning.specs.Transaction.{reply_and_state, run_parsed, run_chunk, parsed_line, method_line, transaction}
 use Rattle.gem_meaning.specs.Events.{Opened, Event, image_at, after_events, commands_of}
+use Rattle.gem_meaning.specs.Serial.{MayGoOn}
 use Rattle.gem_meaning.specs.Session.{SessionState, run_so_far, with_command, IsChunkReply, ChunkSays, MethodSays}
 use Rattle.stone_core.specs.Port.{BeginSays}
 use Rattle.gem_session.specs.declared.session.Session.{Session}
@@ -22,7 +23,7 @@ use Rattle.gem_session.specs.Running.{done_of, commands_between, carried, MayBeg
 use Rattle.stone_core.proofs.Views.{number_stays, views_stay}
 use Rattle.gem_session.proofs.Grown.{number_from, newest}
 use Rattle.gem_session.proofs.Own.{nobody_came, extends_by}
-use Rattle.gem_session.proofs.Between.{between_none, carried_kept, ran_more, transaction_more, transaction_none}
+use Rattle.gem_session.proofs.Between.{between_none, whole_more, carried_kept, ran_more, transaction_more, transaction_none}
 
 -- what the transaction does stays when events come
 pub run_stays : (o : Opened) (es es' : List Event) (s : SessionState) → Extends es es' → o.number ≤ s.view → s.view ≤ (after_events o es).number →
@@ -36,15 +37,17 @@ pub number_on : (o : Opened) (es es' : List Event) → Extends es es' → (after
 number_on o es es' more = subst (λ x. (after_events o es).number ≤ (after_events o x).number) (sym more.1) (number_stays o es more.0)
 
 -- a command that left the session as it was
-pub stands_kept : (o : Opened) (es es' : List Event) (number : ℕ) (s : Session) → StandsBefore o es number s →
+pub stands_kept : (o : Opened) (es es' : List Event) (number : ℕ) (s : Session) (c : Command) →
+    slice_get (commands_of o.script s.session) (number - 1) ≡ Some c → MayGoOn c → StandsBefore o es number s →
     carried o (number + 1) s ≡ carried o number s → Extends es es' → StandsBefore o es' (number + 1) s
-stands_kept o es es' number s stands kept more = record {
+stands_kept o es es' number s c is one stands kept more = record {
   session = stands.session;
   from = stands.from;
   to = omega (arith, stands.to, number_on o es es' more);
   begins = stands.begins;
   first = (stands.first.0, omega (arith, stands.first.1));
   transaction = omega (arith, stands.transaction);
+  whole = whole_more o s.session s.first_command number c is stands.first.0 stands.first.1 one stands.whole;
   state = λ calm. stands.state calm
       ∙ ap (λ r. r.state) (sym (run_stays o es es' (carried o number s) more stands.from stands.to))
       ∙ ap (λ t. (run_so_far o es' t).state) (sym kept);
@@ -103,6 +106,7 @@ short_at o es number s prints text state is stands = record {
     begins = stands.begins;
     first = (stands.first.0, omega (arith, stands.first.1));
     transaction = omega (arith, stands.transaction);
+    whole = whole_more o s.session s.first_command number (Chunk prints text) is stands.first.0 stands.first.1 tt stands.whole;
     state = λ calm. absurd (true≢false calm);
   };
 }
@@ -141,6 +145,7 @@ whole_at o es number s prints text line state is stands ran =
         begins = stands.begins;
         first = (stands.first.0, omega (arith, stands.first.1));
         transaction = omega (arith, stands.transaction);
+        whole = whole_more o s.session s.first_command number (Chunk prints text) is stands.first.0 stands.first.1 tt stands.whole;
         state = λ calm. of_state ∙ ap (λ x. (run_chunk prints text x).1) (stands.state calm)
             ∙ ap (λ r. r.state) (sym (transaction_more before (Chunk prints text) image image))
             ∙ ap (λ ran. (transaction ran image image).state) (sym more);
@@ -194,6 +199,7 @@ method_short o es number s class_side class text is stands = record {
     begins = stands.begins;
     first = (stands.first.0, omega (arith, stands.first.1));
     transaction = omega (arith, stands.transaction);
+    whole = whole_more o s.session s.first_command number (Method class_side class text) is stands.first.0 stands.first.1 tt stands.whole;
     state = λ calm. absurd (true≢false calm);
   };
 }
@@ -220,6 +226,7 @@ method_told o es number s class_side class text is stands =
         begins = stands.begins;
         first = (stands.first.0, omega (arith, stands.first.1));
         transaction = omega (arith, stands.transaction);
+        whole = whole_more o s.session s.first_command number (Method class_side class text) is stands.first.0 stands.first.1 tt stands.whole;
         state = λ calm. stands.state calm
             ∙ ap (λ r. r.state) (sym (transaction_more before (Method class_side class text) image image))
             ∙ ap (λ ran. (transaction ran image image).state) (sym more);
@@ -245,7 +252,7 @@ lock_not_built o es number s write name is stands =
     record {
       of_session = refl;
       says = (refl, kept);
-      stands = stands_kept o es es number s stands kept (extends_by s.session es es (nobody_came s.session es));
+      stands = stands_kept o es es number s (Lock write name) is tt stands kept (extends_by s.session es es (nobody_came s.session es));
     }
 
 pub unlock_not_built : (o : Opened) (es : List Event) (number : ℕ) (s : Session) (name : Bytes) →
@@ -255,7 +262,7 @@ unlock_not_built o es number s name is stands =
     record {
       of_session = refl;
       says = (refl, kept);
-      stands = stands_kept o es es number s stands kept (extends_by s.session es es (nobody_came s.session es));
+      stands = stands_kept o es es number s (Unlock name) is tt stands kept (extends_by s.session es es (nobody_came s.session es));
     }
 
 -- a transaction that begins at what stands
@@ -279,6 +286,7 @@ begins_at o session es es' image number counter first state fresh says range may
         begins = may;
         first = (low, omega arith);
         transaction = le;
+        whole = subst (AllByRecursion MayGoOn) (sym (between_none o session first)) tt;
         state = λ calm. fresh ∙ ap begun view ∙ ap (λ r. r.state) (sym (transaction_none here here))
             ∙ ap (λ ran. (transaction ran here here).state) (sym none);
       };
@@ -292,5 +300,5 @@ logged_out o es number s is stands =
     record {
       of_session = refl;
       says = (refl, kept);
-      stands = stands_kept o es es number s stands kept (extends_by s.session es es (nobody_came s.session es));
+      stands = stands_kept o es es number s Logout is tt stands kept (extends_by s.session es es (nobody_came s.session es));
     }

@@ -18,7 +18,7 @@ use Rattle.stone_core.specs.declared.port.CommitAnswer.TheVariants.{ReadOnly, Co
 use Rattle.gem_session.specs.declared.session.Session.{Session}
 use Rattle.gem_session.specs.Running.{done_of, commands_between, carried, StandsBefore, Begins, Replied}
 use Rattle.gem_session.proofs.Own.{nobody_came, came_and_came, extends_by}
-use Rattle.gem_session.proofs.Between.{cut_more, carried_kept, transaction_chunks, transaction_more}
+use Rattle.gem_session.proofs.Between.{cut_more, entry_goes_on, carried_kept, transaction_chunks, transaction_more}
 use Rattle.gem_session.proofs.Chunks.{stands_kept}
 
 -- the commands of the entry do what the chunks so far did
@@ -56,7 +56,7 @@ pub recorded : (o : Opened) (es : List Event) (number : ℕ) (s : Session) (writ
 recorded o es number s written stands calm wrote is =
     let image = image_at (after_events o es) s.view in
     record {
-      of_script = record { session = stands.session; first = stands.begins; order = stands.first.1; last = is };
+      of_script = record { session = stands.session; first = stands.begins; order = stands.first.1; last = is; whole = entry_goes_on o s.session s.first_command number is stands.first.0 stands.first.1 stands.whole };
       from = stands.from;
       to = stands.to;
       written = wrote ∙ so_far o es number s stands calm
@@ -72,7 +72,7 @@ pub commit_spoiled : (o : Opened) (es : List Event) (number : ℕ) (s : Session)
 commit_spoiled o es number s stands spoiled is = record {
   of_session = refl;
   says = (spoiled, refl, kept_at o es number s stands is);
-  stands = stands_kept o es es number s stands (kept_at o es number s stands is) (extends_by s.session es es (nobody_came s.session es));
+  stands = stands_kept o es es number s Commit is tt stands (kept_at o es number s stands is) (extends_by s.session es es (nobody_came s.session es));
 }
 
 pub commit_short : (o : Opened) (es es' : List Event) (number : ℕ) (s : Session) → StandsBefore o es number s → s.spoiled ≡ false →
@@ -80,7 +80,7 @@ pub commit_short : (o : Opened) (es es' : List Event) (number : ℕ) (s : Sessio
 commit_short o es es' number s stands calm is came = record {
   of_session = refl;
   says = (calm, came, kept_at o es number s stands is);
-  stands = stands_kept o es es' number s stands (kept_at o es number s stands is) (extends_by s.session es es' came);
+  stands = stands_kept o es es' number s Commit is tt stands (kept_at o es number s stands is) (extends_by s.session es es' came);
 }
 
 pub commit_starved : (o : Opened) (es es' : List Event) (number : ℕ) (s : Session) (written : List (Bytes × ℤ)) → StandsBefore o es number s →
@@ -106,7 +106,7 @@ commit_refused o es es' number s written found stands calm is wrote says =
         says.3.2 ∙ ap (λ x. conflicts_at (after_events o x) s.view) (sym end),
         kept,
       );
-      stands = stands_kept o es es' number s stands kept (extends_by s.session es es' came);
+      stands = stands_kept o es es' number s Commit is tt stands kept (extends_by s.session es es' came);
     }
 
 pub commit_unchanged : (o : Opened) (es es' es'' : List Event) (number : ℕ) (s : Session) (written : List (Bytes × ℤ)) (at : ℕ) (s' : Session) →

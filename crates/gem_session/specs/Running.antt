@@ -1,6 +1,6 @@
 -- What the fields of a running session stand for, and what each of its commands does to them.
 use Rattle.std.specs.Prelude.{◌≡◌, ℕ, ◌+◌, ◌-◌, ◌≤◌, ◌<◌, ◌⊎◌, Bool, true, false, not, List, ◌++◌, length, take, drop}
-use Rattle.std.specs.List.{filter, slice_get}
+use Rattle.std.specs.List.{AllByRecursion, filter, slice_get}
 use Rattle.st_tree.specs.Trees.{Bytes}
 use Rattle.shell_words.specs.Script.{command_limit}
 use Rattle.gem_replies.specs.declared.reply.Line.{Line}
@@ -10,7 +10,7 @@ use Rattle.shell_words.specs.declared.script.Command.{Command}
 use Rattle.shell_words.specs.declared.script.Command.TheVariants.{Chunk, Method}
 use Rattle.gem_meaning.specs.Transaction.{run_chunk, method_line}
 use Rattle.gem_meaning.specs.Events.{Opened, Event, commands_of, after_events}
-use Rattle.gem_meaning.specs.Serial.{EndsTransaction}
+use Rattle.gem_meaning.specs.Serial.{EndsTransaction, MayGoOn}
 use Rattle.gem_meaning.specs.Session.{SessionState, begun_at, run_so_far, SeesNumber, CommandSays}
 use Rattle.gem_session.specs.declared.session.Session.{Session}
 
@@ -45,8 +45,8 @@ carried o number s = record {
 abbrev pub MayBegin : Opened → (session number : ℕ) → Type 0
 MayBegin o session number = (number ≡ 1) ⊎ ((2 ≤ number) × EndsTransaction (slice_get (commands_of o.script session) (number - 2)))
 
--- The session stands before the command with this number: its view is one that there was, and its state is what the transaction
--- so far did, unless it is spoiled.
+-- The session stands before the command with this number: its view is one that there was, no command of its transaction is an abort, and its
+-- state is what the transaction so far did, unless it is spoiled.
 pub record StandsBefore (o : Opened) (events : List Event) (number : ℕ) (s : Session) : Type 0 where
   pub session : (1 ≤ s.session) × (s.session ≤ length o.script)
   pub from : o.number ≤ s.view
@@ -54,6 +54,7 @@ pub record StandsBefore (o : Opened) (events : List Event) (number : ℕ) (s : S
   pub begins : MayBegin o s.session s.first_command
   pub first : (1 ≤ s.first_command) × (s.first_command ≤ number)
   pub transaction : s.transaction ≤ number
+  pub whole : AllByRecursion MayGoOn (commands_between o s.session s.first_command number)
   pub state : s.spoiled ≡ false → s.state ≡ (run_so_far o events (carried o number s)).state
 
 -- The session's transaction with this number began, with this first command, at the view that stands then.

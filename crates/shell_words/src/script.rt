@@ -32,7 +32,7 @@ pub enum Command {
         class: Text,
         text: Text,
     },
-    /// Ends the transaction and asks the Stone to keep what it did.
+    /// Asks the Stone to keep what the transaction did. Where it does, or nothing was written, the transaction ends.
     Commit,
     /// Ends the transaction and forgets what it did.
     Abort,

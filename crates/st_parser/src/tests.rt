@@ -1,5 +1,6 @@
 use crate::{ParseFault, parse_chunk, parse_method};
 use st_tree::{Literal, Primary, Tree};
+use std::alloc::{AllocError, Global};
 use std::test::Fail;
 
 fn fault_of(parsed: Result<Tree, ParseFault>) -> Option<(u32, u8)> {
@@ -76,10 +77,29 @@ fn deep(rt: HostRuntime) -> Result<(), Fail> {
     }
     assert!(rt; text.len() < 10_000);
     assert_eq!(rt; fault_of(parse_chunk(alloc, &text)), None);
-    let text = vec![in alloc; b'('; 201]?;
-    assert!(rt; text.len() < 10_000);
-    assert_eq!(rt; fault_of(parse_chunk(alloc, &text)), Some((200, 9)));
+    // What stands before 201 pieces, the piece, and the place of the bracket that is one too many.
+    let table: [(&[u8], &[u8], u32); 6] = [
+        (b"", b"(", 200),
+        (b"", b"[", 200),
+        (b"", b"#(", 400),
+        (b"#(", b"(", 201),
+        (b"x := ", b"([", 205),
+        (b"[ :x | ", b"x foo: #(1) bar: (", 3596),
+    ];
+    for (front, piece, at) in &table {
+        let text = repeated(alloc, front, piece)?;
+        assert!(rt; text.len() < 10_000);
+        assert_eq!(rt; fault_of(parse_chunk(alloc, &text)), Some((*at, 9)));
+    }
     Ok(())
+}
+
+fn repeated(alloc: Global, front: &[u8], piece: &[u8]) -> Result<Vec<u8>, AllocError> {
+    let mut text = front.to_vec(alloc)?;
+    for _ in 0..201 {
+        text.extend_from_slice(piece)?;
+    }
+    Ok(text)
 }
 
 // A chunk of 65,536 bytes.

@@ -29,6 +29,7 @@ alone image number user = record {
   first = inl refl;
   order = omega arith;
   last = refl;
+  whole = (tt, tt);
 }
 
 nothing_is_written : (image : Image) → written_of (transaction (Commit ∷ []) image image) ≡ []

@@ -29,7 +29,7 @@ pub serial_one_more : (o : Opened) (events : List Event) (event : Event) → IsS
 unfolding IsSerial after_events
 serial_one_more o events event serial next = serial_from o (before_events o) events event serial next
 
-all_one_more : {A : Type 0} (P : A → Type 0) (xs : List A) (x : A) → AllByRecursion P xs → P x → AllByRecursion P (xs ++ x ∷ [])
+pub all_one_more : {A : Type 0} (P : A → Type 0) (xs : List A) (x : A) → AllByRecursion P xs → P x → AllByRecursion P (xs ++ x ∷ [])
 all_one_more P [] x all one = (one, tt)
 all_one_more P (y ∷ ys) x all one = (all.0, all_one_more P ys x all.1 one)
 

@@ -69,7 +69,7 @@ written_once text value image sets =
 first_at_opening : (image : Image) → IsRecorded (opened image) [] (setter 1 (pos 5))
 unfolding after_events
 first_at_opening image = record {
-  of_script = record { session = (omega arith, omega arith); first = inl refl; order = omega arith; last = refl };
+  of_script = record { session = (omega arith, omega arith); first = inl refl; order = omega arith; last = refl; whole = (tt, (tt, tt)) };
   from = omega arith;
   to = omega arith;
   written = sym (written_once puts_five (pos 5) image five_is_set);
@@ -78,7 +78,7 @@ first_at_opening image = record {
 second_at_opening : (image : Image) → IsRecorded (opened image) [] (setter 2 (pos 6))
 unfolding after_events
 second_at_opening image = record {
-  of_script = record { session = (omega arith, omega arith); first = inl refl; order = omega arith; last = refl };
+  of_script = record { session = (omega arith, omega arith); first = inl refl; order = omega arith; last = refl; whole = (tt, (tt, tt)) };
   from = omega arith;
   to = omega arith;
   written = sym (written_once puts_six (pos 6) image six_is_set);
