@@ -6,7 +6,7 @@ use Rattle.std.specs.List.{AllByRecursion, insert, remove}
 use Rattle.std.specs.Ordering.{is_eq, match_ordering}
 use Rattle.std.specs.declared.cmp.Ordering.TheVariants.{Less, Equal, Greater}
 use Rattle.rc_counter_bag.specs.Bag.{one_more, one_less, count, added, removed}
-use Rattle.rc_counter_bag.specs.Place.{StandsAt, FitsAt}
+use Rattle.sorted_pairs.specs.Place.{StandsAt, FitsAt}
 
 -- what holds holds on an error too
 pub on_error : {X E : Type 0} (r : Result X E) (P : Type 0) → P → OnErr r P

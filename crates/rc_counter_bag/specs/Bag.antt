@@ -1,9 +1,9 @@
 -- A bag as the list of its items with their occurrences; what an update leaves of it, and what a merge of updates does.
-use Rattle.std.specs.Prelude.{ℕ, ◌+◌, ◌-◌, ◌^◌, ◌<◌, ◌==◌, min, Bool, false, if◌then◌else◌, List, [], ◌∷◌, map, sum_by, Option, Some, None, option_map, Result, Ok, Err}
+use Rattle.std.specs.Prelude.{ℕ, ◌+◌, ◌-◌, ◌^◌, ◌<◌, ◌==◌, min, Bool, false, if◌then◌else◌, List, [], ◌∷◌, sum_by, Option, Some, None, option_map, Result, Ok, Err}
 use Rattle.std.specs.declared.cmp.Ordering.{Ordering}
 use Rattle.std.specs.List.{AllByRecursion}
-use Rattle.std.specs.List.Sorted.{IsStrictlySortedBy}
 use Rattle.std.specs.Ordering.{is_eq, match_ordering}
+use Rattle.sorted_pairs.specs.Place.{Ascends}
 use Rattle.rc_counter_bag.specs.declared.update.BagUpdate.{BagUpdate}
 use Rattle.rc_counter_bag.specs.declared.update.BagUpdate.TheVariants.{Add, Remove}
 
@@ -28,7 +28,7 @@ module _ {T : Type 0} where
   module _ (cmp : T → T → Ordering) where
     -- the items ascend strictly, and each occurs
     pub record IsBag (pairs : List (T × ℕ)) : Type 0 where
-      pub ascends : IsStrictlySortedBy cmp (map (λ pair. pair.0) pairs)
+      pub ascends : Ascends cmp pairs
       pub occur : AllByRecursion (λ pair. 0 < pair.1) pairs
 
     -- how often the item occurs

@@ -1,4 +1,3 @@
 pub mod Bag
 pub mod Counter
-pub mod Place
 pub mod Turns

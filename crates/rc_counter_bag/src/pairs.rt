@@ -1,20 +1,9 @@
-ghost use Rattle.std.specs.Prelude.{◌≡◌, ◌↔◌, ◌<◌, ℕ, map, length, false, Some, None, Ok, Err, IsTrue, IfOk, IfErr, OnOk, OnErr, IsErrOf};
-ghost use Rattle.std.specs.List.Sorted.{IsStrictlySortedBy, IsSearchInRange};
+ghost use Rattle.std.specs.Prelude.{◌≡◌, ◌↔◌, ◌<◌, ℕ, false, Some, None, Ok, Err, IsTrue, OnOk, OnErr, IsErrOf};
 ghost use Rattle.rc_counter_bag.specs.Bag.{IsBag, one_less, size, count, added, removed, replayed};
-ghost use Rattle.rc_counter_bag.specs.Place.{StandsAt, FitsAt};
 
 use crate::update::{BagFault, BagUpdate};
+use sorted_pairs::{ascend, place};
 use std::alloc::AllocError;
-
-// Where the item stands among the pairs, or where it would: a binary search.
-fn place<T: Ord>(pairs: &[(T, u64)], item: &T) -> Result<usize, usize>
-    requires { IsStrictlySortedBy T.cmp (map (λ pair. pair.0) pairs.now) }
-    ensures in_range { IsSearchInRange result (length pairs.now) }
-    ensures stands { IfOk result (StandsAt T.cmp item.now pairs.now) }
-    ensures fits { IfErr result (FitsAt T.cmp item.now pairs.now) }
-{
-    pairs.binary_search_by(|pair| pair.0.cmp(item))
-}
 
 // How often the item occurs.
 pub(crate) fn count<T: Ord>(pairs: &[(T, u64)], item: &T) -> u64
@@ -107,18 +96,6 @@ pub(crate) fn is_bag<T: Ord>(pairs: &[(T, u64)]) -> bool
     ensures { IsTrue result ↔ IsBag T.cmp pairs.now }
 {
     ascend(pairs) && pairs.iter().all(|pair| pair.1 > 0)
-}
-
-// Whether each item is below the next.
-fn ascend<T: Ord>(pairs: &[(T, u64)]) -> bool
-    ensures { IsTrue result ↔ IsStrictlySortedBy T.cmp (map (λ pair. pair.0) pairs.now) }
-{
-    for at in 1..pairs.len() {
-        if !pairs[at - 1].0.cmp(&pairs[at].0).is_lt() {
-            return false;
-        }
-    }
-    true
 }
 
 // The sum of the occurrences, which stands still at its end.

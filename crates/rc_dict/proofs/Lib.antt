@@ -3,6 +3,4 @@ mod Edits
 mod Entries
 mod Kept
 mod Merges
-mod Places
-mod Search
 mod Told

@@ -1,8 +1,8 @@
 -- A dictionary as the list of its pairs; what an update leaves of it, and what a merge of updates does.
-use Rattle.std.specs.Prelude.{ℕ, ◌+◌, Bool, true, false, if◌then◌else◌, List, [], ◌∷◌, map, Option, Some, None, is_some, is_none, Result, Ok, Err}
+use Rattle.std.specs.Prelude.{ℕ, ◌+◌, Bool, true, false, if◌then◌else◌, List, [], ◌∷◌, Option, Some, None, is_some, is_none, Result, Ok, Err}
 use Rattle.std.specs.declared.cmp.Ordering.{Ordering}
-use Rattle.std.specs.List.Sorted.{IsStrictlySortedBy}
 use Rattle.std.specs.Ordering.{is_eq, match_ordering}
+use Rattle.sorted_pairs.specs.Place.{Ascends}
 use Rattle.rc_dict.specs.declared.update.DictUpdate.{DictUpdate}
 use Rattle.rc_dict.specs.declared.update.DictUpdate.TheVariants.{Put, Remove}
 
@@ -18,7 +18,7 @@ module _ {K T : Type 0} where
 
   -- the keys ascend strictly
   abbrev pub IsDict : (K → K → Ordering) → List (K × T) → Type 0
-  IsDict cmp pairs = IsStrictlySortedBy cmp (map (λ pair. pair.0) pairs)
+  IsDict cmp pairs = Ascends cmp pairs
 
   -- the dictionary, or a refusal at this index
   abbrev pub unless_changed : Option ℕ → List (K × T) → Result (List (K × T)) ℕ

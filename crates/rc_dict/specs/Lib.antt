@@ -1,3 +1,2 @@
 pub mod Dict
-pub mod Place
 pub mod Turns

@@ -3,6 +3,7 @@ ghost use Rattle.rc_dict.specs.Dict.{IsDict, entry, updated, puts_new, last_entr
 
 use crate::pairs;
 use crate::update::{DictFault, DictUpdate};
+use sorted_pairs::ascend;
 use std::alloc::AllocError;
 use std::marker::Model;
 
@@ -30,7 +31,7 @@ impl<K: Ord + Clone + Drop, T: Ord + Clone + Drop> KeyDict<K, T> {
         ensures dict { IsSome result ↔ IsDict K.cmp pairs.items }
         ensures same { IfSome result (λ dict. dict ≡ pairs.items) }
     {
-        if pairs::ascend(&pairs) {
+        if ascend(&pairs) {
             Some(KeyDict { pairs })
         } else {
             None

@@ -1,20 +1,9 @@
-ghost use Rattle.std.specs.Prelude.{◌≡◌, ◌↔◌, length, false, None, IsTrue, IfOk, IfErr, OnOk, OnErr, is_some, option_copied};
-ghost use Rattle.std.specs.List.Sorted.{IsSearchInRange};
+ghost use Rattle.std.specs.Prelude.{◌≡◌, false, None, OnOk, OnErr, is_some, option_copied};
 ghost use Rattle.rc_dict.specs.Dict.{IsDict, entry, put, without, all_settled, same_entry, first_changed};
-ghost use Rattle.rc_dict.specs.Place.{StandsAt, FitsAt};
 
 use crate::update::DictUpdate;
+use sorted_pairs::place;
 use std::alloc::AllocError;
-
-// Where the key stands among the pairs, or where it would: a binary search.
-fn place<K: Ord, T>(pairs: &[(K, T)], key: &K) -> Result<usize, usize>
-    requires { IsDict K.cmp pairs.now }
-    ensures in_range { IsSearchInRange result (length pairs.now) }
-    ensures stands { IfOk result (StandsAt K.cmp key.now pairs.now) }
-    ensures fits { IfErr result (FitsAt K.cmp key.now pairs.now) }
-{
-    pairs.binary_search_by(|pair| pair.0.cmp(key))
-}
 
 // The key's value.
 pub(crate) fn entry<'a, K: Ord, T>(pairs: &'a [(K, T)], key: &K) -> Option<&'a T>
@@ -63,18 +52,6 @@ pub(crate) fn remove<K: Ord + Drop, T: Drop>(pairs: &mut Vec<(K, T)>, key: &K) -
         }
         Err(_) => false,
     }
-}
-
-// Whether each key is below the next.
-pub(crate) fn ascend<K: Ord, T>(pairs: &[(K, T)]) -> bool
-    ensures { IsTrue result ↔ IsDict K.cmp pairs.now }
-{
-    for at in 1..pairs.len() {
-        if !pairs[at - 1].0.cmp(&pairs[at].0).is_lt() {
-            return false;
-        }
-    }
-    true
 }
 
 // Applies the updates in order. A removal of a key that has no value changes nothing.

@@ -7,7 +7,7 @@ use Rattle.std.specs.Ordering.{is_lt}
 use Rattle.std.specs.Cmp.{IsTotalOrder}
 use Rattle.std.specs.List.Sorted.{IsStrictlySortedBy}
 use Rattle.std.specs.declared.cmp.Ordering.TheVariants.{Less}
-use Rattle.rc_dict.proofs.Search.{Ascends}
+use Rattle.sorted_pairs.specs.Place.{Ascends}
 
 module _ {K X : Type 0} (cmp : K → K → Ordering) where
   -- each of the first n keys is below the next
