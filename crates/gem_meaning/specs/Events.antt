@@ -45,7 +45,7 @@ commands_of script session = commands_or_none (slice_get script (session - 1))
 abbrev pub entry_commands : List SessionCommands → Entry → List Command
 entry_commands script e = drop (e.first_command - 1) (take e.last_command (commands_of script e.session))
 
--- the image with so many commits, up to the number that stands
+-- the image with so many commits, up to the number that stands; for a number without an image the one that stands
 abbrev pub image_at : Standing → ℕ → Image
 image_at s number = get_or (s.image ∷ s.earlier) (s.number - number) s.image
 

@@ -8,7 +8,7 @@ use Rattle.st_tree.specs.Trees.{Bytes, int, sym, Head, name, constant, paren, Ex
 use Rattle.st_tree.specs.Tokens.{is_name_byte}
 use Rattle.gem_meaning.specs.Operation.{operation_with}
 
--- The names that every image has, and that no chunk may set in this stage.
+-- The names that every image has, and UserGlobals: no chunk may name them in this stage.
 abbrev pub kernel_names : List Bytes
 kernel_names =
     codes "Object" ∷ codes "Class" ∷ codes "UndefinedObject" ∷ codes "Boolean" ∷ codes "True" ∷ codes "False"

@@ -5,11 +5,6 @@ use Rattle.st_tree.specs.Trees.{Bytes}
 use Rattle.gem_meaning.specs.declared.operation.Operation.{Operation}
 use Rattle.gem_meaning.specs.declared.operation.Operation.TheVariants.{Addition, Subtraction, Multiplication}
 
-abbrev pub selector_of : Operation → Bytes
-selector_of Addition = codes "+"
-selector_of Subtraction = codes "-"
-selector_of Multiplication = codes "*"
-
 -- the operation with this selector
 abbrev pub operation_with : Bytes → Option Operation
 operation_with selector = if bytes_eq selector (codes "+") then Some Addition

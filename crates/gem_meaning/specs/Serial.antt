@@ -11,7 +11,7 @@ use Rattle.gem_meaning.specs.declared.event.What.TheVariants.{Placed}
 use Rattle.gem_meaning.specs.Transaction.{transaction, written_of}
 use Rattle.gem_meaning.specs.Events.{Opened, Event, Standing, commands_of, entry_commands, image_at, entry_run, after_event, before_events, after_events}
 
--- the command is there and ends a transaction
+-- the command is there and may end a transaction: an abort, or a commit, which may also have been refused
 abbrev pub EndsTransaction : Option Command → Type 0
 EndsTransaction (Some Commit) = Unit {0}
 EndsTransaction (Some Abort) = Unit {0}
@@ -22,8 +22,9 @@ abbrev pub MayGoOn : Command → Type 0
 MayGoOn Abort = ⊥
 MayGoOn _ = Unit {0}
 
--- The entry names commands of its session that are one transaction: they end with a commit, none of them is an abort, and they begin with the
--- session or behind a commit or an abort. A logout is the last command of a session, by the rules of scripts.
+-- The entry names commands of its session that may be one transaction: they end with a commit, none of them is an abort, and they begin with
+-- the session or behind a commit or an abort. That no commit among them ended a transaction is for what the session says. A logout is the last
+-- command of a session, by the rules of scripts.
 pub record IsTransaction (script : List SessionCommands) (e : Entry) : Type 0 where
   pub session : (1 ≤ e.session) × (e.session ≤ length script)
   pub first : (e.first_command ≡ 1) ⊎ ((2 ≤ e.first_command) × EndsTransaction (slice_get (commands_of script e.session) (e.first_command - 2)))

@@ -12,7 +12,7 @@ use crate::state::PlainState;
 use st_tree::{Expr, Literal, Message, Primary, Stat, Text, Tree};
 use std::alloc::{AllocError, Global};
 
-/// Why a chunk ended with an error. Its text is the error's letter and number, and what is wrong.
+/// Why a chunk ended with an error: `kind` is its number, and `detail` says in words what is wrong.
 #[derive(Debug, Drop)]
 pub enum EvaluationError {
     /// A global with this name isn't there.
@@ -33,6 +33,10 @@ impl EvaluationError {
     }
 
     /// What is wrong, in words.
+    ///
+    /// # Errors
+    ///
+    /// `AllocError` where memory ran out.
     pub fn detail(&self, alloc: Global) -> Result<Text, AllocError>
         ensures { IfOk result (λ text. text ≡ detail_of self.now) }
     {
@@ -49,7 +53,11 @@ impl EvaluationError {
 }
 
 /// Runs the statements of a chunk one after the other, up to the first error. What the statements before an error
-/// set stays set. The value is that of the last statement. Without memory some of the statements may have run.
+/// set stays set. The value is that of the last statement. The tree has to be one that `is_chunk` takes.
+///
+/// # Errors
+///
+/// `AllocError` where memory ran out. Some of the statements may have run then; the image of the view is as it was.
 pub fn plain_run(
     alloc: Global,
     state: &mut PlainState,
@@ -110,10 +118,10 @@ fn put(
     }
 }
 
-/// The value of an expression of whole numbers, names of globals, `+`, `-`, `*` and parentheses, whose messages are
-/// sent from left to right. It evaluates no message after an error.
+// The value of an expression of whole numbers, names of globals, `+`, `-`, `*` and parentheses, whose messages are
+// sent from left to right. It evaluates no message after an error.
 #[cycle(evaluate)]
-pub fn evaluate(state: &PlainState, expr: &Expr) -> Result<Result<i64, EvaluationError>, AllocError>
+fn evaluate(state: &PlainState, expr: &Expr) -> Result<Result<i64, EvaluationError>, AllocError>
     requires { is_arithmetic expr.now ≡ true }
     ensures { IfOk result (λ outcome. Some outcome ≡ value_of state.now expr.now) }
 {

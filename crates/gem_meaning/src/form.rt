@@ -10,7 +10,7 @@ ghost use Rattle.gem_meaning.specs.SmallInteger.{is_small_integer};
 use crate::operation::Operation;
 use st_tree::{Expr, Literal, Message, Primary, Stat, Text, Tree};
 
-// The names that every image has.
+// The names that every image has, and `UserGlobals`: no chunk may name them.
 static KERNEL_NAMES: [&[u8]; 32] = [
     b"Object",
     b"Class",
@@ -216,7 +216,8 @@ fn is_step(statement: &Stat) -> bool
 }
 
 /// Whether a chunk has a meaning here: one statement at least, each `Globals at: #NAME put: expression` or an
-/// expression, of small integers, names of globals, `+`, `-`, `*` and parentheses.
+/// expression, of whole numbers from 0 to 2^60 - 1, names of globals, `+`, `-`, `*` and parentheses. The name of a
+/// global begins with a capital and is none of those that every image has, nor `UserGlobals`.
 pub fn is_chunk(tree: &Tree) -> bool
     ensures { result ≡ is_chunk tree.now }
 {

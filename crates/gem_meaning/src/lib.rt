@@ -10,7 +10,7 @@ mod state;
 #[cfg(test)]
 mod tests;
 
-pub use evaluator::{EvaluationError, evaluate, plain_run};
+pub use evaluator::{EvaluationError, plain_run};
 pub use event::What;
 pub use form::is_chunk;
 pub use operation::Operation;

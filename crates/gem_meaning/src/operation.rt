@@ -1,6 +1,6 @@
 ghost use Rattle.std.specs.Prelude.{◌≡◌, SomeIff, FitsSigned};
 ghost use Rattle.std.specs.Int.{w64};
-ghost use Rattle.gem_meaning.specs.Operation.{selector_of, operation_with, exact_result};
+ghost use Rattle.gem_meaning.specs.Operation.{operation_with, exact_result};
 
 /// A binary message between whole numbers.
 #[derive(Clone, Copy, Debug, PartialEq, Eq)]
@@ -23,17 +23,6 @@ impl Operation {
             [b'-'] => Some(Operation::Subtraction),
             [b'*'] => Some(Operation::Multiplication),
             _ => None,
-        }
-    }
-
-    /// The bytes of the selector.
-    pub fn selector(self) -> &'static [u8]
-        ensures { result.now ≡ selector_of self }
-    {
-        match self {
-            Operation::Addition => b"+",
-            Operation::Subtraction => b"-",
-            Operation::Multiplication => b"*",
         }
     }
 

@@ -1,5 +1,5 @@
 //! What a transaction works on.
-ghost use Rattle.std.specs.Prelude.{◌≡◌, ◌≢◌, IfOk, OnOk, OnErr, MatchBool};
+ghost use Rattle.std.specs.Prelude.{◌≡◌, IfOk, OnOk, OnErr};
 ghost use Rattle.std.specs.FinMap as map;
 ghost use Rattle.gem_meaning.specs.State.{begun, shown, set};
 
@@ -52,8 +52,11 @@ impl PlainState {
         }
     }
 
-    /// Sets the global of this name to this integer, whether the name is new or not. Without memory the
-    /// state stays as it was.
+    /// Sets the global of this name to this integer, whether the name is new or not.
+    ///
+    /// # Errors
+    ///
+    /// `AllocError` where memory ran out. The state is then as it was.
     pub fn set(&mut self, alloc: Global, name: &[u8], value: i64) -> Result<(), AllocError>
         ensures ok { OnOk result (self.new ≡ set name.now value self.old) }
         ensures err { OnErr result (self.new ≡ self.old) }
@@ -64,6 +67,10 @@ impl PlainState {
     }
 
     /// The globals that the transaction set, in the order of their names, each with its last integer.
+    ///
+    /// # Errors
+    ///
+    /// `AllocError` where memory ran out.
     pub fn writes(&self, alloc: Global) -> Result<Writes, AllocError>
         ensures { IfOk result (λ writes. writes ≡ map.entries self.now.written) }
     {
@@ -72,12 +79,5 @@ impl PlainState {
             entries.push((Text::of(Vec::from_slice(alloc, name)?), *value))?;
         }
         Ok(Writes::of(entries))
-    }
-
-    /// Whether the transaction set a global.
-    pub fn has_written(&self) -> bool
-        ensures { MatchBool result (self.now.written ≢ map.empty) (self.now.written ≡ map.empty) }
-    {
-        !self.written.is_empty()
     }
 }

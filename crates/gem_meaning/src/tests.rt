@@ -25,7 +25,7 @@ fn chunks(rt: HostRuntime) -> Result<(), Fail> {
     assert!(rt; is_chunk(&tree));
     let mut state = PlainState::start(alloc, Image::empty(alloc)?);
     assert!(rt; matches!(plain_run(alloc, &mut state, &tree)?, Ok(7)));
-    assert!(rt; !state.has_written());
+    assert!(rt; state.writes(alloc)?.as_slice().is_empty());
     Ok(())
 }
 

@@ -44,7 +44,8 @@ opened script = record { image = map.empty; number = 0; script = script }
 abbrev pub earlier : ℕ → List Event → List Event
 earlier session events = filter (λ event. nat_lt event.0 session) events
 
--- A session's turn: its login tells the number that stands behind the events before it, and what it says it says by those after it.
+-- A session's turn, between the events of the sessions before it and these with its own: its login tells the number that stands behind the
+-- first, and what it says it says by the second alone.
 pub record IsTurn (o : Opened) (before after : List Event) (session : ℕ) (script : SessionCommands) (t : Transcript) : Type 0 where
   pub login : TellsLogin (after_events o before).number t.replies
   pub says : Says o after session script t.replies
@@ -68,7 +69,7 @@ pub record IsRun (left left' : Option Bytes) (events : List Event) (book : RunBo
   pub legal : IsLegal (opened script) events book
   pub in_turn : AreInTurn (opened script) events 1 script book.transcripts
 
--- nothing has run
+-- no event, and a book without a transcript and without a commit
 pub record IsBlank (events : List Event) (book : RunBook) : Type 0 where
   pub no_events : events ≡ []
   pub first : book.first ≡ 0

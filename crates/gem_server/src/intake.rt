@@ -5,14 +5,12 @@ ghost use Rattle.gem_io.specs.Faults.{HasRisen};
 ghost use Rattle.gem_server.specs.declared.intake.IntakeError.TheVariants.{Failed as SourceFailed, NoMemory};
 
 use gem_io::{Failed, Source};
+use shell_words::SCRIPT_LIMIT;
 use std::alloc::{AllocError, Global};
-
-/// How many bytes a script has at most.
-pub const SCRIPT_LIMIT: usize = 1_048_576;
 
 /// Why a script wasn't read.
 #[derive(Clone, Copy, Debug, PartialEq, Eq)]
-pub enum IntakeError {
+pub(crate) enum IntakeError {
     /// The source gave more bytes than a script has.
     TooLong,
     /// The source failed.

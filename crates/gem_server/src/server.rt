@@ -28,6 +28,9 @@ use std::alloc::Global;
 /// - `ReadFault`: the source failed.
 /// - `WriteFault`: the sink failed, after a part of the report from the front.
 /// - `NoMemory`: at any point before the first byte is written.
+///
+/// With `Done` and `WriteFault` the book has the sessions' transcripts and the commits, and the events are what happened to the Stone. With
+/// any other status both are blank.
 pub fn gemstone<S: Source, K: Sink>(
     alloc: Global,
     words: &[String],
@@ -62,7 +65,7 @@ pub fn gemstone<S: Source, K: Sink>(
     ensures later { (S.faults source.old ≤ S.faults source.new) × (K.faults sink.old ≤ K.faults sink.new) }
 {
     if !is_serve(words) {
-        return Ended::unrun(alloc, Status::Usage);
+        return Ended::blank(alloc, Status::Usage);
     }
     serve(alloc, source, sink)
 }
@@ -94,23 +97,23 @@ fn serve<S: Source, K: Sink>(alloc: Global, source: &mut S, sink: &mut K) -> End
     let text = match read_text(alloc, source) {
         Ok(text) => text,
         Err(IntakeError::TooLong) => {
-            return Ended::unrun(alloc, Status::Script { line: 0, rule: 7 });
+            return Ended::blank(alloc, Status::Script { line: 0, rule: 7 });
         }
-        Err(IntakeError::Failed) => return Ended::unrun(alloc, Status::ReadFault),
-        Err(IntakeError::NoMemory) => return Ended::unrun(alloc, Status::NoMemory),
+        Err(IntakeError::Failed) => return Ended::blank(alloc, Status::ReadFault),
+        Err(IntakeError::NoMemory) => return Ended::blank(alloc, Status::NoMemory),
     };
     let script = match read_script(alloc, &text) {
         Ok(script) => script,
         Err(ScriptFault::Rule { line, rule }) => {
-            return Ended::unrun(alloc, Status::Script { line, rule });
+            return Ended::blank(alloc, Status::Script { line, rule });
         }
-        Err(ScriptFault::NoMemory) => return Ended::unrun(alloc, Status::NoMemory),
+        Err(ScriptFault::NoMemory) => return Ended::blank(alloc, Status::NoMemory),
     };
     let Ok((book, events)) = run(alloc, script) else {
-        return Ended::unrun(alloc, Status::NoMemory);
+        return Ended::blank(alloc, Status::NoMemory);
     };
     let Ok(report) = report_text(alloc, &book) else {
-        return Ended::unrun(alloc, Status::NoMemory);
+        return Ended::blank(alloc, Status::NoMemory);
     };
     let status = match write_all(sink, &report) {
         Ok(()) => Status::Done,

@@ -32,15 +32,16 @@ pub type Events = Sequence<(u32, What)>;
 pub struct Ended {
     /// Whether the report was written, or else what kept it from being so.
     pub status: Status,
-    /// What the sessions replied, and what was committed. Where nothing ran it is blank.
+    /// What the sessions replied, and what was committed. Blank with every status but Done and WriteFault, also where memory ran out
+    /// when sessions had run.
     pub book: RunBook,
-    /// What happened to the Stone, in order.
+    /// What happened to the Stone, in order. Blank where the book is.
     pub events: Events,
 }
 
 impl Ended {
-    // An end before anything ran.
-    pub(crate) fn unrun(alloc: Global, status: Status) -> Ended
+    // An end with nothing to tell of a run.
+    pub(crate) fn blank(alloc: Global, status: Status) -> Ended
         ensures status { result.status ≡ status }
         ensures blank { IsBlank result.events result.book }
     {

@@ -51,8 +51,8 @@ impl Writes {
     }
 }
 
-/// The record of a transaction: the commands of a session from its beginning or its last abort or commit
-/// that wasn't refused on, with the commit that ends them, as the session ran them on its view. That its fields are those of one such
+/// The record of a transaction: the commands of a session from its beginning, its last abort or its last
+/// commit that was placed or unchanged on, with the commit that ends them, as the session ran them on its view. That its fields are those of one such
 /// run is for whoever makes it to say.
 #[derive(Debug, Drop)]
 pub struct TxnRecord {

@@ -6,14 +6,19 @@ use thiserror::Error;
 /// Why the program ends with a status that isn't 0. Its text is the line on standard error.
 #[derive(Clone, Copy, Debug, PartialEq, Eq, Error)]
 pub enum Failure {
+    /// The words of the command line aren't the one word `serve`.
     #[error("gemstone: usage")]
     Usage,
+    /// The script breaks this rule, first at this line, from 1. Line 0 is the script as a whole.
     #[error("gemstone: script line {line} rule S{rule}")]
     Script { line: u32, rule: u8 },
+    /// Standard input failed.
     #[error("gemstone: read fault")]
     ReadFault,
+    /// Standard output failed.
     #[error("gemstone: write fault")]
     WriteFault,
+    /// There was no memory.
     #[error("gemstone: no memory")]
     NoMemory,
 }

@@ -14,7 +14,7 @@ fn fault_of(parsed: Result<Tree, ParseFault>) -> Option<(u32, u8)> {
 // Where chunks fail, and by which rule.
 #[test]
 fn faults(rt: HostRuntime) -> Result<(), Fail> {
-    let table: [(&[u8], Option<(u32, u8)>); 40] = [
+    let table: [(&[u8], Option<(u32, u8)>); 43] = [
         (b"", None),
         (b"3 + }", Some((4, 1))),
         (b"3 + 'it", Some((4, 2))),
@@ -30,6 +30,9 @@ fn faults(rt: HostRuntime) -> Result<(), Fail> {
         (b"3 +", Some((3, 4))),
         (b"3 + - 4", Some((6, 4))),
         (b"3 - -4", None),
+        (b"3--4", None),
+        (b"#(--3)", None),
+        (b"3 + -", Some((5, 4))),
         (b"super := 3", Some((6, 8))),
         (b"super", Some((5, 4))),
         (b"super foo; bar: 3 - 4; + 4", None),
@@ -70,11 +73,10 @@ fn faults(rt: HostRuntime) -> Result<(), Fail> {
 #[test]
 fn deep(rt: HostRuntime) -> Result<(), Fail> {
     let alloc = rt.alloc();
-    let mut text = vec![in alloc; b'('; 200]?;
+    let mut text = Vec::new(alloc);
+    push_often(&mut text, b"(", 200)?;
     text.push(b'3')?;
-    for _ in 0..200 {
-        text.push(b')')?;
-    }
+    push_often(&mut text, b")", 200)?;
     assert!(rt; text.len() < 10_000);
     assert_eq!(rt; fault_of(parse_chunk(alloc, &text)), None);
     // What stands before 201 pieces, the piece, and the place of the bracket that is one too many.
@@ -96,20 +98,26 @@ fn deep(rt: HostRuntime) -> Result<(), Fail> {
 
 fn repeated(alloc: Global, front: &[u8], piece: &[u8]) -> Result<Vec<u8>, AllocError> {
     let mut text = front.to_vec(alloc)?;
-    for _ in 0..201 {
-        text.extend_from_slice(piece)?;
-    }
+    push_often(&mut text, piece, 201)?;
     Ok(text)
 }
 
-// A chunk of 65,536 bytes.
+fn push_often(text: &mut Vec<u8>, piece: &[u8], count: usize) -> Result<(), AllocError> {
+    for _ in 0..count {
+        text.extend_from_slice(piece)?;
+    }
+    Ok(())
+}
+
+// A chunk of 65,536 bytes, of messages of each kind in a row and in parentheses that are nested 199 deep.
 #[test]
 fn long(rt: HostRuntime) -> Result<(), Fail> {
     let alloc = rt.alloc();
-    let mut text = b"(#(1) at: [:x | x] )".to_vec(alloc)?;
-    for _ in 0..16_379 {
-        text.extend_from_slice(b" + 1")?;
-    }
+    let mut text = Vec::new(alloc);
+    push_often(&mut text, b"(", 199)?;
+    text.extend_from_slice(b"account")?;
+    push_often(&mut text, b" foo + 1", 8_017)?;
+    push_often(&mut text, b") k: 1", 199)?;
     assert!(rt; text.len() == 65_536);
     assert_eq!(rt; fault_of(parse_chunk(alloc, &text)), None);
     Ok(())
@@ -128,10 +136,27 @@ fn order_of_messages(rt: HostRuntime) -> Result<(), Fail> {
     Ok(())
 }
 
+// A `-` that touches a number is its sign where a head may stand, and a message elsewhere.
+#[test]
+fn signs(rt: HostRuntime) -> Result<(), Fail> {
+    let tree = parse_chunk(rt.alloc(), b"-7 // 2. 3 -4")?;
+    assert_eq!(rt; tree.body.len(), 2);
+    let quotient = &tree.body[0].expr;
+    assert!(rt; matches!(quotient.head, Primary::Lit(Literal::Int(-7))));
+    assert_eq!(rt; quotient.messages.len(), 1);
+    assert!(rt; quotient.messages[0].selector.bytes() == b"//".as_slice());
+    let difference = &tree.body[1].expr;
+    assert!(rt; matches!(difference.head, Primary::Lit(Literal::Int(3))));
+    assert_eq!(rt; difference.messages.len(), 1);
+    assert!(rt; difference.messages[0].selector.bytes() == b"-".as_slice());
+    Ok(())
+}
+
 // What stands in a literal array, and the receiver of a cascade.
 #[test]
 fn arrays_and_cascades(rt: HostRuntime) -> Result<(), Fail> {
     let tree = parse_chunk(rt.alloc(), b"#(1 -2 a b:c: nil) at: 3 - -4; + 5")?;
+    assert_eq!(rt; tree.body.len(), 1);
     for statement in &tree.body {
         assert_eq!(rt; statement.expr.messages.len(), 1);
         assert_eq!(rt; statement.expr.cascade.len(), 1);
@@ -146,15 +171,25 @@ fn arrays_and_cascades(rt: HostRuntime) -> Result<(), Fail> {
     Ok(())
 }
 
-// A method of each form of pattern, and two that fail.
+// Methods of each form of pattern, and where others fail.
 #[test]
 fn methods(rt: HostRuntime) -> Result<(), Fail> {
-    let table: [(&[u8], Option<(u32, u8)>); 5] = [
+    let table: [(&[u8], Option<(u32, u8)>); 15] = [
         (b"sum | a | a := 3. ^a", None),
         (b"+ other ^self foo: other", None),
         (b"at: i put: x [:y | y foo: i]", None),
         (b"at: i put: i ^i", Some((11, 7))),
         (b"at: i put: x [:y | y := i]", Some((21, 8))),
+        (b"", Some((0, 4))),
+        (b"3", Some((0, 4))),
+        (b"foo: 3", Some((5, 4))),
+        (b"foo := 3", Some((4, 4))),
+        (b"foo: x bar:", Some((11, 4))),
+        (b"+ self", Some((2, 7))),
+        (b"foo: a | a |", Some((9, 7))),
+        (b"foo: a a := 3", Some((9, 8))),
+        (b"| x ^self or: [x]", None),
+        (b"| x | y | y", None),
     ];
     for (text, wanted) in &table {
         assert!(rt; text.len() < 10_000);

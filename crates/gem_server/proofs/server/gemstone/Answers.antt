@@ -11,4 +11,4 @@ returns-clause-completes g c =
 
 pub returns-then-not-is_serve-clause-script : goal.returns-then-not-is_serve-clause-script
 returns-then-not-is_serve-clause-script g c =
-    ([], consumes_none _, λ read. absurd (not_read _ c.unrun.ensures.status read), unread [] _ c.unrun.ensures.status)
+    ([], consumes_none _, λ read. absurd (not_read _ c.blank.ensures.status read), unread [] _ c.blank.ensures.status)
