@@ -1,9 +1,9 @@
 //! What follows from the definitions alone. Each law is the contract of a function that does nothing.
-ghost use Rattle.std.specs.Prelude.{◌≡◌, ◌≢◌, ℕ, ℤ, Bool, Some, Ok, Err, List, [], ◌++◌};
+ghost use Rattle.std.specs.Prelude.{◌≡◌, ◌≢◌, ℕ, ℤ, Bool, Some, Ok, Err, List, []};
 ghost use Rattle.st_tree.specs.Trees.{Bytes, Expression, statement, Statements, append_statements};
 ghost use Rattle.shell_words.specs.Script.{SessionCommands};
 ghost use Rattle.gem_replies.specs.declared.reply.Reply.{Reply};
-ghost use Rattle.gem_meaning.specs.Events.{Opened, Event, own};
+ghost use Rattle.gem_meaning.specs.Events.{Event, Told, told_more, events_of};
 ghost use Rattle.gem_meaning.specs.Session.{Says};
 ghost use Rattle.gem_meaning.specs.declared.evaluator.EvaluationError.{EvaluationError};
 ghost use Rattle.gem_meaning.specs.Form.{put_of};
@@ -37,6 +37,7 @@ pub fn set_is_shown()
 
 /// What a session says by some events it says by them with later events of other sessions, too.
 pub fn says_stay()
-    ensures { (o : Opened) (events more : List Event) (session : ℕ) (script : SessionCommands) (replies : List Reply) → own session more ≡ [] →
-        Says o events session script replies → Says o (events ++ more) session script replies }
+    ensures { (t : Told) (more : List Event) (session : ℕ) (script : SessionCommands) (replies : List Reply) →
+        events_of session more ≡ [] → Says t session script replies →
+        Says (told_more t more) session script replies }
 {}
