@@ -42,21 +42,6 @@ fn nothing_to_commit(rt: HostRuntime) -> Result<(), Fail> {
     Ok(())
 }
 
-#[test]
-fn conflict_of_an_older_view(rt: HostRuntime) -> Result<(), Fail> {
-    let alloc = rt.alloc();
-    let stone = Stone::start(alloc, Image::empty(alloc)?, 4, one_commit(alloc)?)?;
-    let found = stone.conflicts(alloc, 3)?;
-    assert_eq!(rt; found.as_slice().len(), 1);
-    for conflict in found.as_slice() {
-        assert_eq!(rt; format!(in alloc; "{}", conflict.oid)?.as_str(), "0:27");
-        assert_eq!(rt; conflict.kind.number(), 1);
-        assert_eq!(rt; conflict.shown, 4);
-    }
-    assert_eq!(rt; stone.conflicts(alloc, 4)?.as_slice().len(), 0);
-    Ok(())
-}
-
 fn session_that_runs(alloc: Global, chunk: &[u8]) -> Result<SessionScript, AllocError>
     requires { length chunk.now ≤ most_bytes }
     ensures { IfOk result (λ session. session ≡ record { user = codes "A"; commands = Chunk false chunk.now ∷ Commit ∷ [] }) }

@@ -1,5 +1,6 @@
 -- From the fields of a Stone to what contracts see.
-use Rattle.stone_core.specs.Told.{Told, IsStone}
+use Rattle.gem_meaning.specs.Events.{Told}
+use Rattle.stone_core.specs.Stone.{IsStone}
 use Rattle.stone_core.specs.declared.stone.Stone.TheInside.{Inside}
 
 abbrev pub told_by : Inside → Told
@@ -8,5 +9,5 @@ told_by stone = record {
   events = stone.events.items;
 }
 
-abbrev pub IsWhole : Inside → Type 0
-IsWhole stone = IsStone (told_by stone) stone.image stone.number stone.history.items
+abbrev pub IsWholeStone : Inside → Type 0
+IsWholeStone stone = IsStone (told_by stone) stone.image stone.number stone.history.items
