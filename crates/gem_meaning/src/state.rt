@@ -1,5 +1,5 @@
 //! What a transaction works on.
-ghost use Rattle.std.specs.Prelude.{◌≡◌, IfOk, OnOk, OnErr};
+ghost use Rattle.std.specs.Prelude.{◌≡◌, ◌≢◌, [], IfOk, IfErr, OnOk, OnErr};
 ghost use Rattle.std.specs.FinMap as map;
 ghost use Rattle.gem_meaning.specs.State.{begun, shown, set};
 
@@ -70,8 +70,18 @@ impl PlainState {
     ///
     /// # Errors
     ///
-    /// `AllocError` where memory ran out.
+    /// `AllocError` where memory ran out. Where nothing was set no memory is taken.
     pub fn writes(&self, alloc: Global) -> Result<Writes, AllocError>
+        ensures writes { IfOk result (λ writes. writes ≡ map.entries self.now.written) }
+        ensures starved { IfErr result (λ _. map.entries self.now.written ≢ []) }
+    {
+        if self.written.len() == 0 {
+            return Ok(Writes::of(Vec::new(alloc)));
+        }
+        self.collect(alloc)
+    }
+
+    fn collect(&self, alloc: Global) -> Result<Writes, AllocError>
         ensures { IfOk result (λ writes. writes ≡ map.entries self.now.written) }
     {
         let mut entries = Vec::with_capacity(alloc, self.written.len())?;

@@ -1,7 +1,7 @@
 -- What stands after some events: its number isn't below that of the opening, and its image is the one of that number.
 use Rattle.std.proofs.Common.{◌≡◌, refl, ◌-◌, ◌≤◌, List, [], arith}
 use Rattle.gem_meaning.specs.Events.{Opened, Event, Standing, image_at, after_events}
-use Rattle.stone_core.proofs.Views.{number_stays}
+use Rattle.gem_meaning.proofs.Views.{number_stays}
 
 nothing_came : (o : Opened) → o.number ≤ (after_events o []).number
 unfolding after_events
