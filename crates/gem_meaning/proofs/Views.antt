@@ -85,4 +85,4 @@ pub number_stays : (o : Opened) (before more : List Event)
     → (after_events o before).number ≤ (after_events o (before ++ more)).number
 number_stays o before more =
     subst (λ (s : Standing). (after_events o before).number ≤ s.number)
-        (sym (after_more o before more)) (number_grows_from o (after_events o before) more)
+    (sym (after_more o before more)) (number_grows_from o (after_events o before) more)

@@ -1,6 +1,6 @@
 -- What a session says: its replies to each command, by the events that had come before them.
 use Rattle.std.specs.Prelude.{◌≡◌, ◌≢◌, ◌⊎◌, ℕ, zero, suc, ◌+◌, ◌-◌, ◌≤◌, Bool, true, false, List, [], ◌∷◌, ◌++◌, length, map, take, drop, codes, bytes_eq, Option, Some, None, if◌then◌else◌}
-use Rattle.st_tree.specs.Trees.{Bytes}
+use Rattle.texts.specs.Bytes.{Bytes}
 use Rattle.gem_value.specs.Image.{Image}
 use Rattle.gem_value.specs.Oid.{oid_number}
 use Rattle.gem_value.specs.declared.record.Entry.{Entry}

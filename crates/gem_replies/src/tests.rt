@@ -2,7 +2,7 @@ ghost use Rattle.std.specs.Prelude.{◌≡◌, IfOk};
 
 use super::*;
 use gem_value::{Conflict, ConflictKind, Conflicts, Entry, Oid};
-use st_tree::Text;
+use texts::Text;
 use std::alloc::{AllocError, Global};
 use std::test::Fail;
 

@@ -2,7 +2,7 @@
 use Rattle.std.proofs.Common.{◌≡◌, ◌∙◌, refl, sym, ap, subst, ℕ, ℤ, ◌+◌, ◌-◌, ◌≤◌, true, false, Some, List, [], ◌∷◌, ◌++◌, length, arith, append-nil}
 use Rattle.std.specs.FinMap as map
 use Rattle.std.specs.List.{AllByRecursion, slice_get}
-use Rattle.st_tree.specs.Trees.{Bytes}
+use Rattle.texts.specs.Bytes.{Bytes}
 use Rattle.gem_value.specs.declared.conflict.Conflict.{Conflict}
 use Rattle.gem_value.specs.declared.record.TxnRecord.{TxnRecord}
 use Rattle.gem_value.specs.Entry.{entry_of}
@@ -176,42 +176,42 @@ pub commit_placed : (o : Opened) (es es' es'' : List Event) (number : ℕ) (s : 
     Replied o number es es'' s Commit (Committed at s'.view ∷ []) s'
 commit_placed o es es' es'' number s written at s' stands calm is wrote says begins =
     let same = begins_session o es' es'' number s s' begins in record {
-  of_session = same;
-  says = (
-    Committed at s'.view,
-    refl,
-    (
-      calm,
-      record {
-        others = says.others;
-        are_others = says.are_others;
-        written = λ none. says.fits.0 (wrote_when o es says.others number s written stands calm wrote is ∙ none);
-        no_conflict = says.fits.1;
-        number_is = says.fits.2;
-        sees = subst (λ x. SeesNumber o s.session x es'' s'.view) says.events
-            (subst (λ (n : ℕ). SeesNumber o n es' es'' s'.view) same begins.sees);
-      },
-      begins.carries,
-    ),
-  );
-  stands = begins_stands o es' es'' number s s' begins;
-}
+      of_session = same;
+      says = (
+        Committed at s'.view,
+        refl,
+        (
+          calm,
+          record {
+            others = says.others;
+            are_others = says.are_others;
+            written = λ none. says.fits.0 (wrote_when o es says.others number s written stands calm wrote is ∙ none);
+            no_conflict = says.fits.1;
+            number_is = says.fits.2;
+            sees = subst (λ x. SeesNumber o s.session x es'' s'.view) says.events
+                (subst (λ (n : ℕ). SeesNumber o n es' es'' s'.view) same begins.sees);
+          },
+          begins.carries,
+        ),
+      );
+      stands = begins_stands o es' es'' number s s' begins;
+    }
 
 pub aborted : (o : Opened) (es es' : List Event) (number : ℕ) (s s' : Session) → Begins o es es' (λ view. next_transaction (carried s) view number) s' →
     Replied o number es es' s Abort (Aborted s'.view ∷ []) s'
 aborted o es es' number s s' begins =
     let same = begins_session o es es' number s s' begins in record {
-  of_session = same;
-  says = (
-    Aborted s'.view,
-    refl,
-    (
-      subst (λ (n : ℕ). SeesNumber o n es es' s'.view) same begins.sees,
-      begins.carries,
-    ),
-  );
-  stands = begins_stands o es es' number s s' begins;
-}
+      of_session = same;
+      says = (
+        Aborted s'.view,
+        refl,
+        (
+          subst (λ (n : ℕ). SeesNumber o n es es' s'.view) same begins.sees,
+          begins.carries,
+        ),
+      );
+      stands = begins_stands o es es' number s s' begins;
+    }
 
 -- the earlier entries of the session end before its next transaction, whose first command comes after this one
 pub apart_next : (es : List Event) (session first number : ℕ) → first ≤ number → AllByRecursion (EndedBefore session first) es →

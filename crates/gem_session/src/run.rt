@@ -14,9 +14,9 @@ use crate::session::Session;
 use gem_replies::{Line, Replies, Reply, Transcript};
 use gem_value::{Image, Oid};
 use shell_words::{Command, SessionScript};
-use st_tree::Text;
 use std::alloc::{AllocError, Global};
 use stone_core::StonePort;
+use texts::Text;
 
 /// Runs the session with this number to its end: a login, its commands up to the first logout, and a
 /// logout, also where the script has none. The transcript has its replies. Where the image has no

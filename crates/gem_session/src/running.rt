@@ -1,6 +1,6 @@
 //! What a chunk and a method do within a transaction, and what they reply.
 ghost use Rattle.std.specs.Prelude.{◌≡◌, ◌<◌, ◌^◌, [], ◌∷◌, Bool, true, IfOk, length};
-ghost use Rattle.st_tree.specs.Trees.{Bytes};
+ghost use Rattle.texts.specs.Bytes.{Bytes};
 ghost use Rattle.shell_words.specs.Script.{HasShortText};
 ghost use Rattle.gem_meaning.specs.State.{State};
 ghost use Rattle.gem_meaning.specs.Transaction.{ended_line, run_tree, run_chunk, run_method, run_command, is_run};
@@ -9,8 +9,9 @@ use gem_meaning::{EvaluationError, PlainState, is_chunk, plain_run};
 use gem_replies::Line;
 use shell_words::Command;
 use st_parser::{ParseFault, parse_chunk, parse_method};
-use st_tree::{Text, Tree};
+use st_tree::Tree;
 use std::alloc::{AllocError, Global};
+use texts::Text;
 
 /// Runs a chunk or a method, and gives its reply.
 ///

@@ -5,7 +5,7 @@ ghost use Rattle.gem_value.specs.Image.{globals_by_name};
 ghost use Rattle.gem_value.specs.Writes.{with_written};
 
 use crate::record::Writes;
-use st_tree::Text;
+use texts::Text;
 use std::alloc::{AllocError, Global};
 use std::collections::BTreeMap;
 use std::marker::Model;

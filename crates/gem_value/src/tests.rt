@@ -2,7 +2,7 @@ ghost use Rattle.std.specs.Prelude.{IfOk};
 ghost use Rattle.gem_value.specs.Writes.{IsInNameOrder};
 
 use super::*;
-use st_tree::Text;
+use texts::Text;
 use std::alloc::{AllocError, Global};
 use std::test::Fail;
 

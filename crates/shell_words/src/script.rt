@@ -2,7 +2,7 @@
 ghost use Rattle.std.specs.Prelude.{◌≡◌, ◌<◌, ◌≤◌, length};
 ghost use Rattle.shell_words.specs.Script.{SessionCommands, most_sessions, IsWithinLimits};
 
-use st_tree::Text;
+use texts::Text;
 use std::marker::Model;
 
 /// How many bytes a script has at most.

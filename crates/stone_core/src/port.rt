@@ -45,7 +45,7 @@ pub trait StonePort {
         requires serves { (state self.old).serves session ≡ true }
         ensures begun { IfOk result (λ begun.
             BeginSays (state self.old).told.opened session (state self.old).told.events
-                (state self.new).told.events begun.image begun.number) }
+            (state self.new).told.events begun.image begun.number) }
         ensures starved { IfErr result (λ _.
             OthersCame session (state self.old).told.events (state self.new).told.events) }
         ensures port { GoesOn session (state self.old) (state self.new) };

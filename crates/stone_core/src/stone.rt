@@ -76,8 +76,9 @@ impl Stone {
     ) -> Result<Stone, AllocError>
         requires number { number ≤ most_at_opening }
         ensures { IfOk result (λ stone. stone ≡ record {
-            opened = record { image = image; number = number; script = script.value };
-            events = [] }) }
+          opened = record { image = image; number = number; script = script.value };
+          events = [];
+        }) }
     {
         Ok(Stone {
             opened_image: image.share()?,
@@ -113,8 +114,10 @@ impl Stone {
     /// out, leaves the Stone as it was.
     pub fn commit(&mut self, alloc: Global, done: &TxnRecord) -> CommitAnswer
         requires recorded { IsRecorded self.old done.now }
-        ensures events { self.new ≡ record self.old { events = self.old.events
-            ++ event_of_answer (standing self.old) done.now.session (entry_of done.now) result } }
+        ensures events { self.new ≡ record self.old {
+          events = self.old.events
+              ++ event_of_answer (standing self.old) done.now.session (entry_of done.now) result;
+        } }
         ensures answer { AnswerFits self.old.opened (standing self.old) done.now result }
     {
         if done.written.as_slice().is_empty() {
@@ -154,8 +157,10 @@ impl Stone {
     ) -> Result<CommitAnswer, AllocError>
         requires recorded { IsRecorded self.old done.now }
         requires changed { IsUnchangedRecord done.now → ⊥ }
-        ensures events { IfOk result (λ answer. self.new ≡ record self.old { events = self.old.events
-            ++ event_of_answer (standing self.old) done.now.session (entry_of done.now) answer }) }
+        ensures events { IfOk result (λ answer. self.new ≡ record self.old {
+          events = self.old.events
+              ++ event_of_answer (standing self.old) done.now.session (entry_of done.now) answer;
+        }) }
         ensures answer { IfOk result (λ answer.
             AnswerFits self.old.opened (standing self.old) done.now answer) }
         ensures starved { IfErr result (λ _. self.new ≡ self.old) }
@@ -188,8 +193,10 @@ impl Stone {
         requires recorded { IsRecorded self.old done.now }
         requires no_conflict { conflicts_of_record self.old.opened (standing self.old) done.now ≡ [] }
         ensures number { IfOk result (λ number. number ≡ (standing self.old).number + 1) }
-        ensures placed { IfOk result (λ _. self.new ≡ record self.old { events = self.old.events
-            ++ (done.now.session, Placed (entry_of done.now)) ∷ [] }) }
+        ensures placed { IfOk result (λ _. self.new ≡ record self.old {
+          events = self.old.events
+              ++ (done.now.session, Placed (entry_of done.now)) ∷ [];
+        }) }
         ensures starved { IfErr result (λ _. self.new ≡ self.old) }
     {
         let entry = done.entry();

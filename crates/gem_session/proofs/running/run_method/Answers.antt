@@ -1,6 +1,6 @@
 use Rattle.std.proofs.Common.{◌≡◌, ◌∷◌, [], Bool, sym, subst}
 use Rattle.std.specs.Result.{IfOk}
-use Rattle.st_tree.specs.Trees.{Bytes}
+use Rattle.texts.specs.Bytes.{Bytes}
 use Rattle.gem_meaning.specs.State.{State}
 use Rattle.gem_meaning.specs.Transaction.{Answer, run_method}
 use Rattle.gem_session.proofs.Faults.{method_built, method_fault}
