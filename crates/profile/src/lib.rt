@@ -1,9 +1,11 @@
-//! Room: shelves. Gives the product's numbers and the names of the kernel's objects. Knows nothing of what uses them.
+//! Room: shelves. Gives the limits and the names of the product. Knows nothing of what uses them.
 #![tactic(auto)]
 
 mod integers;
 mod kernel;
 mod limits;
+#[cfg(test)]
+mod tests;
 
 pub use integers::{LARGEST_INTEGER, SMALLEST_INTEGER, is_small_integer};
 pub use kernel::{FIRST_SERIAL, GLOBALS_COUNTER, KERNEL_SERIAL, is_kernel_name};

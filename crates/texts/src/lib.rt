@@ -1,7 +1,9 @@
-//! Room: shelves. Takes bytes; gives texts and what a byte of a name is. Knows nothing of Smalltalk.
+//! Room: shelves. Takes bytes; gives texts, and what is in a name. Knows nothing of Smalltalk.
 #![tactic(auto)]
 
 mod name_bytes;
+#[cfg(test)]
+mod tests;
 mod text;
 
 pub use name_bytes::{are_name_bytes, is_name_byte, starts_name};
