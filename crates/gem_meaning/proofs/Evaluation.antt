@@ -1,6 +1,7 @@
 -- How an evaluation goes on from message to message.
 use Rattle.std.proofs.Common.{◌≡◌, ℤ, ◌<◌, ◌&&◌, Bool, true, false, true≢false, List, [], ◌∷◌, length, get_or, Some, Ok, Err, Result, refl, sym, ap, ap₂, ◌∙◌, arith}
-use Rattle.st_tree.specs.Trees.{Bytes, Head, Expression, expression, expressions, an_expression, no_expressions, Send, send, Sends, no_sends, a_send}
+use Rattle.texts.specs.Bytes.{Bytes}
+use Rattle.st_tree.specs.Trees.{Head, Expression, expression, expressions, an_expression, no_expressions, Send, send, Sends, no_sends, a_send}
 use Rattle.st_tree.specs.Falls.{size_expression, size_sends}
 use Rattle.gem_meaning.specs.declared.evaluator.EvaluationError.{EvaluationError}
 use Rattle.gem_meaning.specs.declared.operation.Operation.{Operation}

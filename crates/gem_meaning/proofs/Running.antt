@@ -1,6 +1,7 @@
 -- How a run goes on from statement to statement.
 use Rattle.std.proofs.Common.{◌≡◌, ◌≢◌, true≢false, is_some, ℤ, ◌&&◌, not, Bool, true, List, ◌∷◌, Option, Some, None, Ok, Err, refl, sym, ap, ◌∙◌}
-use Rattle.st_tree.specs.Trees.{Bytes, Expression, Statement, statement, Statements, no_statements, a_statement, statements, append_statements, Program}
+use Rattle.texts.specs.Bytes.{Bytes}
+use Rattle.st_tree.specs.Trees.{Expression, Statement, statement, Statements, no_statements, a_statement, statements, append_statements, Program}
 use Rattle.gem_meaning.specs.declared.evaluator.EvaluationError.{EvaluationError}
 use Rattle.gem_meaning.specs.Form.{put_of, is_put, is_global_name, is_arithmetic, is_step, are_steps, is_no_selector, is_no_name, is_some_statement, is_chunk}
 use Rattle.std.specs.Option.{option_or}

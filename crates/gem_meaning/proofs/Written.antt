@@ -8,7 +8,7 @@ use Rattle.std.specs.Map.{keys_of}
 use Rattle.std.specs.Map.Iter.{deref_pair}
 use Rattle.std.specs.FinMap.{empty, insert, entries, from_entries, get, get-empty, entries-insert, len-empty, len-entries}
 use Rattle.std.specs.FinMap.Entries.{put}
-use Rattle.st_tree.specs.Trees.{Bytes}
+use Rattle.texts.specs.Bytes.{Bytes}
 use Rattle.gem_value.specs.Image.{Image, entries_by_name}
 use Rattle.gem_value.specs.Writes.{IsInNameOrder}
 use Rattle.gem_meaning.specs.State.{State}

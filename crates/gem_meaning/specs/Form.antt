@@ -1,25 +1,14 @@
 -- The chunks that have a meaning in this stage: statements of whole numbers, global names, the messages + - * and
 -- parentheses, and `Globals at: #NAME put:` with such an expression.
 use Rattle.std.specs.Prelude.{Bool, true, false, not, ◌&&◌, codes, List, [], ◌∷◌, Option, Some, None, is_some, ℤ, pos, negsuc, ◌^◌, nat_lt}
-use Rattle.std.specs.List.{list_any, list_all}
+use Rattle.std.specs.List.{list_all}
 use Rattle.std.specs.Str.{bytes_eq}
 use Rattle.std.specs.Char.{is_ascii_uppercase}
-use Rattle.st_tree.specs.Trees.{Bytes, int, sym, Head, name, constant, paren, Expression, expression, Send, send, Sends, no_sends, a_send, no_expressions, an_expression, Statement, statement, Statements, no_statements, a_statement, Program}
-use Rattle.st_tree.specs.Tokens.{is_name_byte}
+use Rattle.texts.specs.Bytes.{Bytes}
+use Rattle.st_tree.specs.Trees.{int, sym, Head, name, constant, paren, Expression, expression, Send, send, Sends, no_sends, a_send, no_expressions, an_expression, Statement, statement, Statements, no_statements, a_statement, Program}
+use Rattle.texts.specs.NameBytes.{is_name_byte}
+use Rattle.profile.specs.Kernel.{is_kernel_name}
 use Rattle.gem_meaning.specs.Operation.{operation_with}
-
--- The names that every image has, and UserGlobals: no chunk may name them in this stage.
-abbrev pub kernel_names : List Bytes
-kernel_names =
-    codes "Object" ∷ codes "Class" ∷ codes "UndefinedObject" ∷ codes "Boolean" ∷ codes "True" ∷ codes "False"
-    ∷ codes "Magnitude" ∷ codes "Character" ∷ codes "SmallInteger" ∷ codes "Block"
-    ∷ codes "Collection" ∷ codes "SequenceableCollection" ∷ codes "Array" ∷ codes "OrderedCollection" ∷ codes "String" ∷ codes "Symbol"
-    ∷ codes "IdentityDictionary" ∷ codes "SymbolDictionary" ∷ codes "RcCounter" ∷ codes "RcIdentityBag" ∷ codes "RcKeyValueDictionary" ∷ codes "RcQueue"
-    ∷ codes "Segment" ∷ codes "UserProfile" ∷ codes "System" ∷ codes "TranscriptStream"
-    ∷ codes "Globals" ∷ codes "AllUsers" ∷ codes "SystemSegment" ∷ codes "DataCuratorSegment" ∷ codes "Transcript" ∷ codes "UserGlobals" ∷ []
-
-abbrev pub is_kernel_name : Bytes → Bool
-is_kernel_name n = list_any (bytes_eq n) kernel_names
 
 abbrev pub begins_with_capital : Bytes → Bool
 begins_with_capital [] = false

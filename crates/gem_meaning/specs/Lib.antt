@@ -1,4 +1,3 @@
-pub mod SmallInteger
 pub mod Operation
 pub mod Form
 pub mod State

@@ -1,9 +1,10 @@
 -- What a chunk means: how it ends, and what it leaves written.
 use Rattle.std.specs.Prelude.{ℤ, codes, ℕ, ◌++◌, [], Option, Some, None, Result, Ok, Err, if◌then◌else◌}
-use Rattle.st_tree.specs.Trees.{Bytes, int, Head, name, constant, paren, Expression, expression, Send, send, Sends, no_sends, a_send, no_expressions, an_expression, Statement, statement, Statements, no_statements, a_statement}
+use Rattle.texts.specs.Bytes.{Bytes}
+use Rattle.st_tree.specs.Trees.{int, Head, name, constant, paren, Expression, expression, Send, send, Sends, no_sends, a_send, no_expressions, an_expression, Statement, statement, Statements, no_statements, a_statement}
 use Rattle.gem_meaning.specs.Operation.{operation_with, exact_result}
 use Rattle.gem_meaning.specs.declared.operation.Operation.{Operation}
-use Rattle.gem_meaning.specs.SmallInteger.{is_small_integer}
+use Rattle.profile.specs.SmallInteger.{is_small_integer}
 use Rattle.gem_meaning.specs.declared.evaluator.EvaluationError.{EvaluationError}
 use Rattle.gem_meaning.specs.declared.evaluator.EvaluationError.TheVariants.{IntegerRange, UndefinedVariable}
 use Rattle.gem_meaning.specs.State.{State, shown, set}

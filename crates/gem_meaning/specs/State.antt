@@ -3,7 +3,7 @@ use Rattle.std.specs.Prelude.{ℤ, Option}
 use Rattle.std.specs.Option.{option_or}
 use base.Stored.{Coded, coded×, coded_via}
 use Rattle.std.specs.FinMap as map
-use Rattle.st_tree.specs.Trees.{Bytes}
+use Rattle.texts.specs.Bytes.{Bytes}
 use Rattle.gem_value.specs.Image.{Image, image_code}
 
 pub record State : Type 0 where

@@ -3,16 +3,17 @@ use Rattle.std.specs.Prelude.{ℤ, Bool, true, false, List, [], ◌∷◌, ◌++
 use Rattle.std.specs.List.{fold}
 use Rattle.std.specs.Fmt.{signed_decimal}
 use Rattle.std.specs.FinMap as map
-use Rattle.st_tree.specs.Trees.{Bytes, Program}
+use Rattle.texts.specs.Bytes.{Bytes}
+use Rattle.st_tree.specs.Trees.{Program}
 use Rattle.gem_value.specs.Image.{Image}
 use Rattle.gem_replies.specs.declared.reply.Line.{Line}
 use Rattle.gem_replies.specs.declared.reply.Line.TheVariants.{Parse, NotBuilt, Error, Ran, Printed}
 use Rattle.shell_words.specs.declared.script.Command.{Command}
 use Rattle.shell_words.specs.declared.script.Command.TheVariants.{Chunk, Method, Commit, Abort, Logout, Lock, Unlock}
 use Rattle.gem_meaning.specs.declared.evaluator.EvaluationError.{EvaluationError}
-use Rattle.st_tree.specs.Grammar.{chunk, method}
-use Rattle.st_tree.specs.Fails.{rule_number}
-use Rattle.st_grammar.specs.TreeOf.{TextFault, tree_of}
+use Rattle.st_grammar.specs.Grammar.{chunk, method}
+use Rattle.st_grammar.specs.Fails.{rule_number}
+use Rattle.st_grammar_laws.specs.TreeOf.{TextFault, tree_of}
 use Rattle.gem_meaning.specs.Form.{is_chunk}
 use Rattle.gem_meaning.specs.State.{State, begun}
 use Rattle.gem_meaning.specs.Meaning.{Ended, kind_of, detail_of, run}

@@ -6,11 +6,13 @@ ghost use Rattle.gem_meaning.specs.Operation.{exact_result};
 ghost use Rattle.gem_meaning.specs.State.{shown};
 ghost use Rattle.gem_meaning.specs.Meaning.{kind_of, detail_of, ranged, global, value_of, head_value, answer, stored, statement_run, run};
 
-use crate::form::{is_small_integer, put_of};
+use crate::form::put_of;
 use crate::operation::Operation;
 use crate::state::PlainState;
-use st_tree::{Expr, Literal, Message, Primary, Stat, Text, Tree};
+use profile::is_small_integer;
+use st_tree::{Expr, Literal, Message, Primary, Stat, Tree};
 use std::alloc::{AllocError, Global};
+use texts::Text;
 
 /// Why a chunk ended with an error: `kind` is its number, and `detail` says in words what is wrong.
 #[derive(Debug, Drop)]

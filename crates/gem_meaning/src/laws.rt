@@ -1,6 +1,7 @@
 //! What follows from the definitions alone. Each law is the contract of a function that does nothing.
 ghost use Rattle.std.specs.Prelude.{◌≡◌, ◌≢◌, ℕ, ℤ, Bool, Some, Ok, Err, List, [], ◌++◌};
-ghost use Rattle.st_tree.specs.Trees.{Bytes, Expression, statement, Statements, append_statements};
+ghost use Rattle.texts.specs.Bytes.{Bytes};
+ghost use Rattle.st_tree.specs.Trees.{Expression, statement, Statements, append_statements};
 ghost use Rattle.shell_words.specs.Script.{SessionCommands};
 ghost use Rattle.gem_replies.specs.declared.reply.Reply.{Reply};
 ghost use Rattle.gem_meaning.specs.Events.{Opened, Event, own};

@@ -4,10 +4,10 @@ ghost use Rattle.std.specs.FinMap as map;
 ghost use Rattle.gem_meaning.specs.State.{begun, shown, set};
 
 use gem_value::{Image, Writes};
-use st_tree::Text;
 use std::alloc::{AllocError, Global};
 use std::collections::BTreeMap;
 use std::marker::Model;
+use texts::Text;
 
 /// The globals of a transaction's view, and those that the transaction set itself. A contract sees both as
 /// finite maps from names to integers.

@@ -1,7 +1,7 @@
 -- The two parts of a reply: its words, and the text from the image that stands after them.
 use Rattle.std.specs.Prelude.{codes, [], ◌++◌}
 use Rattle.std.specs.Fmt.{decimal}
-use Rattle.st_tree.specs.Trees.{Bytes}
+use Rattle.texts.specs.Bytes.{Bytes}
 use Rattle.gem_replies.specs.declared.reply.Line.{Line}
 use Rattle.gem_replies.specs.declared.reply.Line.TheVariants.{NoUser, NotLoggedIn, Login, NoMemory, Parse, NotBuilt, Error, Ran, Printed, Spoiled, Unchanged, Refused, Committed, Aborted, Logout}
 use Rattle.gem_replies.specs.Report.{line_text}

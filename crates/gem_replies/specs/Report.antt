@@ -2,7 +2,8 @@
 use Rattle.std.specs.Prelude.{ℕ, ◌+◌, codes, List, [], ◌∷◌, ◌++◌, length, map}
 use Rattle.std.specs.List.{flat_map}
 use Rattle.std.specs.Fmt.{decimal}
-use Rattle.st_tree.specs.Trees.{Bytes}
+use Rattle.texts.specs.Bytes.{Bytes}
+use Rattle.texts.specs.Lines.{text_of_lines}
 use Rattle.gem_value.specs.Oid.{oid_text}
 use Rattle.gem_value.specs.Conflict.{kind_number}
 use Rattle.gem_value.specs.declared.conflict.Conflict.{Conflict}
@@ -15,10 +16,6 @@ use Rattle.gem_replies.specs.declared.reply.Line.TheVariants.{NoUser, NotLoggedI
 use Rattle.gem_replies.specs.declared.reply.Reply.{Reply}
 use Rattle.gem_replies.specs.declared.reply.Transcript.{Transcript}
 use Rattle.gem_replies.specs.declared.reply.RunBook.{RunBook}
-
--- the lines, each with LF at its end
-abbrev pub text_of_lines : List Bytes → Bytes
-text_of_lines lines = flat_map (λ line. line ++ 10 ∷ []) lines
 
 -- what a reply says, after its number
 abbrev pub line_text : Line → Bytes

@@ -1,6 +1,6 @@
 //! What sessions reply, and the book that a run leaves.
 use gem_value::{Conflicts, Entry, Sequence};
-use st_tree::Text;
+use texts::Text;
 
 /// A reply to a command. Its line in the report stands beside it.
 #[derive(Debug, Drop)]

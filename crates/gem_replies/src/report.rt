@@ -3,7 +3,8 @@ ghost use Rattle.std.specs.Prelude.{◌≡◌, ◌<◌, ◌++◌, false, [], ◌
 ghost use Rattle.std.specs.Fmt.{digit_glyph};
 ghost use Rattle.gem_replies.specs.Escapes.{escape, escaped};
 ghost use Rattle.gem_replies.specs.Parts.{line_words, line_image};
-ghost use Rattle.gem_replies.specs.Report.{text_of_lines, conflicts_of, shown_name, conflict_text, reply_lines, transcript_lines, entry_text, history_lines, commit_lines, report_of};
+ghost use Rattle.texts.specs.Lines.{text_of_lines};
+ghost use Rattle.gem_replies.specs.Report.{conflicts_of, shown_name, conflict_text, reply_lines, transcript_lines, entry_text, history_lines, commit_lines, report_of};
 
 use crate::reply::{Line, Reply, RunBook, Transcript};
 use gem_value::{Conflict, ConflictKind, Entry};

@@ -2,9 +2,9 @@ ghost use Rattle.std.specs.Prelude.{◌≡◌, IfOk};
 
 use super::*;
 use gem_value::{Conflict, ConflictKind, Conflicts, Entry, Oid};
-use st_tree::Text;
 use std::alloc::{AllocError, Global};
 use std::test::Fail;
+use texts::Text;
 
 fn text(alloc: Global, bytes: &[u8]) -> Result<Text, AllocError>
     ensures { IfOk result (λ text. text ≡ bytes.now) }

@@ -2,14 +2,15 @@
 use Rattle.std.proofs.Common.{◌≡◌, ◌∙◌, refl, sym, ap, subst, if◌then◌else◌, ℕ, ◌+◌, ◌-◌, ◌≤◌, Bool, true, false, Some, None, Result, Ok, Err, List, [], length, arith, inl, inr}
 use Rattle.std.proofs.lemmas.Bool.{true≢false}
 use Rattle.std.specs.List.{AllByRecursion, slice_get}
-use Rattle.st_tree.specs.Trees.{Bytes, Program}
+use Rattle.texts.specs.Bytes.{Bytes}
+use Rattle.st_tree.specs.Trees.{Program}
 use Rattle.gem_value.specs.Image.{Image}
 use Rattle.gem_replies.specs.declared.reply.Line.{Line}
 use Rattle.gem_replies.specs.declared.reply.Line.TheVariants.{NoMemory, NotBuilt, Logout as LoggedOut}
 use Rattle.shell_words.specs.declared.script.Command.{Command}
 use Rattle.shell_words.specs.declared.script.Command.TheVariants.{Chunk, Method, Logout, Lock, Unlock}
-use Rattle.st_tree.specs.Grammar.{chunk, method}
-use Rattle.st_grammar.specs.TreeOf.{TextFault, tree_of}
+use Rattle.st_grammar.specs.Grammar.{chunk, method}
+use Rattle.st_grammar_laws.specs.TreeOf.{TextFault, tree_of}
 use Rattle.gem_meaning.specs.Form.{is_chunk}
 use Rattle.gem_meaning.specs.State.{State, begun}
 use Rattle.gem_meaning.specs.Meaning.{Ended, run}

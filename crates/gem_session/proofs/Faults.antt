@@ -1,14 +1,15 @@
 -- The reply to a text that has no tree.
 use Rattle.std.proofs.Common.{◌≡◌, ◌∙◌, sym, ap, ℕ, Bool}
-use Rattle.st_tree.specs.Trees.{Bytes, Program}
+use Rattle.texts.specs.Bytes.{Bytes}
+use Rattle.st_tree.specs.Trees.{Program}
 use Rattle.gem_replies.specs.declared.reply.Line.{Line}
 use Rattle.gem_replies.specs.declared.reply.Line.TheVariants.{Parse, NotBuilt}
-use Rattle.st_tree.specs.Grammar.{chunk, method}
+use Rattle.st_grammar.specs.Grammar.{chunk, method}
 use Rattle.gem_meaning.specs.State.{State}
 use Rattle.gem_meaning.specs.Transaction.{run_parsed, run_chunk, parsed_line, method_line}
-use Rattle.st_tree.specs.Fails.{Reads}
-use Rattle.st_grammar.proofs.Function.{reads_tree, fails_tree}
-use Rattle.st_grammar.proofs.Supply.{supplies, stands}
+use Rattle.st_grammar.specs.Fails.{Reads}
+use Rattle.st_grammar_laws.proofs.Function.{reads_tree, fails_tree}
+use Rattle.st_grammar_laws.proofs.Supply.{supplies, stands}
 use Rattle.st_parser.specs.declared.faults.ParseFault.TheVariants.{Rule}
 use Rattle.st_parser.specs.Faults.{IsFault}
 

@@ -5,8 +5,9 @@ ghost use Rattle.gem_meaning.specs.Transaction.{ended_line, run_tree, run_chunk,
 use gem_meaning::{EvaluationError, PlainState, is_chunk, plain_run};
 use gem_replies::Line;
 use st_parser::{ParseFault, parse_chunk, parse_method};
-use st_tree::{Text, Tree};
+use st_tree::Tree;
 use std::alloc::{AllocError, Global};
+use texts::Text;
 
 /// Runs a chunk. Where `prints` is true the reply shows the text of its value.
 ///

@@ -14,9 +14,9 @@ ghost use Rattle.gem_session.specs.Refused.{not_logged_in};
 use crate::session::Session;
 use gem_replies::{Line, Replies, Reply, Transcript};
 use shell_words::{Command, SessionScript};
-use st_tree::Text;
 use std::alloc::{AllocError, Global};
 use stone_core::StonePort;
+use texts::Text;
 
 /// Runs the session with this number to its end: a login, its commands up to the first logout, and a logout, also where the script has
 /// none. The transcript has its replies. Where the user may not log in, each command is refused.

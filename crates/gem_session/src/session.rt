@@ -13,9 +13,9 @@ use gem_meaning::PlainState;
 use gem_replies::Line;
 use gem_value::TxnRecord;
 use shell_words::Command;
-use st_tree::Text;
 use std::alloc::{AllocError, Global};
 use stone_core::{CommitAnswer, StonePort};
+use texts::Text;
 
 /// A session with its current transaction.
 #[derive(Debug, Drop)]

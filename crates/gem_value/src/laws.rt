@@ -2,7 +2,7 @@
 ghost use Rattle.std.specs.Prelude.{◌≡◌, ◌≢◌, ◌^◌, ◌<◌, ℕ, ℤ, None, Some};
 ghost use Rattle.std.specs.Ordering.{nat_cmp, ordering_then};
 ghost use Rattle.std.specs.FinMap as map;
-ghost use Rattle.st_tree.specs.Trees.{Bytes};
+ghost use Rattle.texts.specs.Bytes.{Bytes};
 ghost use Rattle.gem_value.specs.Image.{Image};
 ghost use Rattle.gem_value.specs.Oid.{oid_number, serial_of, counter_of};
 ghost use Rattle.gem_value.specs.Conflict.{kind_number};

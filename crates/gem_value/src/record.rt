@@ -3,8 +3,8 @@ ghost use Rattle.std.specs.Prelude.{◌≡◌};
 ghost use Rattle.gem_value.specs.Writes.{IsInNameOrder};
 ghost use Rattle.gem_value.specs.Entry.{entry_of};
 
-use st_tree::Text;
 use std::marker::Model;
+use texts::Text;
 
 /// Globals with the integers that a transaction gave them last, each name once and in ascending order.
 /// A contract sees them as the list of the pairs of a name, by its bytes, and an integer.
@@ -15,7 +15,7 @@ pub struct Writes {
 
 impl Model for Writes {
     ghost use Rattle.std.specs.Prelude.{ℤ, List};
-    ghost use Rattle.st_tree.specs.Trees.{Bytes};
+    ghost use Rattle.texts.specs.Bytes.{Bytes};
     ghost use Rattle.gem_value.specs.Writes.{IsInNameOrder};
 
     ghost Value = { List (Bytes × ℤ) };

@@ -2,7 +2,7 @@
 use Rattle.std.proofs.Common.{◌≡◌, ℕ, ◌+◌, ◌<◌, ◌≤◌, Bool, true, false, not, ◌&&◌, List, [], ◌∷◌, ◌++◌, length, Option, Some, None, nat_le, subst, refl, arith, sym, ◌∙◌, ap, length-append, append-nil}
 use Rattle.std.specs.List.{AllByRecursion, list_all}
 use Rattle.std.proofs.lemmas.List.Folds.{list_all-append}
-use Rattle.st_tree.specs.Trees.{Bytes}
+use Rattle.texts.specs.Bytes.{Bytes}
 use Rattle.shell_words.specs.Script.{SessionCommands, HasShortText, most_sessions, is_logout, takes_commands, with_command}
 use Rattle.std.proofs.lemmas.Bool.Decides.{nat_tests}
 use Rattle.shell_words.specs.ScriptGrammar.{is_user_name, is_letters_and_digits}

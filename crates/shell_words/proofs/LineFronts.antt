@@ -5,7 +5,7 @@ use Rattle.std.proofs.lemmas.List.{length-map, drop-drop, take-append-drop}
 use Rattle.std.proofs.lemmas.List.Sums.{prefix_len-le-length, fails_before_first}
 use Rattle.std.proofs.lemmas.List.Splits.{slice_split_first, slice_split_none}
 use Rattle.std.proofs.lemmas.Bool.Decides.{nat_tests}
-use Rattle.st_tree.specs.Trees.{Bytes}
+use Rattle.texts.specs.Bytes.{Bytes}
 use Rattle.shell_words.specs.Lines.{is_line_feed, full_parts, without_return, lines_of}
 
 no_items : (xs : Bytes) → length xs ≡ 0 → xs ≡ []

@@ -2,8 +2,9 @@
 use Rattle.std.proofs.Common.{◌≡◌, ℕ, zero, suc, ◌+◌, ◌<◌, ◌≤◌, Bool, true, false, nat_lt, nat_le, List, [], ◌∷◌, ◌++◌, length, refl, arith, sym, ◌∙◌, ap, length-append, ◌⊎◌, inl, inr}
 use Rattle.std.specs.List.{AllByRecursion, list_all}
 use Rattle.std.proofs.lemmas.Bool.Decides.{nat_tests}
-use Rattle.st_tree.specs.Trees.{Bytes}
-use Rattle.shell_words.specs.Lines.{lines_of, text_of_lines, IsBody}
+use Rattle.texts.specs.Bytes.{Bytes}
+use Rattle.texts.specs.Lines.{text_of_lines}
+use Rattle.shell_words.specs.Lines.{lines_of, IsBody}
 use Rattle.shell_words.specs.Script.{SessionCommands, most_sessions, most_bytes, most_script_bytes, takes_commands}
 use Rattle.shell_words.specs.ScriptGrammar.{is_user_name, Says, Adds, empty_line, session_line, command_line, chunk_lines, Leads, at_once, after, BreaksAt, none_of_table, command_outside, chunk_outside, chunk_without_end, long_chunk, one_session_more, no_user_name, is_script_byte, IsPlain, ReadsScript, HasOtherByte, StopsAt, BreaksRule, long_script, other_byte, at_line}
 use Rattle.shell_words.specs.declared.script.Command.{Command}

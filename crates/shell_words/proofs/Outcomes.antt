@@ -2,8 +2,9 @@
 use Rattle.std.proofs.Common.{◌≡◌, ◌≢◌, ℕ, ◌<◌, ◌≤◌, Bool, true, false, cond, ◌==◌, nat_lt, nat_le, List, [], ◌∷◌, ◌++◌, length, Option, Some, None, refl, arith, sym, ◌∙◌, ap, codes, ◌⊎◌, inl, inr}
 use Rattle.std.specs.List.{AllByRecursion}
 use Rattle.std.proofs.lemmas.Bool.Decides.{nat_tests}
-use Rattle.st_tree.specs.Trees.{Bytes}
-use Rattle.shell_words.specs.Lines.{text_of_lines, is_space, words_of, IsInner, IsBody}
+use Rattle.texts.specs.Bytes.{Bytes}
+use Rattle.texts.specs.Lines.{text_of_lines}
+use Rattle.shell_words.specs.Lines.{is_space, words_of, IsInner, IsBody}
 use Rattle.shell_words.specs.Script.{SessionCommands, most_sessions, most_bytes, takes_commands, with_command}
 use Rattle.shell_words.specs.ScriptGrammar.{is_identifier, is_user_name, Says, command_of, Adds, empty_line, session_line, command_line, chunk_lines, BreaksAt, none_of_table, command_outside, chunk_outside, chunk_without_end, long_chunk, one_session_more, no_user_name}
 use Rattle.shell_words.proofs.LineFronts.{one_part}

@@ -1,7 +1,7 @@
 -- No word is longer than its line.
 use Rattle.std.proofs.Common.{◌≡◌, ℕ, ◌+◌, ◌≤◌, Bool, true, false, cond, List, [], ◌∷◌, length, arith, subst}
 use Rattle.std.specs.List.{AllByRecursion, onto_first}
-use Rattle.st_tree.specs.Trees.{Bytes}
+use Rattle.texts.specs.Bytes.{Bytes}
 use Rattle.shell_words.specs.Lines.{is_space, words_of}
 use Rattle.shell_words.specs.Script.{HasShortText, most_script_bytes}
 use Rattle.shell_words.specs.ScriptGrammar.{SaysOpening, SaysCommand, command_of}

@@ -1,7 +1,7 @@
 -- The lines of a text, the words of a line, and the text of lines.
 use Rattle.std.specs.Prelude.{◌≡◌, ◌≢◌, ℕ, Bool, ◌==◌, codes, List, [], ◌∷◌, ◌++◌, length, map, if◌then◌else◌}
 use Rattle.std.specs.List.{AllByRecursion, slice_split, flat_map}
-use Rattle.st_tree.specs.Trees.{Bytes}
+use Rattle.texts.specs.Bytes.{Bytes}
 
 -- whether a byte is LF
 abbrev pub is_line_feed : ℕ → Bool
@@ -22,10 +22,6 @@ without_return (b ∷ c ∷ bs) = b ∷ without_return (c ∷ bs)
 -- The lines of a text. A line ends with LF or with the end of the text, and a CR just before either is dropped.
 abbrev pub lines_of : Bytes → List Bytes
 lines_of text = map without_return (full_parts (slice_split is_line_feed text))
-
--- the lines, each with LF at its end
-abbrev pub text_of_lines : List Bytes → Bytes
-text_of_lines lines = flat_map (λ line. line ++ 10 ∷ []) lines
 
 -- whether a byte is a space
 abbrev pub is_space : ℕ → Bool

@@ -1,7 +1,7 @@
 -- Where the reader stands: the sessions that the lines so far are.
 use Rattle.std.specs.Prelude.{◌≡◌, ℕ, ◌<◌, ◌≤◌, List, [], ◌∷◌, ◌++◌, length, Option, Some, None, is_some}
 use Rattle.std.specs.List.{AllByRecursion}
-use Rattle.st_tree.specs.Trees.{Bytes}
+use Rattle.texts.specs.Bytes.{Bytes}
 use Rattle.shell_words.specs.Script.{SessionCommands, HasShortText, most_sessions, takes_commands}
 use Rattle.shell_words.specs.ScriptGrammar.{BreaksAt, StopsAt, BreaksRule}
 use Rattle.shell_words.specs.declared.reading.Draft.{Draft}

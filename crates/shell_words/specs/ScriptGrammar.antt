@@ -2,9 +2,10 @@
 use Rattle.std.specs.Prelude.{◌≡◌, ◌≢◌, ℕ, ◌+◌, ◌<◌, ◌≤◌, Bool, true, false, ◌&&◌, ◌||◌, ◌==◌, nat_le, codes, List, [], ◌∷◌, ◌++◌, length}
 use Rattle.std.specs.List.{AllByRecursion, list_all}
 use Rattle.std.specs.Char.{is_ascii_alphabetic, is_ascii_alphanumeric}
-use Rattle.st_tree.specs.Trees.{Bytes}
-use Rattle.st_tree.specs.Tokens.{starts_name, is_name_byte}
-use Rattle.shell_words.specs.Lines.{lines_of, text_of_lines, words_of, IsInner, IsBody}
+use Rattle.texts.specs.Bytes.{Bytes}
+use Rattle.texts.specs.NameBytes.{starts_name, is_name_byte}
+use Rattle.texts.specs.Lines.{text_of_lines}
+use Rattle.shell_words.specs.Lines.{lines_of, words_of, IsInner, IsBody}
 use Rattle.shell_words.specs.Script.{SessionCommands, most_sessions, most_bytes, most_script_bytes, takes_commands, with_command}
 use Rattle.shell_words.specs.declared.script.Command.{Command}
 use Rattle.shell_words.specs.declared.script.Command.TheVariants.{Chunk, Method, Commit, Abort, Logout, Lock, Unlock}

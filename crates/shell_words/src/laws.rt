@@ -1,6 +1,6 @@
 //! What holds of scripts whatever reader reads them.
 ghost use Rattle.std.specs.Prelude.{◌≡◌, ℕ, List, ◌⊎◌};
-ghost use Rattle.st_tree.specs.Trees.{Bytes};
+ghost use Rattle.texts.specs.Bytes.{Bytes};
 ghost use Rattle.shell_words.specs.Script.{SessionCommands};
 ghost use Rattle.shell_words.specs.ScriptGrammar.{ReadsScript, BreaksRule};
 

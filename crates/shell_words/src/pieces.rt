@@ -1,8 +1,9 @@
 //! Lines and words, cut off the front of a text.
 ghost use Rattle.std.specs.Prelude.{◌≡◌, ℕ, ◌+◌, ◌^◌, ◌<◌, ◌≤◌, List, [], ◌∷◌, ◌++◌, length, take, drop, codes, IfOk, IfSome, MatchOption, map};
 ghost use Rattle.std.specs.List.{AllByRecursion, position_or_len, slice_split};
-ghost use Rattle.st_tree.specs.Trees.{Bytes};
-ghost use Rattle.shell_words.specs.Lines.{is_line_feed, full_parts, without_return, lines_of, text_of_lines, is_space, words_of, IsInner, IsBody};
+ghost use Rattle.texts.specs.Bytes.{Bytes};
+ghost use Rattle.texts.specs.Lines.{text_of_lines};
+ghost use Rattle.shell_words.specs.Lines.{is_line_feed, full_parts, without_return, lines_of, is_space, words_of, IsInner, IsBody};
 
 use std::alloc::{AllocError, Global};
 

@@ -1,7 +1,7 @@
 //! The reader of scripts, line by line.
 ghost use Rattle.std.specs.Prelude.{◌≡◌, ℕ, ◌+◌, ◌<◌, ◌≤◌, true, List, [], ◌∷◌, ◌++◌, length, is_some, IsSome, None, IfSome, IfOk, IfErr, OnOk, MatchOption, MatchResult};
 ghost use Rattle.std.specs.List.{AllByRecursion, list_all};
-ghost use Rattle.st_tree.specs.Trees.{Bytes};
+ghost use Rattle.texts.specs.Bytes.{Bytes};
 ghost use Rattle.shell_words.specs.Lines.{lines_of};
 ghost use Rattle.shell_words.specs.Script.{SessionCommands, HasShortText, most_sessions, command_limit, most_script_bytes, is_logout, takes_commands, with_command};
 ghost use Rattle.shell_words.specs.ScriptGrammar.{Says, Adds, Leads, ReadsScript, HasOtherByte, IsPlain, is_user_name, is_script_byte, command_of};
@@ -11,8 +11,8 @@ use crate::fault::ScriptFault;
 use crate::pieces::{split_body, split_line};
 use crate::script::{CHUNK_LIMIT, Command, SCRIPT_LIMIT, SESSION_LIMIT, Script, SessionScript};
 use crate::table::{Line, Opening, is_user_name, line_of};
-use st_tree::Text;
 use std::alloc::{AllocError, Global};
+use texts::Text;
 
 // A session that takes commands.
 #[derive(Drop)]

@@ -2,8 +2,8 @@
 ghost use Rattle.std.specs.Prelude.{◌≡◌, ◌<◌, ◌≤◌, length};
 ghost use Rattle.shell_words.specs.Script.{SessionCommands, most_sessions, IsWithinLimits};
 
-use st_tree::Text;
 use std::marker::Model;
+use texts::Text;
 
 /// How many bytes a script has at most.
 pub const SCRIPT_LIMIT: usize = 1_048_576;

@@ -2,15 +2,14 @@
 ghost use Rattle.std.specs.Prelude.{◌≡◌, ◌≢◌, ◌≤◌, List, [], ◌∷◌, length, codes, IfOk, MatchOption};
 ghost use Rattle.std.specs.List.{list_all};
 ghost use Rattle.std.specs.Char.{is_ascii_alphanumeric};
-ghost use Rattle.st_tree.specs.Trees.{Bytes};
-ghost use Rattle.st_tree.specs.Tokens.{starts_name, is_name_byte};
+ghost use Rattle.texts.specs.Bytes.{Bytes};
 ghost use Rattle.shell_words.specs.Lines.{words_of};
 ghost use Rattle.shell_words.specs.ScriptGrammar.{is_identifier, is_letters_and_digits, is_user_name, Says, command_of};
 
 use crate::pieces::split_word;
 use crate::script::{Command, USER_LIMIT};
-use st_tree::Text;
 use std::alloc::{AllocError, Global};
+use texts::{Text, are_name_bytes, starts_name};
 
 /// How a chunk begins.
 #[derive(Debug, Drop)]
@@ -78,7 +77,7 @@ fn name_line(alloc: Global, word: &[u8], name: &[u8]) -> Result<Option<Line>, Al
     if !is_identifier(name) {
         return Ok(None);
     }
-    let name = text_of(alloc, name)?;
+    let name = Text::copy_of(alloc, name)?;
     if word == b"method:".as_slice() {
         Ok(Some(Line::Opens(Opening::OfMethod {
             class_side: false,
@@ -102,7 +101,7 @@ fn session_line(alloc: Global, name: &[u8]) -> Result<Option<Line>, AllocError>
     if name.is_empty() {
         return Ok(None);
     }
-    Ok(Some(Line::OfSession(text_of(alloc, name)?)))
+    Ok(Some(Line::OfSession(Text::copy_of(alloc, name)?)))
 }
 
 fn lock_line(
@@ -116,7 +115,7 @@ fn lock_line(
     if word != b"lock".as_slice() || !is_identifier(name) {
         return Ok(None);
     }
-    let name = text_of(alloc, name)?;
+    let name = Text::copy_of(alloc, name)?;
     if mode == b"write".as_slice() {
         Ok(Some(Line::Orders(Command::Lock { write: true, name })))
     } else if mode == b"read".as_slice() {
@@ -124,14 +123,6 @@ fn lock_line(
     } else {
         Ok(None)
     }
-}
-
-fn text_of(alloc: Global, bytes: &[u8]) -> Result<Text, AllocError>
-    ensures { IfOk result (λ text. text ≡ bytes.now) }
-{
-    let mut copy = Vec::new(alloc);
-    copy.extend_from_slice(bytes)?;
-    Ok(Text::of(copy))
 }
 
 fn is_identifier(name: &[u8]) -> bool
@@ -159,26 +150,8 @@ fn is_letters_and_digits(name: &[u8]) -> bool
     }
 }
 
-fn are_name_bytes(bytes: &[u8]) -> bool
-    ensures { result ≡ list_all is_name_byte bytes.now }
-{
-    bytes.iter().all(|byte| is_name_byte(*byte))
-}
-
 fn are_letters_and_digits(bytes: &[u8]) -> bool
     ensures { result ≡ list_all is_ascii_alphanumeric bytes.now }
 {
     bytes.iter().all(|byte| byte.is_ascii_alphanumeric())
-}
-
-fn starts_name(byte: u8) -> bool
-    ensures { result ≡ starts_name byte }
-{
-    byte.is_ascii_alphabetic() || byte == b'_'
-}
-
-fn is_name_byte(byte: u8) -> bool
-    ensures { result ≡ is_name_byte byte }
-{
-    starts_name(byte) || byte.is_ascii_digit()
 }

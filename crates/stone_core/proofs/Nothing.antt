@@ -5,7 +5,7 @@ use Rattle.std.specs.Cmp.Lexicographic.{slice_cmp}
 use Rattle.std.specs.FinMap.{empty, entries, len-entries, len-empty}
 use Rattle.std.specs.List.Sorted.{IsStrictlySortedBy}
 use Rattle.std.proofs.lemmas.List.{nil_from_length}
-use Rattle.st_tree.specs.Trees.{Bytes}
+use Rattle.texts.specs.Bytes.{Bytes}
 use Rattle.gem_value.specs.Image.{Image}
 use Rattle.gem_value.specs.Writes.{IsInNameOrder}
 use Rattle.shell_words.specs.Script.{SessionCommands}

@@ -6,9 +6,9 @@ use Rattle.std.specs.FinMap.{empty, entries, entries-insert, len-entries, len-em
 use Rattle.std.specs.FinMap.Entries.{put}
 use Rattle.std.specs.List.Sorted.{IsStrictlySortedBy}
 use Rattle.std.proofs.lemmas.List.{nil_from_length}
-use Rattle.st_tree.specs.Trees.{Bytes}
-use Rattle.st_tree.specs.Lexed.{tokens_of}
-use Rattle.st_grammar.specs.TreeOf.{tree_of}
+use Rattle.texts.specs.Bytes.{Bytes}
+use Rattle.st_grammar.specs.Lexed.{tokens_of}
+use Rattle.st_grammar_laws.specs.TreeOf.{tree_of}
 use Rattle.gem_value.specs.Image.{Image}
 use Rattle.gem_value.specs.Writes.{IsInNameOrder}
 use Rattle.gem_value.specs.declared.record.TxnRecord.{TxnRecord}

@@ -5,8 +5,8 @@ ghost use Rattle.shell_words.specs.declared.script.Command.TheVariants.{Chunk, C
 use super::*;
 use gem_value::Writes;
 use shell_words::{Command, SessionScript};
-use st_tree::Text;
 use std::test::Fail;
+use texts::Text;
 
 fn one_commit(alloc: Global) -> Result<Arc<Script>, AllocError>
     ensures { IfOk result (λ script. script.value ≡ record { user = 65 ∷ []; commands = Commit ∷ [] } ∷ []) }

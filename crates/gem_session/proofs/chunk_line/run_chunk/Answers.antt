@@ -1,8 +1,8 @@
 use Rattle.std.proofs.Common.{◌≡◌, sym, subst}
 use Rattle.std.specs.Result.{IfOk}
 use Rattle.gem_meaning.specs.Transaction.{run_parsed, run_chunk}
-use Rattle.st_tree.specs.Grammar.{chunk}
-use Rattle.st_grammar.proofs.Function.{reads_tree}
+use Rattle.st_grammar.specs.Grammar.{chunk}
+use Rattle.st_grammar_laws.proofs.Function.{reads_tree}
 use Rattle.gem_session.proofs.Faults.{fault_line}
 use Rattle.gem_session.proofs.chunk_line.run_chunk.Goals as goal
 

@@ -2,7 +2,8 @@ use Rattle.std.proofs.Common.{rules, ◌≡◌, ◌<◌, ◌≤◌, true, false,
 use Rattle.shell_words.specs.Script.{with_command, most_bytes}
 use Rattle.shell_words.specs.ScriptGrammar.{chunk_outside, chunk_without_end, long_chunk, chunk_lines, command_of}
 use Rattle.shell_words.specs.Reading.{sessions_of}
-use Rattle.shell_words.specs.Lines.{lines_of, text_of_lines, IsInner}
+use Rattle.texts.specs.Lines.{text_of_lines}
+use Rattle.shell_words.specs.Lines.{lines_of, IsInner}
 use Rattle.std.specs.List.{AllByRecursion}
 use Rattle.shell_words.proofs.reading.Reading.read_chunk.Goals as goal
 
