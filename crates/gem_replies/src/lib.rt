@@ -8,5 +8,5 @@ mod report;
 #[cfg(test)]
 mod tests;
 
-pub use reply::{History, Line, Replies, Reply, RunBook, Transcript, Transcripts};
+pub use reply::{Line, Replies, Reply, RunBook, Transcript, Transcripts};
 pub use report::report_text;

@@ -1,5 +1,5 @@
 //! What sessions reply, and the book that a run leaves.
-use gem_value::{Conflicts, Entry, Sequence};
+use gem_value::{Conflicts, History, Sequence};
 use texts::Text;
 
 /// A reply to a command. Its line in the report stands beside it.
@@ -61,9 +61,6 @@ pub struct Transcript {
 
 /// The transcripts of a run, in the order of the script. A contract sees the list.
 pub type Transcripts = Sequence<Transcript>;
-
-/// The transactions that a run committed, in order. A contract sees the list of their entries.
-pub type History = Sequence<Entry>;
 
 /// What a run leaves: what its sessions replied, and what was committed.
 #[derive(Debug, Drop)]

@@ -1,7 +1,7 @@
 ghost use Rattle.std.specs.Prelude.{◌≡◌, IfOk};
 
 use super::*;
-use gem_value::{Conflict, ConflictKind, Conflicts, Entry, Oid};
+use gem_value::{Conflict, ConflictKind, Conflicts, Entry, History, Oid};
 use std::alloc::{AllocError, Global};
 use std::test::Fail;
 use texts::Text;

@@ -3,6 +3,7 @@ ghost use Rattle.std.specs.Prelude.{◌≡◌};
 ghost use Rattle.gem_value.specs.Writes.{IsInNameOrder};
 ghost use Rattle.gem_value.specs.Entry.{entry_of};
 
+use crate::sequence::Sequence;
 use std::marker::Model;
 use texts::Text;
 
@@ -99,3 +100,6 @@ pub struct Entry {
     /// The number of commits in the image that it ran on.
     pub view: u64,
 }
+
+/// The transactions that were committed, in order. A contract sees the list of their entries.
+pub type History = Sequence<Entry>;
