@@ -8,8 +8,8 @@ use Rattle.texts.specs.Bytes.{Bytes}
 abbrev pub two_digits : ℕ → Bytes
 two_digits byte = digit_glyph false (byte / 16) ∷ digit_glyph false (byte % 16) ∷ []
 
--- the byte as it is shown: LF as `\n`, a backslash as two, another byte below 32 and 127 as `\x` and
--- two digits, and every other byte as itself
+-- the byte as it is shown: LF as `\n`, a backslash as two, another byte below 32 and 127 as `\x`
+-- and two digits, and every other byte as itself
 abbrev pub escape : ℕ → Bytes
 escape byte =
     if byte == 10 then codes "\\n"

@@ -1,4 +1,5 @@
-//! What follows from the definitions alone. Each law is the contract of a function that does nothing.
+//! What follows from the definitions alone. Each law is the contract of a function that does
+//! nothing.
 ghost use Rattle.std.specs.Prelude.{◌≡◌};
 ghost use Rattle.std.specs.List.{AllByRecursion};
 ghost use Rattle.texts.specs.Bytes.{Bytes};

@@ -5,11 +5,11 @@ ghost use Rattle.gem_value.specs.Image.{globals_by_name};
 ghost use Rattle.gem_value.specs.Writes.{with_written};
 
 use crate::record::Writes;
-use texts::Text;
 use std::alloc::{AllocError, Global};
 use std::collections::BTreeMap;
 use std::marker::Model;
 use std::sync::Arc;
+use texts::Text;
 
 /// The globals, each a name, as bytes, with an integer. An image never changes: `with_name` and
 /// `with_writes` make another one. A contract sees it as the finite map from the names to the integers.

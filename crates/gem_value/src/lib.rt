@@ -14,5 +14,5 @@ mod tests;
 pub use conflict::{Conflict, ConflictKind, Conflicts};
 pub use image::Image;
 pub use oid::Oid;
-pub use record::{Entry, TxnRecord, Writes};
+pub use record::{Entry, History, TxnRecord, Writes};
 pub use sequence::Sequence;

@@ -3,8 +3,9 @@ ghost use Rattle.std.specs.Prelude.{◌≡◌};
 ghost use Rattle.gem_value.specs.Writes.{IsInNameOrder};
 ghost use Rattle.gem_value.specs.Entry.{entry_of};
 
-use texts::Text;
+use crate::sequence::Sequence;
 use std::marker::Model;
+use texts::Text;
 
 /// Globals with the integers that a transaction gave them last, each name once and in ascending order.
 /// A contract sees them as the list of the pairs of a name, by its bytes, and an integer.
@@ -99,3 +100,6 @@ pub struct Entry {
     /// The number of commits in the image that it ran on.
     pub view: u64,
 }
+
+/// The transactions that were committed, in order. A contract sees the list of their entries.
+pub type History = Sequence<Entry>;

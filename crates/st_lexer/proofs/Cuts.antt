@@ -6,8 +6,9 @@ use Rattle.std.proofs.Math.Seq.{drop-drop}
 use Rattle.std.specs.Prelude.{nat_lt, ◌==◌, ◌&&◌, ◌||◌}
 use Rattle.std.specs.List.{prefix_len}
 use Rattle.std.specs.Char.{is_ascii_digit}
-use Rattle.st_tree.specs.Trees.{Bytes}
-use Rattle.st_tree.specs.Tokens.{Kind, Piece, token, bad, p3, number, keyword, identifier, assign, colon, begins, begins_with, is_keyword_end, starts_name, is_name_byte, word, ends_number, number_before, number_in, number_after, number_at, value_of, are_digits, is_radix_digit, piece}
+use Rattle.texts.specs.Bytes.{Bytes}
+use Rattle.texts.specs.NameBytes.{starts_name, is_name_byte}
+use Rattle.st_grammar.specs.Tokens.{Kind, Piece, token, bad, p3, number, keyword, identifier, assign, colon, begins, begins_with, is_keyword_end, word, ends_number, number_before, number_in, number_after, number_at, value_of, are_digits, is_radix_digit, piece}
 use Rattle.st_lexer.proofs.Sizes.{on_cond, and_left}
 
 -- what stands behind a token up to the cut begins with the same piece as before

@@ -2,8 +2,8 @@
 use Rattle.std.proofs.Common.{◌≡◌, ℕ, ◌+◌, ◌<◌, ◌≤◌, List, [], ◌∷◌, ◌++◌, length, take, drop, refl, sym, ap, ◌∙◌, subst, arith, add_assoc, length-drop, length-take, take-append-drop}
 use Rattle.std.proofs.lemmas.List.{drop-append-le}
 use Rattle.std.specs.Prelude.{map}
-use Rattle.st_tree.specs.Trees.{Bytes}
-use Rattle.st_tree.specs.Tokens.{Kind, Token, Piece, gap, token, piece, Lexes, at_end, after_gap, after_token, end_after, moved}
+use Rattle.texts.specs.Bytes.{Bytes}
+use Rattle.st_grammar.specs.Tokens.{Kind, Token, Piece, gap, token, piece, Lexes, at_end, after_gap, after_token, end_after, moved}
 use Rattle.st_lexer.proofs.Sizes.{Inside, inside}
 use Rattle.st_lexer.proofs.Cuts.{Follows}
 use Rattle.st_lexer.proofs.PieceCuts.{token_cut, gap_cut}

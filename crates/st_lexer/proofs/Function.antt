@@ -1,8 +1,8 @@
 -- The function that gives a text's tokens gives what the relations say.
 use Rattle.std.proofs.Common.{◌≡◌, ℕ, zero, suc, ◌+◌, ◌-◌, ◌<◌, List, [], ◌∷◌, length, drop, refl, ap, subst, ◌∙◌, arith, Ok, Err}
-use Rattle.st_tree.specs.Trees.{Bytes}
-use Rattle.st_tree.specs.Tokens.{Token, Lexes, at_end, after_gap, after_token, Stops, here, past_gap, past_token, Rule, Piece, gap, token}
-use Rattle.st_tree.specs.Lexed.{onto_tokens, behind_piece, tokens_behind}
+use Rattle.texts.specs.Bytes.{Bytes}
+use Rattle.st_grammar.specs.Tokens.{Token, Lexes, at_end, after_gap, after_token, Stops, here, past_gap, past_token, Rule, Piece, gap, token}
+use Rattle.st_grammar.specs.Lexed.{onto_tokens, behind_piece, tokens_behind}
 use Rattle.st_lexer.proofs.Sizes.{Inside, inside}
 
 plus_zero : (n : ℕ) → n ≡ n + 0

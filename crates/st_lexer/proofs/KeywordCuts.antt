@@ -3,8 +3,9 @@ use Rattle.std.proofs.Common.{◌≡◌, ℕ, suc, ◌+◌, ◌<◌, Bool, true,
 use Rattle.std.specs.Prelude.{nat_lt, ◌&&◌}
 use Rattle.std.specs.List.{prefix_len}
 use Rattle.std.proofs.lemmas.Bool.{ne_eqb, lt-ltb}
-use Rattle.st_tree.specs.Trees.{Bytes}
-use Rattle.st_tree.specs.Tokens.{keywords, name_goes_on, is_keyword_end, starts_name, is_name_byte}
+use Rattle.texts.specs.Bytes.{Bytes}
+use Rattle.texts.specs.NameBytes.{starts_name, is_name_byte}
+use Rattle.st_grammar.specs.Tokens.{keywords, name_goes_on, is_keyword_end}
 
 goes_on : (here b : ℕ) → 0 < here → name_goes_on here b ≡ is_name_byte b
 goes_on here b some = ap (λ v. cond v (starts_name b) (is_name_byte b)) (ne_eqb here 0 (λ e. omega arith))

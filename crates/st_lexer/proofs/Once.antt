@@ -1,7 +1,7 @@
 -- A text has its tokens or stops at a bad one: one of the two, and only one.
 use Rattle.std.proofs.Common.{◌≡◌, ℕ, zero, suc, ◌+◌, ◌<◌, ◌≤◌, ◌⊎◌, inl, inr, List, [], ◌∷◌, length, drop, refl, sym, ◌∙◌, subst, arith, length-drop}
-use Rattle.st_tree.specs.Trees.{Bytes}
-use Rattle.st_tree.specs.Tokens.{Kind, Token, Lexes, at_end, after_gap, after_token, Stops, here, past_gap, past_token, Rule, Piece, end, gap, token, bad, piece}
+use Rattle.texts.specs.Bytes.{Bytes}
+use Rattle.st_grammar.specs.Tokens.{Kind, Token, Lexes, at_end, after_gap, after_token, Stops, here, past_gap, past_token, Rule, Piece, end, gap, token, bad, piece}
 use Rattle.st_lexer.proofs.Sizes.{Inside, inside}
 
 gap_len : (n m : ℕ) → gap n ≡ gap m → n ≡ m

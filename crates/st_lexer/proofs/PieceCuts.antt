@@ -3,8 +3,9 @@ use Rattle.std.proofs.Common.{◌≡◌, ℕ, zero, suc, ◌+◌, ◌<◌, ◌�
 use Rattle.std.specs.Prelude.{nat_lt, nat_le, ◌==◌, ◌&&◌}
 use Rattle.std.specs.List.{prefix_len}
 use Rattle.std.specs.Char.{is_ascii_digit}
-use Rattle.st_tree.specs.Trees.{Bytes}
-use Rattle.st_tree.specs.Tokens.{Kind, Piece, end, gap, token, bad, p2, p3, string, binary, character, colon, assign, symbol, keyword, identifier, number, Class, blank, comment, name, digit, quote, dollar, hash, operator, colon_mark, other, begins, begins_with, comment_end, string_end, string_bytes, is_keyword_end, starts_name, is_name_byte, is_operator, is_radix_digit, word, ends_number, number_before, number_in, number_after, number_at, value_of, are_digits, sized, symbol_name, quoted_symbol, binary_len, symbol_at, character_at, comment_to, string_to, colon_before, mark, class_of, piece_in, piece}
+use Rattle.texts.specs.Bytes.{Bytes}
+use Rattle.texts.specs.NameBytes.{starts_name, is_name_byte}
+use Rattle.st_grammar.specs.Tokens.{Kind, Piece, end, gap, token, bad, p2, p3, string, binary, character, colon, assign, symbol, keyword, identifier, number, Class, blank, comment, name, digit, quote, dollar, hash, operator, colon_mark, other, begins, begins_with, comment_end, string_end, string_bytes, is_keyword_end, is_operator, is_radix_digit, word, ends_number, number_before, number_in, number_after, number_at, value_of, are_digits, sized, symbol_name, quoted_symbol, binary_len, symbol_at, character_at, comment_to, string_to, colon_before, mark, class_of, piece_in, piece}
 use Rattle.st_lexer.proofs.Sizes.{on_cond, Inside, inside}
 use Rattle.st_lexer.proofs.Cuts.{Follows, token_len, word_cut, number_cut}
 use Rattle.st_lexer.proofs.QuoteCuts.{SameString, string_cut, comment_cut}

@@ -1,8 +1,8 @@
 -- What ends in quotes stays what it is where the text is cut behind it.
 use Rattle.std.proofs.Common.{◌≡◌, ℕ, suc, ◌+◌, ◌<◌, ◌≤◌, Bool, true, false, cond, Option, Some, None, [], ◌∷◌, ◌++◌, length, refl, sym, ap, ◌∙◌, arith}
 use Rattle.std.specs.Prelude.{◌==◌}
-use Rattle.st_tree.specs.Trees.{Bytes}
-use Rattle.st_tree.specs.Tokens.{later, comment_end, string_end, string_bytes}
+use Rattle.texts.specs.Bytes.{Bytes}
+use Rattle.st_grammar.specs.Tokens.{later, comment_end, string_end, string_bytes}
 use Rattle.st_lexer.proofs.Sizes.{on_cond}
 
 some_is : (a b : ℕ) → Some a ≡ Some b → a ≡ b

@@ -1,8 +1,8 @@
 -- How far the text is read.
 use Rattle.std.proofs.Common.{◌≡◌, ℕ, ◌+◌, ◌≤◌, ◌<◌, List, [], ◌∷◌, ◌++◌, length, drop, refl, sym, ap, subst, arith, length-drop, append-nil}
-use Rattle.st_tree.specs.Trees.{Bytes}
-use Rattle.st_tree.specs.Tokens as spec
-use Rattle.st_tree.specs.Tokens.{Kind, Lexes, at_end, after_gap, after_token, Stops, here, past_gap, past_token, Rule, Piece, end, gap, token, bad, piece}
+use Rattle.texts.specs.Bytes.{Bytes}
+use Rattle.st_grammar.specs.Tokens as spec
+use Rattle.st_grammar.specs.Tokens.{Kind, Lexes, at_end, after_gap, after_token, Stops, here, past_gap, past_token, Rule, Piece, end, gap, token, bad, piece}
 use Rattle.std.proofs.Math.Seq.{drop-drop}
 use Rattle.std.proofs.Math.ListN.{drop_of_length-le}
 use Rattle.st_lexer.proofs.Sizes.{Inside, inside}

@@ -2,8 +2,8 @@
 use Rattle.std.proofs.Common.{◌≡◌, ℕ, ◌+◌, ◌<◌, ◌≤◌, Bool, true, false, cond, Option, Some, None, [], ◌∷◌, length, get_or, drop, refl, sym, ap, ◌∙◌, arith, zero-add, add_assoc}
 use Rattle.std.specs.Prelude.{nat_lt, ◌==◌, ◌&&◌}
 use Rattle.std.proofs.Math.ListN.{drop_of_length-le}
-use Rattle.st_tree.specs.Trees.{Bytes}
-use Rattle.st_tree.specs.Tokens.{later, string_end, string_bytes, keywords, name_goes_on, is_keyword_end}
+use Rattle.texts.specs.Bytes.{Bytes}
+use Rattle.st_grammar.specs.Tokens.{later, string_end, string_bytes, keywords, name_goes_on, is_keyword_end}
 use Rattle.st_lexer.proofs.Places.{from_place}
 
 pub later_zero : (o : Option ℕ) → o ≡ later 0 o

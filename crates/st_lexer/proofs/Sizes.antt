@@ -4,8 +4,9 @@ use Rattle.std.specs.Prelude.{nat_lt, nat_le, ◌==◌, ◌&&◌}
 use Rattle.std.specs.List.{prefix_len}
 use Rattle.std.specs.Char.{is_ascii_digit}
 use Rattle.std.proofs.lemmas.List.Sums.{prefix_len-le-length}
-use Rattle.st_tree.specs.Trees.{Bytes}
-use Rattle.st_tree.specs.Tokens.{Piece, end, gap, token, bad, Class, blank, comment, name, digit, quote, dollar, hash, operator, colon_mark, other, later, begins, begins_with, comment_end, string_end, string_bytes, keywords, name_goes_on, is_keyword_end, starts_name, is_name_byte, is_blank, is_operator, is_second, word, number_before, number_in, number_after, value_of, are_digits, ends_number, is_radix_digit, sized, symbol_name, quoted_symbol, binary_len, symbol_at, character_at, comment_to, string_to, colon_before, mark, class_of, piece_in, piece, keyword, identifier}
+use Rattle.texts.specs.Bytes.{Bytes}
+use Rattle.texts.specs.NameBytes.{starts_name, is_name_byte}
+use Rattle.st_grammar.specs.Tokens.{Piece, end, gap, token, bad, Class, blank, comment, name, digit, quote, dollar, hash, operator, colon_mark, other, later, begins, begins_with, comment_end, string_end, string_bytes, keywords, name_goes_on, is_keyword_end, is_blank, is_operator, is_second, word, number_before, number_in, number_after, value_of, are_digits, ends_number, is_radix_digit, sized, symbol_name, quoted_symbol, binary_len, symbol_at, character_at, comment_to, string_to, colon_before, mark, class_of, piece_in, piece, keyword, identifier}
 
 -- a choice has what both its sides have
 pub on_cond : {X : Type 0} (P : X → Type 0) (t : Bool) (x y : X) → (t ≡ true → P x) → (t ≡ false → P y) → P (cond t x y)

@@ -4,8 +4,9 @@ use Rattle.std.proofs.lemmas.List.{drop-append-le}
 use Rattle.std.proofs.lemmas.Bool.{eqb-true}
 use Rattle.std.specs.Prelude.{nat_lt, nat_le, ◌==◌, ◌&&◌, ◌||◌}
 use Rattle.std.specs.List.{prefix_len}
-use Rattle.st_tree.specs.Trees.{Bytes}
-use Rattle.st_tree.specs.Tokens.{Kind, Rule, Piece, token, bad, p2, p3, symbol, open_array, keyword, identifier, Class, name, begins, begins_with, string_end, string_bytes, keywords, name_goes_on, is_keyword_end, starts_name, is_name_byte, is_blank, is_operator, is_second, word, sized, symbol_name, quoted_symbol, binary_len, symbol_at, class_of, piece_in, piece}
+use Rattle.texts.specs.Bytes.{Bytes}
+use Rattle.texts.specs.NameBytes.{starts_name, is_name_byte}
+use Rattle.st_grammar.specs.Tokens.{Kind, Rule, Piece, token, bad, p2, p3, symbol, open_array, keyword, identifier, Class, name, begins, begins_with, string_end, string_bytes, keywords, name_goes_on, is_keyword_end, is_blank, is_operator, is_second, word, sized, symbol_name, quoted_symbol, binary_len, symbol_at, class_of, piece_in, piece}
 use Rattle.st_lexer.proofs.Sizes.{on_cond, binary_some, first_counts}
 use Rattle.st_lexer.proofs.Cuts.{Follows, token_len, prefix_cut, keyword_end_stays, keyword_end_stays_none}
 use Rattle.st_lexer.proofs.QuoteCuts.{SameString, string_cut}

@@ -3,8 +3,8 @@ use Rattle.std.proofs.Common.{◌≡◌, ℕ, ◌+◌, ◌*◌, ◌-◌, ◌/◌
 use Rattle.std.specs.Prelude.{fold}
 use Rattle.std.proofs.Math.ListN.{drop_of_length-le}
 use Rattle.std.proofs.Math.Nat.{mul-le-mul_left, div-lt_iff_lt-mul, le-div_iff_mul-le}
-use Rattle.st_tree.specs.Trees.{Bytes}
-use Rattle.st_tree.specs.Tokens.{value_of, digit_value}
+use Rattle.texts.specs.Bytes.{Bytes}
+use Rattle.st_grammar.specs.Tokens.{value_of, digit_value}
 use Rattle.st_lexer.proofs.Places.{from_place}
 
 -- what is read so far, and what the digits from a place on make of it

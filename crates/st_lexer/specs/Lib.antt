@@ -1,3 +1,3 @@
-pub use Rattle.st_tree.specs.Tokens as Tokens
+pub use Rattle.st_grammar.specs.Tokens as Tokens
 pub mod Views
 pub mod Spans

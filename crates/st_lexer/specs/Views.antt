@@ -1,8 +1,8 @@
 -- How the types of the lexer are seen.
 use Rattle.std.specs.Prelude.{◌≡◌, List, map}
-use Rattle.st_tree.specs.Trees.{Bytes}
-use Rattle.st_tree.specs.Tokens as tokens
-use Rattle.st_tree.specs.Tokens.{Kind, Rule, Piece, Class, Stops, rule_number}
+use Rattle.texts.specs.Bytes.{Bytes}
+use Rattle.st_grammar.specs.Tokens as tokens
+use Rattle.st_grammar.specs.Tokens.{Kind, Rule, Piece, Class, Stops, rule_number}
 use Rattle.st_lexer.specs.declared.kinds.TokenKind.{TokenKind}
 use Rattle.st_lexer.specs.declared.kinds.TokenKind.TheVariants.{Identifier, Keyword, Number, Character, Str, Symbol, Binary, Bar, Assign, Colon, Caret, Semicolon, Period, OpenParen, CloseParen, OpenBracket, CloseBracket, OpenArray}
 use Rattle.st_lexer.specs.declared.kinds.Token.{Token}

@@ -1,3 +1,4 @@
+//! The kinds of token, tokens, and why a text has none.
 ghost use Rattle.std.specs.Prelude.{◌≡◌};
 ghost use Rattle.st_lexer.specs.declared.kinds.LexFault.TheVariants.{NoMemory};
 

@@ -1,9 +1,9 @@
 //! What holds of tokens whatever lexer finds them.
 ghost use Rattle.std.specs.Prelude.{◌≡◌, ℕ, ◌+◌, List, ◌∷◌, ◌++◌, ◌⊎◌, length, take, map, Ok, Err};
-ghost use Rattle.st_tree.specs.Trees.{Bytes};
-ghost use Rattle.st_tree.specs.Tokens as spec;
-ghost use Rattle.st_tree.specs.Tokens.{Lexes, Stops, Rule, end_after, moved};
-ghost use Rattle.st_tree.specs.Lexed.{tokens_of};
+ghost use Rattle.texts.specs.Bytes.{Bytes};
+ghost use Rattle.st_grammar.specs.Tokens as spec;
+ghost use Rattle.st_grammar.specs.Tokens.{Lexes, Stops, Rule, end_after, moved};
+ghost use Rattle.st_grammar.specs.Lexed.{tokens_of};
 ghost use Rattle.st_lexer.specs.Spans.{SpansAscend};
 
 /// A text has tokens or one first bad token: never both, always one of the two, and one answer of each.

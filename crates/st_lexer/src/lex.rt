@@ -1,5 +1,6 @@
+//! The tokens of a text, piece by piece.
 ghost use Rattle.std.specs.Prelude.{◌≡◌, ◌^◌, ◌<◌, length, IfOk, IfErr};
-ghost use Rattle.st_tree.specs.Tokens.{Lexes};
+ghost use Rattle.st_grammar.specs.Tokens.{Lexes};
 ghost use Rattle.st_lexer.specs.Views.{tokens_of, IsFault};
 
 use crate::kinds::{LexFault, Token};

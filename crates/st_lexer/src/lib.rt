@@ -1,4 +1,4 @@
-//! The lexer of Smalltalk: it cuts a text into its tokens, or says at which byte it can't and why.
+//! Room: language. Takes a text; gives its tokens, or the first bad one. Knows nothing of trees.
 #![tactic(auto)]
 
 mod kinds;

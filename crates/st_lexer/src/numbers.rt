@@ -2,7 +2,7 @@
 ghost use Rattle.std.specs.Prelude.{◌≡◌, ◌+◌, ◌^◌, ◌<◌, ◌≤◌, length, nat_lt, nat_le, ◌&&◌, MatchOption};
 ghost use Rattle.std.specs.List.{prefix_len, list_all};
 ghost use Rattle.std.specs.Char.{is_ascii_digit};
-ghost use Rattle.st_tree.specs.Tokens.{is_radix_digit, digit_value, value_of, ends_number, number_before, are_digits, number_in, number_after, number_at};
+ghost use Rattle.st_grammar.specs.Tokens.{is_radix_digit, digit_value, value_of, ends_number, number_before, are_digits, number_in, number_after, number_at};
 ghost use Rattle.st_lexer.specs.Views.{piece_seen};
 
 use crate::kinds::TokenKind;

@@ -1,6 +1,6 @@
 //! What a text begins with: a gap, a token, or nothing that may stand there.
 ghost use Rattle.std.specs.Prelude.{◌≡◌, ◌^◌, ◌<◌, false, length, drop};
-ghost use Rattle.st_tree.specs.Tokens.{rule_number, piece, is_blank, class_of, mark, sized, quoted_symbol, symbol_at, character_at, comment_to, comment_end, string_to, string_end, string_bytes, colon_before, word};
+ghost use Rattle.st_grammar.specs.Tokens.{rule_number, piece, is_blank, class_of, mark, sized, quoted_symbol, symbol_at, character_at, comment_to, comment_end, string_to, string_end, string_bytes, colon_before, word};
 ghost use Rattle.st_lexer.specs.Views.{piece_seen, class_seen, rule_seen};
 
 use crate::kinds::TokenKind;

@@ -1,6 +1,6 @@
 //! Where strings and comments end.
 ghost use Rattle.std.specs.Prelude.{◌≡◌, ◌≤◌, length, false, MatchOption, Some, None};
-ghost use Rattle.st_tree.specs.Tokens.{comment_end, string_end, string_bytes};
+ghost use Rattle.st_grammar.specs.Tokens.{comment_end, string_end, string_bytes};
 
 // What stands in quotes: how many bytes from behind the first quote on, and of how many bytes it is the text.
 #[derive(Clone, Copy, Debug)]

@@ -1,3 +1,4 @@
+//! Tokens, bad tokens and their places, worked out by hand.
 use crate::{LexFault, Token, TokenKind, tokens};
 use std::alloc::Global;
 use std::process::Abort;

@@ -2,7 +2,8 @@
 ghost use Rattle.std.specs.Prelude.{◌≡◌, ◌≤◌, length, drop};
 ghost use Rattle.std.specs.List.{prefix_len};
 ghost use Rattle.std.specs.Char.{is_ascii_digit};
-ghost use Rattle.st_tree.specs.Tokens.{starts_name, is_name_byte, is_operator, is_second, name_goes_on, is_keyword_end, keywords, begins, begins_with, symbol_name, binary_len};
+ghost use Rattle.texts.specs.NameBytes.{starts_name, is_name_byte};
+ghost use Rattle.st_grammar.specs.Tokens.{is_operator, is_second, name_goes_on, is_keyword_end, keywords, begins, begins_with, symbol_name, binary_len};
 
 const OPERATORS: &[u8] = b"+-*/\\~<>=@%&?,";
 

@@ -1,11 +1,12 @@
 -- Steps of the machine at the messages of an expression.
 use Rattle.std.proofs.Common.{◌≡◌, ℕ, Bool, true, false, cond, Result, Ok, Err, Option, Some, None, List, [], ◌∷◌, ◌++◌, refl, sym, ap, ◌∙◌, ◌<◌, ◌≤◌, length, arith}
 use Rattle.std.specs.Prelude.{◌&&◌, nat_lt}
-use Rattle.st_tree.specs.Trees.{Bytes, Program, Head, name, block, closure, Expression, expression, Expressions, no_expressions, an_expression, expressions, no_constants, Send, send, Statement, statement, Statements, no_statements, a_statement, append_statements, statements, Sends, no_sends, a_send, append_sends, sends}
-use Rattle.st_tree.specs.Tokens.{Kind, identifier, keyword, number, character, string, symbol, binary, bar, assign, caret, semicolon, period, open_paren, open_bracket, close_bracket, open_array}
-use Rattle.st_tree.specs.Grammar.{Word, word, Rule, p4, p5, p9, is_minus, is_super, Scope, Next, any_message, no_unary, no_message}
-use Rattle.st_tree.specs.Fails.{every, Bracket, square, round}
-use Rattle.st_grammar.specs.Machine.{Role, as_message, as_cascade, State, Body, top, in_block, Seat, in_body, in_paren, Wide, alone, keyword_part, Slot, outer, binary_part, begin, ended, want, named, minus, have, after_semicolon, goes, breaks, stuck, run, go, blame, blame_of, bracket_seat, in_params, in_elements, of_head, unary, bare, added, behind_role, seat_of, has_messages, and_argument, binary_send, level_of, is_full, depth_of, depth_body}
+use Rattle.texts.specs.Bytes.{Bytes}
+use Rattle.st_tree.specs.Trees.{Program, Head, name, block, closure, Expression, expression, Expressions, no_expressions, an_expression, expressions, no_constants, Send, send, Statement, statement, Statements, no_statements, a_statement, append_statements, statements, Sends, no_sends, a_send, append_sends, sends}
+use Rattle.st_grammar.specs.Tokens.{Kind, identifier, keyword, number, character, string, symbol, binary, bar, assign, caret, semicolon, period, open_paren, open_bracket, close_bracket, open_array}
+use Rattle.st_grammar.specs.Grammar.{Word, word, Rule, p4, p5, p9, is_minus, is_super, Scope, Next, any_message, no_unary, no_message}
+use Rattle.st_grammar.specs.Fails.{every, Bracket, square, round}
+use Rattle.st_grammar_laws.specs.Machine.{Role, as_message, as_cascade, State, Body, top, in_block, Seat, in_body, in_paren, Wide, alone, keyword_part, Slot, outer, binary_part, begin, ended, want, named, minus, have, after_semicolon, goes, breaks, stuck, run, go, blame, blame_of, bracket_seat, in_params, in_elements, of_head, unary, bare, added, behind_role, seat_of, has_messages, and_argument, binary_send, level_of, is_full, depth_of, depth_body}
 use Rattle.std.specs.Result.{IsErrAnd}
 use Rattle.std.proofs.lemmas.Result.{err_from_is_err_and}
 use Rattle.st_parser.specs.declared.stops.Stop.{Stop}

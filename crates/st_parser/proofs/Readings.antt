@@ -1,14 +1,15 @@
 -- What the machine's answer says of the text.
 use Rattle.std.proofs.Common.{◌≡◌, ℕ, zero, suc, ◌-◌, ◌≤◌, Result, Ok, Err, List, [], ◌∷◌, ◌++◌, length, drop, refl, sym, ap, ◌∙◌, subst, arith, append-nil, length-append}
-use Rattle.st_tree.specs.Trees.{Bytes, Program}
-use Rattle.st_tree.specs.Tokens as spec
-use Rattle.st_tree.specs.Tokens.{Lexes, end_after}
-use Rattle.st_tree.specs.Grammar.{Word, Form, words_after, words_of}
-use Rattle.st_tree.specs.Grammar as grammar
-use Rattle.st_tree.specs.Fails.{Reads, every, place_of, rule_number, of_grammar}
-use Rattle.st_grammar.specs.Machine.{State, Fault, run, start, finish, blame}
-use Rattle.st_grammar.proofs.Sound.{sound}
-use Rattle.st_grammar.proofs.Paths.{Outcome, reaches, halts, outcome, run_path, run_halted, words_joined}
+use Rattle.texts.specs.Bytes.{Bytes}
+use Rattle.st_tree.specs.Trees.{Program}
+use Rattle.st_grammar.specs.Tokens as spec
+use Rattle.st_grammar.specs.Tokens.{Lexes, end_after}
+use Rattle.st_grammar.specs.Grammar.{Word, Form, words_after, words_of}
+use Rattle.st_grammar.specs.Grammar as grammar
+use Rattle.st_grammar.specs.Fails.{Reads, every, place_of, rule_number, of_grammar}
+use Rattle.st_grammar_laws.specs.Machine.{State, Fault, run, start, finish, blame}
+use Rattle.st_grammar_laws.proofs.Sound.{sound}
+use Rattle.st_grammar_laws.proofs.Paths.{Outcome, reaches, halts, outcome, run_path, run_halted, words_joined}
 use Rattle.st_lexer.specs.Views.{tokens_of}
 use Rattle.st_lexer.specs.declared.kinds.Token.{Token}
 use Rattle.st_parser.specs.declared.stops.Broken.{Broken}
@@ -17,9 +18,9 @@ use Rattle.st_parser.specs.Descent.{rule_of}
 use Rattle.st_lexer.specs.declared.kinds.LexFault.{LexFault}
 use Rattle.st_lexer.specs.declared.kinds.LexFault.TheVariants.{Bad, NoMemory}
 use Rattle.st_lexer.specs.Views.{IsFault as IsTokenFault}
-use Rattle.st_tree.specs.Fails.{of_token, bad_token}
-use Rattle.st_grammar.proofs.Function.{stop_fails}
-use Rattle.st_grammar.proofs.Supply.{supplies, stands}
+use Rattle.st_grammar.specs.Fails.{of_token, bad_token}
+use Rattle.st_grammar_laws.proofs.Function.{stop_fails}
+use Rattle.st_grammar_laws.proofs.Supply.{supplies, stands}
 use Rattle.st_parser.specs.Faults.{IsFault, fault_from}
 
 pub tree_read : (form : Form) (text : Bytes) (ts : List spec.Token) (program : Program) → Lexes 0 text ts → run every (start form) (words_of text ts) ≡ Ok program → Reads form text program

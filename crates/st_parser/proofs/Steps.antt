@@ -3,13 +3,14 @@ use Rattle.std.proofs.Common.{◌≡◌, Bool, true, false, cond, Result, Ok, Er
 use Rattle.std.specs.Prelude.{nat_lt, map}
 use Rattle.std.specs.Result.{IsErrAnd}
 use Rattle.std.proofs.lemmas.Result.{err_from_is_err_and}
-use Rattle.st_tree.specs.Trees.{Bytes, Constants, no_constants, a_constant, constants, sym as sym_of}
-use Rattle.st_tree.specs.Tokens.{Kind, identifier, keyword, binary, bar, open_paren, close_paren, open_array}
-use Rattle.st_tree.specs.Grammar.{Word, word, p6, is_minus}
-use Rattle.st_tree.specs.Fails.{every}
+use Rattle.texts.specs.Bytes.{Bytes}
+use Rattle.st_tree.specs.Trees.{Constants, no_constants, a_constant, constants, sym as sym_of}
+use Rattle.st_grammar.specs.Tokens.{Kind, identifier, keyword, binary, bar, open_paren, close_paren, open_array}
+use Rattle.st_grammar.specs.Grammar.{Word, word, p6, is_minus}
+use Rattle.st_grammar.specs.Fails.{every}
 use Rattle.st_tree.specs.Views.{constant_of}
 use Rattle.st_tree.specs.declared.nodes.Literal.{Literal}
-use Rattle.st_grammar.specs.Machine.{State, Body, Nest, in_array, header, begin, in_elements, element_run, element_minus, one_more, depth_nest, run, go, goes}
+use Rattle.st_grammar_laws.specs.Machine.{State, Body, Nest, in_array, header, begin, in_elements, element_run, element_minus, one_more, depth_nest, run, go, goes}
 use Rattle.st_parser.specs.declared.stops.Stop.{Stop}
 use Rattle.st_parser.specs.declared.stops.Stop.TheVariants.{Breaks, Memory}
 use Rattle.st_parser.specs.Descent.{Runs, StopsAt, Reached, starts, is_bar}

@@ -1,7 +1,7 @@
 -- Values, byte by byte.
 use Rattle.std.proofs.Common.{◌≡◌, ℕ, ◌+◌, ◌*◌, ◌^◌, ◌<◌, ◌≤◌, length, get_or, drop, ap, ◌∙◌, arith}
-use Rattle.st_tree.specs.Trees.{Bytes}
-use Rattle.st_tree.specs.Tokens.{value_of, digit_value}
+use Rattle.texts.specs.Bytes.{Bytes}
+use Rattle.st_grammar.specs.Tokens.{value_of, digit_value}
 use Rattle.st_lexer.proofs.Places.{from_place}
 use Rattle.st_lexer.proofs.Values.{go_on, grows}
 

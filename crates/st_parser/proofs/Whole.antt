@@ -7,8 +7,9 @@ use Rattle.std.proofs.lemmas.Bool.{and_parts}
 use Rattle.std.proofs.lemmas.Bool.Decides.{nat_tests}
 use Rattle.std.proofs.lemmas.List.{drop-drop, take-take, drop-take}
 use Rattle.std.proofs.Math.ListN.{drop_of_length-le}
-use Rattle.st_tree.specs.Trees.{Bytes}
-use Rattle.st_tree.specs.Tokens.{identifier, keyword, character, symbol, bar, assign, colon, caret, semicolon, period, open_paren, close_paren, open_bracket, close_bracket, open_array, p1, starts_name, is_name_byte, is_operator, is_keyword_end, symbol_name, binary_len, string_bytes, number, Token, Piece, gap, token, bad, p2, p3, Class, blank, comment, name, digit, quote, dollar, hash, operator, colon_mark, other, Lexes, at_end, after_gap, after_token, piece, piece_in, class_of, number_at, number_in, number_before, value_of, digit_value, is_radix_digit, are_digits, ends_number, begins, begins_with, comment_to, comment_end, string_to, string_end, sized, quoted_symbol, symbol_at, mark}
+use Rattle.texts.specs.Bytes.{Bytes}
+use Rattle.texts.specs.NameBytes.{starts_name, is_name_byte}
+use Rattle.st_grammar.specs.Tokens.{identifier, keyword, character, symbol, bar, assign, colon, caret, semicolon, period, open_paren, close_paren, open_bracket, close_bracket, open_array, p1, is_operator, is_keyword_end, symbol_name, binary_len, string_bytes, number, Token, Piece, gap, token, bad, p2, p3, Class, blank, comment, name, digit, quote, dollar, hash, operator, colon_mark, other, Lexes, at_end, after_gap, after_token, piece, piece_in, class_of, number_at, number_in, number_before, value_of, digit_value, is_radix_digit, are_digits, ends_number, begins, begins_with, comment_to, comment_end, string_to, string_end, sized, quoted_symbol, symbol_at, mark}
 use Rattle.st_lexer.proofs.Reading.{gap_within, token_within}
 use Rattle.st_lexer.proofs.Sizes.{on_cond}
 use Rattle.st_lexer.proofs.Cuts.{token_len}

@@ -1,9 +1,9 @@
 -- The words of a text's tokens.
 use Rattle.std.proofs.Common.{◌≡◌, ℕ, List, [], ◌∷◌, suc, length, refl, sym, ap, ◌∙◌, Bool}
 use Rattle.std.specs.Prelude.{◌==◌}
-use Rattle.st_tree.specs.Trees.{Bytes}
-use Rattle.st_tree.specs.Grammar.{Word, word, words_after}
-use Rattle.st_tree.specs.Tokens.{identifier, assign, text_of}
+use Rattle.texts.specs.Bytes.{Bytes}
+use Rattle.st_grammar.specs.Grammar.{Word, word, words_after}
+use Rattle.st_grammar.specs.Tokens.{identifier, assign, text_of}
 use Rattle.st_parser.specs.Lexemes.{others}
 use Rattle.st_lexer.specs.Views.{tokens_of, token_of, kind_of}
 use Rattle.st_lexer.specs.declared.kinds.Token.{Token}

@@ -1,10 +1,11 @@
 -- What the functions of the parser do, told by the machine of the grammar: where the machine stands before and behind what they read.
 use Rattle.std.specs.Prelude.{◌≡◌, ℕ, Bool, true, false, ◌&&◌, ◌||◌, Result, Ok, Err, List, [], ◌∷◌}
-use Rattle.st_tree.specs.Trees.{Bytes, Program, Statement, statement, Statements, Expression}
-use Rattle.st_tree.specs.Tokens.{Kind, identifier, keyword, number, character, string, symbol, binary, bar, assign, colon, caret, semicolon, period, open_paren, close_paren, open_bracket, close_bracket, open_array}
-use Rattle.st_tree.specs.Grammar.{Word, word, Rule, p4, p5, p6, p7, p8, p9, Scope, is_minus, no_message}
-use Rattle.st_tree.specs.Fails.{every}
-use Rattle.st_grammar.specs.Machine.{State, Body, top, in_block, in_body, Slot, outer, alone, have, has_messages, run, scopes_of, depth_of}
+use Rattle.texts.specs.Bytes.{Bytes}
+use Rattle.st_tree.specs.Trees.{Program, Statement, statement, Statements, Expression}
+use Rattle.st_grammar.specs.Tokens.{Kind, identifier, keyword, number, character, string, symbol, binary, bar, assign, colon, caret, semicolon, period, open_paren, close_paren, open_bracket, close_bracket, open_array}
+use Rattle.st_grammar.specs.Grammar.{Word, word, Rule, p4, p5, p6, p7, p8, p9, Scope, is_minus, no_message}
+use Rattle.st_grammar.specs.Fails.{every}
+use Rattle.st_grammar_laws.specs.Machine.{State, Body, top, in_block, in_body, Slot, outer, alone, have, has_messages, run, scopes_of, depth_of}
 use Rattle.st_parser.specs.declared.stops.Broken.{Broken}
 use Rattle.st_parser.specs.declared.stops.Broken.TheVariants.{Unexpected, MissingBracket, MissingParen, Declaration, Assignment, Depth}
 use Rattle.st_parser.specs.declared.stops.Stop.{Stop}

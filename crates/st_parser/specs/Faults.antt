@@ -1,8 +1,8 @@
 -- The faults of a parse.
 use Rattle.std.specs.Prelude.{◌≡◌}
-use Rattle.st_tree.specs.Trees.{Bytes}
-use Rattle.st_tree.specs.Grammar.{Form}
-use Rattle.st_tree.specs.Fails.{AnyRule, Fails, rule_number}
+use Rattle.texts.specs.Bytes.{Bytes}
+use Rattle.st_grammar.specs.Grammar.{Form}
+use Rattle.st_grammar.specs.Fails.{AnyRule, Fails, rule_number}
 use Rattle.st_lexer.specs.declared.kinds.LexFault.{LexFault}
 use Rattle.st_lexer.specs.declared.kinds.LexFault.TheVariants.{Bad, NoMemory as NoMemoryForTokens}
 use Rattle.st_parser.specs.declared.faults.ParseFault.{ParseFault}

@@ -1,8 +1,8 @@
 -- How a token in the hand of the parser is seen.
 use Rattle.std.specs.Prelude.{Option, List, [], ◌∷◌, Some, None, ◌≡◌}
-use Rattle.st_tree.specs.Tokens as tokens
-use Rattle.st_tree.specs.Tokens.{Kind}
-use Rattle.st_tree.specs.Grammar.{Word, word}
+use Rattle.st_grammar.specs.Tokens as tokens
+use Rattle.st_grammar.specs.Tokens.{Kind}
+use Rattle.st_grammar.specs.Grammar.{Word, word}
 use Rattle.st_lexer.specs.Views.{kind_of}
 use Rattle.st_parser.specs.declared.reader.Lexeme.{Lexeme}
 use Rattle.st_parser.specs.Numbers.{IsNumber}

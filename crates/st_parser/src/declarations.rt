@@ -1,8 +1,9 @@
 //! The names that methods and blocks declare.
 ghost use Rattle.std.specs.Prelude.{◌≡◌, ◌++◌, ◌<◌, ◌≤◌, [], false, Some, List, length, IfOk};
-ghost use Rattle.st_tree.specs.Trees.{Bytes, no_statements};
-ghost use Rattle.st_tree.specs.Grammar.{may_declare};
-ghost use Rattle.st_grammar.specs.Machine.{Slot, Body, top, in_block, at_pattern, pattern_operator, pattern_keyword, pattern_more, header, in_temps, begin, in_params, param_wanted};
+ghost use Rattle.texts.specs.Bytes.{Bytes};
+ghost use Rattle.st_tree.specs.Trees.{no_statements};
+ghost use Rattle.st_grammar.specs.Grammar.{may_declare};
+ghost use Rattle.st_grammar_laws.specs.Machine.{Slot, Body, top, in_block, at_pattern, pattern_operator, pattern_keyword, pattern_more, header, in_temps, begin, in_params, param_wanted};
 ghost use Rattle.st_parser.specs.Descent.{Reached, starts, is_colon, filled, params_of};
 
 use crate::reader::{Lexeme, Reader};
@@ -10,8 +11,8 @@ use crate::scopes::{is_among, may_declare};
 use crate::stops::{Broken, Stop};
 use crate::texts::text;
 use st_lexer::TokenKind;
-use st_tree::Text;
 use std::alloc::Global;
+use texts::Text;
 
 // Reads the name of a parameter, and puts it behind the others.
 fn parameter(alloc: Global, r: &mut Reader, params: &mut Vec<Text>) -> Result<(), Stop>

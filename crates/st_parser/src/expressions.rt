@@ -1,10 +1,11 @@
 //! Expressions, messages, statements and blocks.
 ghost use Rattle.std.specs.Prelude.{◌≡◌, ◌&&◌, ◌<◌, ◌≤◌, ◌∷◌, [], true, false, List, length, IfOk, IfErr};
-ghost use Rattle.st_tree.specs.Trees.{Bytes, Constant, Head, Sends, Expression, Expressions, Statement, name, constant, expression, no_sends, sends, statements, no_statements, no_expressions};
+ghost use Rattle.texts.specs.Bytes.{Bytes};
+ghost use Rattle.st_tree.specs.Trees.{Constant, Head, Sends, Expression, Expressions, Statement, name, constant, expression, no_sends, sends, statements, no_statements, no_expressions};
 ghost use Rattle.st_tree.specs.Views.{head_of};
-ghost use Rattle.st_tree.specs.Grammar.{Word, any_message, no_unary, no_message};
+ghost use Rattle.st_grammar.specs.Grammar.{Word, any_message, no_unary, no_message};
 ghost use Rattle.st_lexer.specs.Views.{kind_of};
-ghost use Rattle.st_grammar.specs.Machine.{Seat, Wide, Slot, Body, Role, as_cascade, outer, alone, in_body, in_block, in_paren, binary_part, keyword_part, want, named, minus, have, begin, ended, in_params, after_semicolon, bare, added, behind_role, scopes_seat, scopes_of, depth_of, level_of, is_full, binary_send};
+ghost use Rattle.st_grammar_laws.specs.Machine.{Seat, Wide, Slot, Body, Role, as_cascade, outer, alone, in_body, in_block, in_paren, binary_part, keyword_part, want, named, minus, have, begin, ended, in_params, after_semicolon, bare, added, behind_role, scopes_seat, scopes_of, depth_of, level_of, is_full, binary_send};
 ghost use Rattle.st_parser.specs.declared.stops.Stop.TheVariants.{Memory};
 ghost use Rattle.st_parser.specs.Scopes.{scopes_seen};
 ghost use Rattle.st_parser.specs.Levels.{level_seen};
@@ -20,8 +21,9 @@ use crate::scopes::{Scopes, is_minus, is_super, may_assign, within};
 use crate::stops::{Broken, Stop};
 use crate::texts::text;
 use st_lexer::TokenKind;
-use st_tree::{BlockTree, Expr, Literal, Message, Primary, Stat, Text};
+use st_tree::{BlockTree, Expr, Literal, Message, Primary, Stat};
 use std::alloc::Global;
+use texts::Text;
 
 // The names and `:=` before an expression.
 fn assignments(alloc: Global, r: &mut Reader, scopes: &Scopes) -> Result<Vec<Text>, Stop>

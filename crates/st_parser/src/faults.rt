@@ -1,3 +1,4 @@
+//! Why a text has no tree.
 ghost use Rattle.std.specs.Prelude.{◌≡◌};
 ghost use Rattle.st_parser.specs.declared.faults.ParseFault.TheVariants.{Rule, NoMemory};
 ghost use Rattle.st_parser.specs.Faults.{fault_from};

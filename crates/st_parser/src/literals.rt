@@ -2,14 +2,15 @@
 ghost use Rattle.std.specs.Prelude.{◌≡◌, ◌<◌, ◌≤◌, ◌∷◌, true, false, length, IfOk};
 ghost use Rattle.st_tree.specs.Trees.{array, no_constants, sym};
 ghost use Rattle.st_tree.specs.Views.{constant_of};
-ghost use Rattle.st_tree.specs.Grammar.{named_constant, starts_with_joined_number};
-ghost use Rattle.st_grammar.specs.Machine.{Nest, Slot, in_elements, element_run, minus, have, one_more, close_array, depth_nest, bare};
+ghost use Rattle.st_grammar.specs.Grammar.{named_constant, starts_with_joined_number};
+ghost use Rattle.st_grammar_laws.specs.Machine.{Nest, Slot, in_elements, element_run, minus, have, one_more, close_array, depth_nest, bare};
 ghost use Rattle.st_parser.specs.Descent.{Reached, starts, is_close_paren};
 ghost use Rattle.st_parser.specs.Literals.{atom_of, constants_in, opens_array, is_other, behind_selector};
 ghost use Rattle.st_parser.specs.Lexemes.{HoldsNumber, word_of, others};
 ghost use Rattle.st_lexer.specs.Views.{kind_of};
-ghost use Rattle.st_tree.specs.Trees.{Bytes, Constants, constant};
-ghost use Rattle.st_tree.specs.Grammar.{any_message};
+ghost use Rattle.texts.specs.Bytes.{Bytes};
+ghost use Rattle.st_tree.specs.Trees.{Constants, constant};
+ghost use Rattle.st_grammar.specs.Grammar.{any_message};
 ghost use Rattle.std.specs.Prelude.{List};
 
 use crate::numbers::{negative, number};
@@ -18,8 +19,9 @@ use crate::scopes::is_minus;
 use crate::stops::{Broken, Stop};
 use crate::texts::{character, string, symbol, text};
 use st_lexer::TokenKind;
-use st_tree::{Literal, Literals, Text};
+use st_tree::{Literal, Literals};
 use std::alloc::{AllocError, Global};
+use texts::Text;
 
 // How deep blocks, parentheses and literal arrays may be nested.
 pub(crate) const DEPTH_LIMIT: usize = 200;

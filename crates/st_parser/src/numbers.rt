@@ -3,7 +3,7 @@ ghost use Rattle.std.specs.Prelude.{◌≡◌, ◌≤◌, ◌<◌, ◌^◌, pos,
 ghost use lib.IntN.{neg_ℤ};
 ghost use Rattle.std.specs.List.{prefix_len};
 ghost use Rattle.std.specs.Char.{is_ascii_digit};
-ghost use Rattle.st_tree.specs.Tokens.{digit_value, value_of, number_value, begins_with};
+ghost use Rattle.st_grammar.specs.Tokens.{digit_value, value_of, number_value, begins_with};
 ghost use Rattle.st_parser.specs.Numbers.{IsNumber};
 
 fn digit_value(byte: u8) -> u8

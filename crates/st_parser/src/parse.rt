@@ -1,9 +1,9 @@
 //! Chunks and methods.
 ghost use Rattle.std.specs.Prelude.{◌≡◌, ◌<◌, ◌≤◌, ◌-◌, ◌^◌, [], Some, None, length, drop, IfOk, IfErr};
 ghost use Rattle.st_tree.specs.Trees.{no_statements};
-ghost use Rattle.st_tree.specs.Grammar.{chunk, method, words_of};
-ghost use Rattle.st_tree.specs.Fails.{Reads, place_of, rule_number, of_grammar};
-ghost use Rattle.st_grammar.specs.Machine.{top, header, start};
+ghost use Rattle.st_grammar.specs.Grammar.{chunk, method, words_of};
+ghost use Rattle.st_grammar.specs.Fails.{Reads, place_of, rule_number, of_grammar};
+ghost use Rattle.st_grammar_laws.specs.Machine.{top, header, start};
 ghost use Rattle.st_lexer.specs.Views.{tokens_of};
 ghost use Rattle.st_parser.specs.declared.faults.ParseFault.TheVariants.{Rule};
 ghost use Rattle.st_parser.specs.Descent.{Finished, rule_of};
@@ -16,8 +16,9 @@ use crate::reader::Reader;
 use crate::scopes::{nothing_around, within};
 use crate::stops::{Broken, Stop};
 use st_lexer::{Token, tokens};
-use st_tree::{Text, Tree};
+use st_tree::Tree;
 use std::alloc::Global;
+use texts::Text;
 
 // The temporaries and the statements, up to the end.
 fn body(

@@ -1,9 +1,9 @@
 //! A reader over the tokens of a text.
 ghost use Rattle.std.specs.Prelude.{◌≡◌, length};
-ghost use Rattle.st_tree.specs.Grammar.{words_of};
+ghost use Rattle.st_grammar.specs.Grammar.{words_of};
 ghost use Rattle.st_parser.specs.Descent.{starts, is_bar, is_colon, is_caret, is_semicolon, is_period, is_close_paren, is_close_bracket, begins_expression, begins_statement};
 ghost use Rattle.st_parser.specs.Levels.{level_seen, Assigned, Selects};
-ghost use Rattle.st_grammar.specs.Machine.{super_takes};
+ghost use Rattle.st_grammar_laws.specs.Machine.{super_takes};
 ghost use Rattle.st_lexer.specs.Views.{tokens_of};
 ghost use Rattle.st_parser.specs.Reader.{AreWhole};
 ghost use Rattle.st_parser.specs.Lexemes.{Shows, NumberIn, others};
@@ -31,7 +31,7 @@ pub(crate) struct Reader<'a> {
 
 impl<'a> Model for Reader<'a> {
     ghost use Rattle.std.specs.Prelude.{List};
-    ghost use Rattle.st_tree.specs.Grammar.{Word, words_after};
+    ghost use Rattle.st_grammar.specs.Grammar.{Word, words_after};
     ghost use Rattle.st_lexer.specs.Views.{tokens_of};
     ghost use Rattle.st_parser.specs.Reader.{AreWhole};
 

@@ -1,9 +1,9 @@
 //! The names that are declared around a place.
 ghost use Rattle.std.specs.Prelude.{◌≡◌, ◌∷◌, []};
-ghost use Rattle.st_tree.specs.Grammar.{scope, is_pseudo_variable, is_super, is_minus, is_among, is_parameter, may_assign, may_declare};
+ghost use Rattle.st_grammar.specs.Grammar.{scope, is_pseudo_variable, is_super, is_minus, is_among, is_parameter, may_assign, may_declare};
 ghost use Rattle.st_parser.specs.Scopes.{scopes_seen};
 
-use st_tree::Text;
+use texts::Text;
 
 const SELF: &[u8] = b"self";
 

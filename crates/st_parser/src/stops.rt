@@ -1,7 +1,7 @@
 //! Why the parser stops.
 ghost use Rattle.std.specs.Prelude.{◌≡◌};
 ghost use Rattle.st_parser.specs.declared.stops.Stop.TheVariants.{Memory};
-ghost use Rattle.st_tree.specs.Fails.{rule_number, of_grammar};
+ghost use Rattle.st_grammar.specs.Fails.{rule_number, of_grammar};
 ghost use Rattle.st_parser.specs.Descent.{rule_of};
 
 use std::alloc::{AllocError, AllocFailed};

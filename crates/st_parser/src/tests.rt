@@ -1,3 +1,4 @@
+//! Trees and faults of texts, worked out by hand.
 use crate::{ParseFault, parse_chunk, parse_method};
 use st_tree::{Literal, Primary, Tree};
 use std::alloc::{AllocError, Global};

@@ -1,9 +1,9 @@
 //! The characters, strings and symbols that tokens stand for.
 ghost use Rattle.std.specs.Prelude.{◌≡◌, get_or, drop, IfOk};
-ghost use Rattle.st_tree.specs.Tokens.{string_value, symbol_value};
+ghost use Rattle.st_grammar.specs.Tokens.{string_value, symbol_value};
 
-use st_tree::Text;
 use std::alloc::{AllocError, Global};
+use texts::Text;
 
 fn behind_first(bytes: &[u8]) -> &[u8]
     ensures { result.now ≡ drop 1 bytes.now }

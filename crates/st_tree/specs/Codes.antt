@@ -3,7 +3,8 @@ use Rattle.std.specs.Prelude.{◌≡◌, refl, ℕ, zero, suc, ℤ, pos, negsuc,
 use Rattle.std.specs.Coded.{Coded, code_by}
 use base.Stored.{Gv, gnil, gnum, gcons, num}
 use denote.Struct.Codes.{itself}
-use Rattle.st_tree.specs.Trees.{Bytes, Constant, int, char, str, sym, nothing, yes, no, array, Constants, no_constants, a_constant, Head, name, constant, block, paren, Closure, closure, Expression, expression, Send, send, Statement, statement, Statements, no_statements, a_statement, Sends, no_sends, a_send, Expressions, no_expressions, an_expression, Program}
+use Rattle.texts.specs.Bytes.{Bytes}
+use Rattle.st_tree.specs.Trees.{Constant, int, char, str, sym, nothing, yes, no, array, Constants, no_constants, a_constant, Head, name, constant, block, paren, Closure, closure, Expression, expression, Send, send, Statement, statement, Statements, no_statements, a_statement, Sends, no_sends, a_send, Expressions, no_expressions, an_expression, Program}
 
 -- numbers, truth values, texts and lists of texts
 abbrev int_to : ℤ → Gv

@@ -1,10 +1,7 @@
 -- The syntax of Smalltalk as plain data: what a text stands for once its layout, its comments and the shape of its tokens are gone.
 -- A name, a string, a symbol and a selector are the bytes that they are written with.
 use Rattle.std.specs.Prelude.{ℕ, ℤ, Bool, Option, List, [], ◌∷◌}
-
--- a text, byte by byte
-abbrev pub Bytes : Type 0
-Bytes = List ℕ
+use Rattle.texts.specs.Bytes.{Bytes}
 
 mutual
   -- A literal: an object that is written out in the text.

@@ -1,9 +1,9 @@
 //! The nodes of the tree.
 ghost use Rattle.std.specs.Prelude.{◌≡◌, []};
 
-use crate::texts::Text;
 use std::alloc::Global;
 use std::marker::Model;
+use texts::Text;
 
 /// A literal: an object that is written out in the text.
 #[cycle(literal)]

@@ -12,8 +12,7 @@ mod tests;
 
 use crate::port::{Begun, CommitAnswer, StonePort};
 use gem_meaning::What;
-use gem_replies::History;
-use gem_value::{Conflict, ConflictKind, Conflicts, Entry, Image, Oid, TxnRecord};
+use gem_value::{Conflict, ConflictKind, Conflicts, Entry, History, Image, Oid, TxnRecord};
 use shell_words::Script;
 use std::alloc::{AllocError, Global};
 use std::marker::Model;

@@ -1,6 +1,6 @@
 use Rattle.std.proofs.Common.{◌≡◌, ◌+◌, drop, sym, is_ok, ap, subst, arith}
 use Rattle.std.proofs.ResultArms.{chosen}
-use Rattle.st_tree.specs.Tokens.{piece, gap, token, here}
+use Rattle.st_grammar.specs.Tokens.{piece, gap, token, here}
 use Rattle.st_lexer.specs.Views.{kind_of, rule_seen}
 use Rattle.st_lexer.proofs.Reading.{ReadTo, gap_within, token_within, read_gap, read_token, read_all}
 use Rattle.st_lexer.proofs.lex.tokens.Goals as goal

@@ -1,11 +1,11 @@
 use Rattle.std.proofs.Common.{◌≡◌, ◌<◌, ◌+◌, ◌∷◌, ◌++◌, [], true, false, refl, sym, ap, subst, ◌∙◌, length, rules, arith}
 use Rattle.std.specs.Prelude.{nat_lt}
 use Rattle.st_tree.specs.Trees.{expression, expressions, no_expressions, sends, no_sends, statements, no_statements, send, block, closure}
-use Rattle.st_tree.specs.Tokens.{identifier, binary, bar, keyword}
+use Rattle.st_grammar.specs.Tokens.{identifier, binary, bar, keyword}
 use Rattle.st_tree.specs.Views.{head_of}
-use Rattle.st_tree.specs.Grammar.{word, scope, any_message, no_unary, no_message, is_minus}
-use Rattle.st_tree.specs.Fails.{every}
-use Rattle.st_grammar.specs.Machine.{run, outer, alone, in_body, in_block, in_paren, in_params, binary_part, keyword_part, want, named, minus, have, begin, ended, after_semicolon, as_message, as_cascade, bare, added, depth_of}
+use Rattle.st_grammar.specs.Grammar.{word, scope, any_message, no_unary, no_message, is_minus}
+use Rattle.st_grammar.specs.Fails.{every}
+use Rattle.st_grammar_laws.specs.Machine.{run, outer, alone, in_body, in_block, in_paren, in_params, binary_part, keyword_part, want, named, minus, have, begin, ended, after_semicolon, as_message, as_cascade, bare, added, depth_of}
 use Rattle.st_parser.specs.Descent.{Runs, Suits, starts, is_keyword, is_caret, is_period, is_semicolon, is_close_bracket, is_quiet, returns_of, holding}
 use Rattle.st_parser.specs.Scopes.{scopes_seen}
 use Rattle.st_parser.proofs.Steps.{hands_on, reached_after}

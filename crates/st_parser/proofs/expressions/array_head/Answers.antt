@@ -1,7 +1,7 @@
 use Rattle.std.proofs.Common.{◌≡◌, true, arith, rules}
 use Rattle.std.specs.Prelude.{nat_lt}
 use Rattle.st_tree.specs.Trees.{no_constants}
-use Rattle.st_grammar.specs.Machine.{want, in_elements, of_head, depth_of}
+use Rattle.st_grammar_laws.specs.Machine.{want, in_elements, of_head, depth_of}
 use Rattle.st_parser.proofs.Steps.{hands_on}
 use Rattle.st_parser.proofs.Messages.{array_head_opens}
 use Rattle.st_parser.proofs.expressions.array_head.Goals as goal

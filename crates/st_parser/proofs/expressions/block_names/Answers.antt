@@ -1,7 +1,7 @@
 use Rattle.std.proofs.Common.{◌≡◌, [], refl, ap, ◌∙◌, rules}
 use Rattle.st_tree.specs.Trees.{no_statements}
-use Rattle.st_tree.specs.Fails.{every}
-use Rattle.st_grammar.specs.Machine.{run, in_params, in_block, header, begin}
+use Rattle.st_grammar.specs.Fails.{every}
+use Rattle.st_grammar_laws.specs.Machine.{run, in_params, in_block, header, begin}
 use Rattle.st_parser.proofs.Steps.{hands_on}
 use Rattle.st_parser.proofs.expressions.block_names.Goals as goal
 

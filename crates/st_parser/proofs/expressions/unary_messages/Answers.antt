@@ -1,9 +1,9 @@
 use Rattle.std.proofs.Common.{◌≡◌, ◌∷◌, ◌++◌, [], sym, ap, ◌∙◌, rules}
 use Rattle.st_tree.specs.Trees.{expression, sends, no_sends}
-use Rattle.st_tree.specs.Tokens.{identifier}
-use Rattle.st_tree.specs.Grammar.{word, any_message}
-use Rattle.st_tree.specs.Fails.{every}
-use Rattle.st_grammar.specs.Machine.{have, run, unary}
+use Rattle.st_grammar.specs.Tokens.{identifier}
+use Rattle.st_grammar.specs.Grammar.{word, any_message}
+use Rattle.st_grammar.specs.Fails.{every}
+use Rattle.st_grammar_laws.specs.Machine.{have, run, unary}
 use Rattle.st_parser.proofs.Messages.{unary_step, sends_more}
 use Rattle.st_parser.proofs.expressions.unary_messages.Goals as goal
 

@@ -2,11 +2,11 @@ use Rattle.std.proofs.Common.{◌≡◌, ◌∷◌, true, sym, ap, ◌∙◌, su
 use Rattle.std.proofs.ResultArms.{chosen}
 use Rattle.std.specs.Prelude.{nat_lt, map}
 use Rattle.st_tree.specs.Trees.{constants, no_constants}
-use Rattle.st_tree.specs.Tokens.{keyword, binary}
+use Rattle.st_grammar.specs.Tokens.{keyword, binary}
 use Rattle.st_tree.specs.Views.{constant_of}
-use Rattle.st_tree.specs.Grammar.{word}
-use Rattle.st_grammar.specs.Machine.{in_elements, element_run, in_array, depth_nest, run}
-use Rattle.st_tree.specs.Fails.{every}
+use Rattle.st_grammar.specs.Grammar.{word}
+use Rattle.st_grammar_laws.specs.Machine.{in_elements, element_run, in_array, depth_nest, run}
+use Rattle.st_grammar.specs.Fails.{every}
 use Rattle.st_parser.specs.Literals.{behind_selector}
 use Rattle.st_parser.specs.Descent.{Runs}
 use Rattle.st_parser.proofs.Steps.{hands_on, reached_after, keyword_element, selector_element, array_opens, constants_more}

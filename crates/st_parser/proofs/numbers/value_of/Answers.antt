@@ -1,5 +1,5 @@
 use Rattle.std.proofs.Common.{◌+◌, ◌*◌, ◌^◌, ◌<◌, get_or, arith}
-use Rattle.st_tree.specs.Tokens.{digit_value}
+use Rattle.st_grammar.specs.Tokens.{digit_value}
 use Rattle.st_parser.proofs.Values.{value_fits}
 use Rattle.st_parser.proofs.numbers.value_of.Goals as goal
 

@@ -1,5 +1,5 @@
 use Rattle.std.proofs.Common.{◌≡◌, drop}
-use Rattle.st_tree.specs.Tokens.{value_of}
+use Rattle.st_grammar.specs.Tokens.{value_of}
 use Rattle.st_lexer.proofs.Values.{go_on}
 use Rattle.st_parser.proofs.numbers.value_of.Given as goal
 

@@ -1,8 +1,8 @@
 use Rattle.std.proofs.Common.{◌≡◌, Err, sym, ap, ◌∙◌, length, rules, arith}
 use Rattle.std.proofs.lemmas.Result.{err_from_is_err_and}
-use Rattle.st_tree.specs.Grammar.{chunk, words_of}
-use Rattle.st_tree.specs.Fails.{every}
-use Rattle.st_grammar.specs.Machine.{run, start}
+use Rattle.st_grammar.specs.Grammar.{chunk, words_of}
+use Rattle.st_grammar.specs.Fails.{every}
+use Rattle.st_grammar_laws.specs.Machine.{run, start}
 use Rattle.st_lexer.specs.Views.{tokens_of}
 use Rattle.st_parser.specs.declared.stops.Stop.TheVariants.{Breaks}
 use Rattle.st_parser.specs.Descent.{Finished}

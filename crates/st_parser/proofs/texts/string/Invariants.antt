@@ -1,5 +1,5 @@
 use Rattle.std.proofs.Common.{◌≡◌, ◌++◌, drop}
-use Rattle.st_tree.specs.Tokens.{string_value, string_bytes}
+use Rattle.st_grammar.specs.Tokens.{string_value, string_bytes}
 use Rattle.st_parser.proofs.texts.string.Given as goal
 
 abbrev pub invariant-loop-b : goal.invariant-loop-b

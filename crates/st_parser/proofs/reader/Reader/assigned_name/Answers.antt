@@ -1,6 +1,6 @@
 use Rattle.std.proofs.Common.{◌≡◌, ◌∷◌, drop, rules}
 use Rattle.st_lexer.specs.Views.{kind_of}
-use Rattle.st_tree.specs.Tokens.{identifier, assign}
+use Rattle.st_grammar.specs.Tokens.{identifier, assign}
 use Rattle.st_parser.proofs.Words.{assigned_words}
 use Rattle.st_parser.proofs.reader.Reader.assigned_name.Goals as goal
 
