@@ -1,7 +1,11 @@
 pub mod Evaluation
+pub mod OneReport
+pub mod Replay
+pub mod ReplayCommands
 pub mod Running
 pub mod Shapes
 pub mod Stays
 pub mod Steps
+pub mod Turns
 pub mod Views
 pub mod Written

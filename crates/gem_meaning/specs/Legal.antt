@@ -1,10 +1,12 @@
 -- A legal run: the book of a run, by what the Stone was opened with and all its events.
-use Rattle.std.specs.Prelude.{◌≡◌, ℕ, ◌+◌, ◌≤◌, ◌++◌, nat_lt, List, [], ◌∷◌, length}
-use Rattle.std.specs.List.{filter}
+use Rattle.std.specs.Prelude.{◌≡◌, ◌≢◌, ℕ, ◌+◌, ◌++◌, nat_lt, List, [], ◌∷◌}
+use Rattle.std.specs.List.{filter, AllByRecursion}
 use Rattle.shell_words.specs.Script.{SessionCommands}
+use Rattle.gem_replies.specs.declared.reply.Line.TheVariants.{NoMemory}
+use Rattle.gem_replies.specs.declared.reply.Reply.{Reply}
 use Rattle.gem_replies.specs.declared.reply.Transcript.{Transcript}
 use Rattle.gem_replies.specs.declared.reply.RunBook.{RunBook}
-use Rattle.gem_meaning.specs.Events.{Opened, Event, Told, base_serial, after_events, entries_of, events_of}
+use Rattle.gem_meaning.specs.Events.{Event, Told, base_serial, after_events, entries_of, events_of}
 use Rattle.gem_meaning.specs.Serial.{IsConsistent}
 use Rattle.gem_meaning.specs.Session.{Says, TellsLogin}
 
@@ -31,6 +33,15 @@ pub record IsLegal (t : Told) (book : RunBook) : Type 0 where
   pub history : book.history ≡ entries_of t.events
   pub transcripts : AreTranscripts t 1 t.opened.script book.transcripts
   pub consistent : IsConsistent t
+
+-- the reply isn't that there was no memory
+abbrev pub HadMemory : Reply → Type 0
+HadMemory reply = reply.line ≢ NoMemory
+
+-- no session replied `no memory`
+abbrev pub NeverShort : RunBook → Type 0
+NeverShort book =
+    AllByRecursion (λ transcript. AllByRecursion HadMemory transcript.replies) book.transcripts
 
 -- the events of the sessions before this one
 abbrev pub events_before : ℕ → List Event → List Event

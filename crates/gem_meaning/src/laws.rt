@@ -4,8 +4,10 @@ ghost use Rattle.texts.specs.Bytes.{Bytes};
 ghost use Rattle.st_tree.specs.Trees.{Expression, statement, Statements, append_statements};
 ghost use Rattle.shell_words.specs.Script.{SessionCommands};
 ghost use Rattle.gem_replies.specs.declared.reply.Reply.{Reply};
+ghost use Rattle.gem_replies.specs.declared.reply.RunBook.{RunBook};
 ghost use Rattle.gem_meaning.specs.Events.{Event, Told, told_more, events_of};
 ghost use Rattle.gem_meaning.specs.Session.{Says};
+ghost use Rattle.gem_meaning.specs.Legal.{IsLegal, NeverShort, AreInTurn};
 ghost use Rattle.gem_meaning.specs.declared.evaluator.EvaluationError.{EvaluationError};
 ghost use Rattle.gem_meaning.specs.Form.{put_of};
 ghost use Rattle.gem_meaning.specs.State.{State, shown, set};
@@ -41,4 +43,14 @@ pub fn says_stay()
     ensures { (t : Told) (more : List Event) (session : ℕ) (script : SessionCommands) (replies : List Reply) →
         events_of session more ≡ [] → Says t session script replies →
         Says (told_more t more) session script replies }
+{}
+
+/// Two legal runs of one script over one opened image, in which the sessions took turns and none
+/// was short of memory, have the same events and the same book, and so the same report.
+pub fn one_report()
+    ensures { (t t' : Told) (book book' : RunBook) → t.opened ≡ t'.opened →
+        IsLegal t book → IsLegal t' book' →
+        AreInTurn t 1 t.opened.script book.transcripts →
+        AreInTurn t' 1 t'.opened.script book'.transcripts →
+        NeverShort book → NeverShort book' → (t ≡ t') × (book ≡ book') }
 {}
