@@ -1,0 +1,12 @@
+//! Room: shelves. Gives the product's numbers and the names of the kernel's objects. Knows nothing of what uses them.
+#![tactic(auto)]
+
+mod integers;
+mod kernel;
+mod limits;
+
+pub use integers::{LARGEST_INTEGER, SMALLEST_INTEGER, is_small_integer};
+pub use kernel::{FIRST_SERIAL, GLOBALS_COUNTER, KERNEL_SERIAL, is_kernel_name};
+pub use limits::{
+    CHUNK_LIMIT, COMMAND_LIMIT, DEPTH_LIMIT, SCRIPT_LIMIT, SESSION_LIMIT, SYMBOL_LIMIT, USER_LIMIT,
+};

@@ -1,0 +1,8 @@
+//! Room: shelves. Takes bytes; gives texts and what a byte of a name is. Knows nothing of Smalltalk.
+#![tactic(auto)]
+
+mod name_bytes;
+mod text;
+
+pub use name_bytes::{are_name_bytes, is_name_byte, starts_name};
+pub use text::Text;
