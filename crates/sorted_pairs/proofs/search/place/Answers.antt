@@ -1,7 +1,7 @@
 use Rattle.std.proofs.Common.{◌≡◌, rules}
 use Rattle.std.proofs.lemmas.Fn.{always_returns_same}
-use Rattle.sorted_pairs.proofs.Search.{searched}
-use Rattle.sorted_pairs.proofs.place.Goals as goal
+use Rattle.sorted_pairs.proofs.Found.{searched}
+use Rattle.sorted_pairs.proofs.search.place.Goals as goal
 
 pub returns-clause-stands : goal.returns-clause-stands
 returns-clause-stands g c =

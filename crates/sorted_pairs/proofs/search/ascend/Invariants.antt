@@ -1,5 +1,5 @@
 use Rattle.sorted_pairs.proofs.Places.{AscendsBelow}
-use Rattle.sorted_pairs.proofs.ascend.Given as goal
+use Rattle.sorted_pairs.proofs.search.ascend.Given as goal
 
 -- each of the first keys is below the next
 abbrev pub invariant-loop-at : goal.invariant-loop-at

@@ -2,7 +2,7 @@ use Rattle.std.proofs.Common.{sym, refl, ap, ◌∙◌, arith}
 use Rattle.std.proofs.lemmas.Bool.{false≢true}
 use Rattle.std.specs.Ordering.{is_lt}
 use Rattle.sorted_pairs.proofs.Places.{ascends_from_next, not_ascending}
-use Rattle.sorted_pairs.proofs.ascend.Goals as goal
+use Rattle.sorted_pairs.proofs.search.ascend.Goals as goal
 
 pub returns-then-not-is_lt : goal.returns-then-not-is_lt
 returns-then-not-is_lt g c = (
