@@ -1,6 +1,6 @@
 use Rattle.std.proofs.Common.{ap, ◌∙◌}
 use Rattle.lock_table.proofs.Scan.{scan, scan-between}
-use Rattle.lock_table.proofs.first_in_the_way.Goals as goal
+use Rattle.lock_table.proofs.search.first_in_the_way.Goals as goal
 
 pub loop-holding-init : goal.loop-holding-init
 loop-holding-init c =

@@ -1,8 +1,8 @@
 use Rattle.std.proofs.Common.{sym}
-use Rattle.lock_table.specs.declared.LockKind.TheVariants.{Write}
+use Rattle.lock_table.specs.declared.lock.LockKind.TheVariants.{Write}
 use Rattle.lock_table.proofs.Denied.{lowest_is_value, none_held}
 use Rattle.lock_table.proofs.Request.{denied_for-found}
-use Rattle.lock_table.proofs.Locks.blocks.Goals as goal
+use Rattle.lock_table.proofs.locks.Locks.blocks.Goals as goal
 
 pub returns-clause-value : goal.returns-clause-value
 returns-clause-value c =

@@ -2,7 +2,7 @@ use Rattle.std.proofs.Common.{ap, sym, ◌∙◌}
 use Rattle.std.specs.Option.{is_some}
 use Rattle.lock_table.specs.Locks.{holding, after_dropped, kind_held}
 use Rattle.lock_table.proofs.Held.{held-remove, get-held}
-use Rattle.lock_table.proofs.Locks.release.Goals as goal
+use Rattle.lock_table.proofs.locks.Locks.release.Goals as goal
 
 pub returns-clause-locks : goal.returns-clause-locks
 returns-clause-locks c =

@@ -1,9 +1,9 @@
 use Rattle.std.proofs.Common.{◌==◌, not, ap, ◌∙◌}
 use Rattle.std.specs.FinMap.{from_entries}
 use Rattle.lock_table.specs.Locks.{after_left}
-use Rattle.lock_table.specs.declared.Holding.{Holding}
+use Rattle.lock_table.specs.declared.lock.Holding.{Holding}
 use Rattle.lock_table.proofs.Held.{held-retain, held_some}
-use Rattle.lock_table.proofs.Locks.release_all.Goals as goal
+use Rattle.lock_table.proofs.locks.Locks.release_all.Goals as goal
 
 pub returns-clause-locks : goal.returns-clause-locks
 returns-clause-locks c =

@@ -4,7 +4,7 @@ use Rattle.lock_table.specs.Locks.{holding}
 use Rattle.lock_table.proofs.Denied.{none_from_not_some}
 use Rattle.lock_table.proofs.Held.{held-insert}
 use Rattle.lock_table.proofs.Request.{denied_from_answers, kind_held-entries, granted_kind, granted_locks, denied_for-found}
-use Rattle.lock_table.proofs.Locks.request.Goals as goal
+use Rattle.lock_table.proofs.locks.Locks.request.Goals as goal
 
 pub returns-in-Some-clause-answer : goal.returns-in-Some-clause-answer
 returns-in-Some-clause-answer c = (
