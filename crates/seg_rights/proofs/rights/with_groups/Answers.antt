@@ -1,6 +1,6 @@
 use Rattle.std.proofs.Common.{arith}
 use Rattle.seg_rights.proofs.WithGroups.{with_groups-drop}
-use Rattle.seg_rights.proofs.with_groups.Goals as goal
+use Rattle.seg_rights.proofs.rights.with_groups.Goals as goal
 
 pub loop-name-preserved : goal.loop-name-preserved
 loop-name-preserved g c =

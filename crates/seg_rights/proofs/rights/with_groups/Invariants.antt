@@ -1,6 +1,6 @@
 use Rattle.std.proofs.Common.{◌≡◌, drop}
 use Rattle.seg_rights.specs.WithGroups.{with_groups}
-use Rattle.seg_rights.proofs.with_groups.Given as goal
+use Rattle.seg_rights.proofs.rights.with_groups.Given as goal
 
 -- what is left takes the greatest so far to the greatest of all
 abbrev pub invariant-loop-name : goal.invariant-loop-name

@@ -1,6 +1,6 @@
 use Rattle.seg_rights.proofs.WithGroups.{owner_greatest, other_greatest}
 use Rattle.seg_rights.proofs.Greatest.{one_greatest}
-use Rattle.seg_rights.proofs.Rights.right_of.Goals as goal
+use Rattle.seg_rights.proofs.rights.Rights.right_of.Goals as goal
 
 pub returns-then-user-self-clause-greatest : goal.returns-then-user-self-clause-greatest
 returns-then-user-self-clause-greatest g c = rw (c.greater.ensures, c.with_groups-right.ensures, c.as_slice.ensures) (owner_greatest g.T.PartialEq.eq c.args.self.now c.args.user c.args.groups.now c.if-user-self.true)
