@@ -8,8 +8,8 @@ use gem_io::{Sink, Source};
 use gem_server::gemstone;
 use std::alloc::Global;
 
-/// Serves the script that the source gives and writes its report to the sink, where the words of the
-/// command line ask for it. The first of them is the program's own name, and doesn't count.
+/// Serves the script that the source gives and writes its report to the sink, where the words of
+/// the command line ask for it. The first of them is the program's own name, and doesn't count.
 pub fn serve<S: Source, K: Sink>(
     alloc: Global,
     words: &[String],
