@@ -1,7 +1,7 @@
 -- What an update leaves at each key.
 use Rattle.std.proofs.Common.{◌≡◌, true, false, cond, List, [], ◌∷◌, Option, Some, None, Ordering, refl, sym, ap, ◌∙◌}
 use Rattle.std.specs.Cmp.{IsTotalOrder, Equal-is}
-use Rattle.std.specs.Ordering.{is_eq, ordering_reverse}
+use Rattle.std.specs.Ordering.{is_eq}
 use Rattle.std.specs.declared.cmp.Ordering.TheVariants.{Equal}
 use Rattle.rc_dict.specs.Dict.{IsDict, key_of, value_of, entry, put, without, settled, all_settled, last_entry}
 use Rattle.rc_dict.specs.declared.update.DictUpdate.{DictUpdate}
