@@ -1,6 +1,6 @@
 // Rights of owners, members of groups and others.
 use super::*;
-use std::alloc::Global;
+use std::alloc::{AllocError, Global};
 use std::test::Fail;
 
 const OWNER: u64 = 31;
