@@ -14,8 +14,8 @@ use Rattle.std.proofs.lemmas.Bool.Decides.{nat_tests}
 use Rattle.lock_table.specs.LockKind.{is_write}
 use Rattle.lock_table.specs.Locks.{holding, holding_cmp}
 use Rattle.lock_table.specs.Search.{is_in_the_way, holder_of, first_in_the_way}
-use Rattle.lock_table.specs.declared.Holding.{Holding}
-use Rattle.lock_table.specs.declared.LockKind.{LockKind}
+use Rattle.lock_table.specs.declared.lock.Holding.{Holding}
+use Rattle.lock_table.specs.declared.lock.LockKind.{LockKind}
 use Rattle.lock_table.proofs.Held.{Entries}
 
 module _ (session oid : ℕ) (kind : LockKind) where

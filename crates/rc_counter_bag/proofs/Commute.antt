@@ -7,18 +7,12 @@ use Rattle.rc_counter_bag.specs.Bag.{one_more, added, replayed}
 use Rattle.rc_counter_bag.specs.Turns.{merged_after, merged_twice}
 use Rattle.rc_counter_bag.specs.declared.update.BagUpdate.TheVariants.{Add}
 use Rattle.rc_counter_bag.proofs.Edits.{added-past, added-here, added-before}
-use Rattle.rc_counter_bag.proofs.Kept.{by_ordering}
+use Rattle.sorted_pairs.proofs.Cases.{by_ordering, above_lesser, below_greater}
 
 module _ {T : Type 0} (cmp : T → T → Ordering) (total : IsTotalOrder cmp) where
-  turned : (x y : T) → cmp x y ≡ Less → cmp y x ≡ Greater
-  turned x y e = total.antisymm y x ∙ ap ordering_reverse e
-
-  turned_back : (x y : T) → cmp x y ≡ Greater → cmp y x ≡ Less
-  turned_back x y e = total.antisymm y x ∙ ap ordering_reverse e
-
   -- the lesser item and the greater one
   in_order : (x y : T) (pairs : List (T × ℕ)) → cmp x y ≡ Less → added cmp y (added cmp x pairs) ≡ added cmp x (added cmp y pairs)
-  in_order x y [] less = added-past cmp y (x, 1) [] less ∙ sym (added-before cmp x (y, 1) [] (turned x y less))
+  in_order x y [] less = added-past cmp y (x, 1) [] less ∙ sym (added-before cmp x (y, 1) [] (above_lesser total x y less))
   in_order x y (pair ∷ rest) less = by_ordering (cmp pair.0 y)
       (λ past. by_ordering (cmp pair.0 x)
       (λ e. ap (added cmp y) (added-past cmp x pair rest e) ∙ added-past cmp y pair (added cmp x rest) past ∙ ap (λ l. pair ∷ l) (in_order x y rest less)
@@ -27,18 +21,18 @@ module _ {T : Type 0} (cmp : T → T → Ordering) (total : IsTotalOrder cmp) wh
       ∙ sym (ap (added cmp x) (added-past cmp y pair rest past) ∙ added-here cmp x pair (added cmp y rest) e))
       (λ e. ap (added cmp y) (added-before cmp x pair rest e) ∙ added-past cmp y (x, 1) (pair ∷ rest) less ∙ ap (λ l. (x, 1) ∷ l) (added-past cmp y pair rest past)
       ∙ sym (ap (added cmp x) (added-past cmp y pair rest past) ∙ added-before cmp x pair (added cmp y rest) e)))
-      (λ here. let e : cmp pair.0 x ≡ Greater = total.congr pair.0 y x here ∙ turned x y less in
+      (λ here. let e : cmp pair.0 x ≡ Greater = total.congr pair.0 y x here ∙ above_lesser total x y less in
       ap (added cmp y) (added-before cmp x pair rest e) ∙ added-past cmp y (x, 1) (pair ∷ rest) less ∙ ap (λ l. (x, 1) ∷ l) (added-here cmp y pair rest here)
       ∙ sym (ap (added cmp x) (added-here cmp y pair rest here) ∙ added-before cmp x (pair.0, one_more pair.1) rest e))
-      (λ before. let e : cmp pair.0 x ≡ Greater = turned x pair.0 (total.trans x y pair.0 less (turned_back pair.0 y before)) in
+      (λ before. let e : cmp pair.0 x ≡ Greater = above_lesser total x pair.0 (total.trans x y pair.0 less (below_greater total pair.0 y before)) in
       ap (added cmp y) (added-before cmp x pair rest e) ∙ added-past cmp y (x, 1) (pair ∷ rest) less ∙ ap (λ l. (x, 1) ∷ l) (added-before cmp y pair rest before)
-      ∙ sym (ap (added cmp x) (added-before cmp y pair rest before) ∙ added-before cmp x (y, 1) (pair ∷ rest) (turned x y less)))
+      ∙ sym (ap (added cmp x) (added-before cmp y pair rest before) ∙ added-before cmp x (y, 1) (pair ∷ rest) (above_lesser total x y less)))
 
   pub added_twice : (pairs : List (T × ℕ)) (x y : T) → (cmp x y ≡ Equal → x ≡ y) → added cmp y (added cmp x pairs) ≡ added cmp x (added cmp y pairs)
   added_twice pairs x y tells = by_ordering (cmp x y)
       (λ less. in_order x y pairs less)
       (λ tied. subst (λ w. added cmp w (added cmp x pairs) ≡ added cmp x (added cmp w pairs)) (tells tied) refl)
-      (λ more. sym (in_order y x pairs (turned_back x y more)))
+      (λ more. sym (in_order y x pairs (below_greater total x y more)))
 
   -- ---- many adds
 

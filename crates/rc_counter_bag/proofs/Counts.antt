@@ -7,7 +7,9 @@ use Rattle.std.specs.Ordering.{is_eq, ordering_reverse}
 use Rattle.std.specs.declared.cmp.Ordering.TheVariants.{Less, Equal}
 use Rattle.rc_counter_bag.specs.Bag.{IsBag, one_more, one_less, count, added, removed}
 use Rattle.rc_counter_bag.proofs.Edits.{count-here, count-past, added-past, added-here, added-before, removed-here, removed-past, less_here}
-use Rattle.rc_counter_bag.proofs.Kept.{by_ordering, by_test, kept_first, IsBag-added, IsBelow, first_below, rest_bag}
+use Rattle.rc_counter_bag.proofs.Kept.{kept_first, IsBag-added, first_below, rest_bag}
+use Rattle.sorted_pairs.proofs.Below.{IsBelow}
+use Rattle.sorted_pairs.proofs.Cases.{by_ordering, by_test, tie_flip}
 
 -- nothing was left of the rest
 none_left : {T : Type 0} (pair : T × ℕ) (rest : Option (List (T × ℕ))) → option_map (λ l. pair ∷ l) rest ≡ None → rest ≡ None
@@ -21,13 +23,6 @@ raised_twice false true n = refl
 raised_twice false false n = refl
 
 module _ {T : Type 0} (cmp : T → T → Ordering) (total : IsTotalOrder cmp) (z : T) where
-  -- what isn't above or below is no tie
-  flip_eq : (x y : T) → is_eq (cmp x y) ≡ is_eq (cmp y x)
-  flip_eq x y = by_ordering (cmp y x)
-      (λ e. ap is_eq (total.antisymm x y ∙ ap ordering_reverse e) ∙ sym (ap is_eq e))
-      (λ e. ap is_eq (total.antisymm x y ∙ ap ordering_reverse e) ∙ sym (ap is_eq e))
-      (λ e. ap is_eq (total.antisymm x y ∙ ap ordering_reverse e) ∙ sym (ap is_eq e))
-
   tie : (x : T) → is_eq (cmp x z) ≡ true → cmp x z ≡ Equal
   tie x h = (Equal-is (cmp x z)).0 h
 
@@ -35,13 +30,13 @@ module _ {T : Type 0} (cmp : T → T → Ordering) (total : IsTotalOrder cmp) (z
   count-below : (x : T) (pairs : List (T × ℕ)) → IsBelow cmp x pairs → cmp x z ≡ Equal → count cmp z pairs ≡ 0
   count-below x [] below e = refl
   count-below x (pair ∷ rest) below e =
-      let differ : is_eq (cmp pair.0 z) ≡ false = flip_eq pair.0 z ∙ ap is_eq (sym (total.congr x z pair.0 e) ∙ below.0) in
+      let differ : is_eq (cmp pair.0 z) ≡ false = tie_flip total pair.0 z ∙ ap is_eq (sym (total.congr x z pair.0 e) ∙ below.0) in
       count-past cmp z pair rest differ ∙ count-below x rest below.1 e
 
   count-over : (x y : T) (pairs : List (T × ℕ)) → cmp x y ≡ Less → IsBelow cmp y pairs → cmp x z ≡ Equal → count cmp z pairs ≡ 0
   count-over x y [] h below e = refl
   count-over x y (pair ∷ rest) h below e =
-      let differ : is_eq (cmp pair.0 z) ≡ false = flip_eq pair.0 z ∙ ap is_eq (sym (total.congr x z pair.0 e) ∙ total.trans x y pair.0 h below.0) in
+      let differ : is_eq (cmp pair.0 z) ≡ false = tie_flip total pair.0 z ∙ ap is_eq (sym (total.congr x z pair.0 e) ∙ total.trans x y pair.0 h below.0) in
       count-past cmp z pair rest differ ∙ count-over x y rest h below.1 e
 
   abbrev counted : T → ℕ → ℕ
@@ -59,7 +54,7 @@ module _ {T : Type 0} (cmp : T → T → Ordering) (total : IsTotalOrder cmp) (z
       (λ h. ap (λ b. cond b 1 0) h ∙ sym (counted-apart x 0 h))
   count-added x (pair ∷ rest) bag = by_ordering (cmp pair.0 x)
       (λ e. ap (count cmp z) (added-past cmp x pair rest e) ∙ by_test (is_eq (cmp pair.0 z))
-      (λ h. let apart : is_eq (cmp x z) ≡ false = flip_eq x z ∙ ap is_eq (sym (total.congr pair.0 z x (tie pair.0 h)) ∙ e) in
+      (λ h. let apart : is_eq (cmp x z) ≡ false = tie_flip total x z ∙ ap is_eq (sym (total.congr pair.0 z x (tie pair.0 h)) ∙ e) in
       count-here cmp z pair (added cmp x rest) (tie pair.0 h) ∙ sym (counted-apart x (count cmp z (pair ∷ rest)) apart ∙ count-here cmp z pair rest (tie pair.0 h)))
       (λ h. count-past cmp z pair (added cmp x rest) h ∙ count-added x rest (rest_bag cmp pair rest bag) ∙ ap (counted x) (sym (count-past cmp z pair rest h))))
       (λ e. ap (count cmp z) (added-here cmp x pair rest e) ∙ by_test (is_eq (cmp pair.0 z))
@@ -69,7 +64,7 @@ module _ {T : Type 0} (cmp : T → T → Ordering) (total : IsTotalOrder cmp) (z
       count-past cmp z (pair.0, one_more pair.1) rest h ∙ sym (counted-apart x (count cmp z (pair ∷ rest)) apart ∙ count-past cmp z pair rest h)))
       (λ e. ap (count cmp z) (added-before cmp x pair rest e) ∙ by_test (is_eq (cmp x z))
       (λ h. let below : cmp x pair.0 ≡ Less = total.antisymm x pair.0 ∙ ap ordering_reverse e in
-      let none : count cmp z (pair ∷ rest) ≡ 0 = count-past cmp z pair rest (flip_eq pair.0 z ∙ ap is_eq (sym (total.congr x z pair.0 (tie x h)) ∙ below)) ∙ count-over x pair.0 rest below (first_below cmp pair rest bag) (tie x h) in
+      let none : count cmp z (pair ∷ rest) ≡ 0 = count-past cmp z pair rest (tie_flip total pair.0 z ∙ ap is_eq (sym (total.congr x z pair.0 (tie x h)) ∙ below)) ∙ count-over x pair.0 rest below (first_below cmp pair rest bag) (tie x h) in
       count-here cmp z (x, 1) (pair ∷ rest) (tie x h) ∙ sym (counted-tied x (count cmp z (pair ∷ rest)) h ∙ ap one_more none))
       (λ h. count-past cmp z (x, 1) (pair ∷ rest) h ∙ sym (counted-apart x (count cmp z (pair ∷ rest)) h)))
 
@@ -104,7 +99,7 @@ module _ {T : Type 0} (cmp : T → T → Ordering) (total : IsTotalOrder cmp) (z
       ap (count cmp z) (sym same) ∙ count-less_here x pair rest tied bag)
       (λ h. let k = kept_first pair (removed cmp x rest) less (sym (removed-past cmp x pair rest h) ∙ e) in
       ap (count cmp z) k.2 ∙ by_test (is_eq (cmp pair.0 z))
-      (λ t. let apart : is_eq (cmp x z) ≡ false = flip_eq x z ∙ ap is_eq (sym (total.congr pair.0 z x (tie pair.0 t))) ∙ h in
+      (λ t. let apart : is_eq (cmp x z) ≡ false = tie_flip total x z ∙ ap is_eq (sym (total.congr pair.0 z x (tie pair.0 t))) ∙ h in
       count-here cmp z pair k.0 (tie pair.0 t) ∙ sym (lessened-apart x (count cmp z (pair ∷ rest)) apart ∙ count-here cmp z pair rest (tie pair.0 t)))
       (λ t. count-past cmp z pair k.0 t ∙ count-removed x rest k.0 (rest_bag cmp pair rest bag) k.1 ∙ ap (lessened x) (sym (count-past cmp z pair rest t))))
 

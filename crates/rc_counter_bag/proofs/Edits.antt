@@ -8,11 +8,6 @@ use Rattle.std.specs.declared.cmp.Ordering.TheVariants.{Less, Equal, Greater}
 use Rattle.rc_counter_bag.specs.Bag.{one_more, one_less, count, added, removed}
 use Rattle.sorted_pairs.specs.Place.{StandsAt, FitsAt}
 
--- what holds holds on an error too
-pub on_error : {X E : Type 0} (r : Result X E) (P : Type 0) → P → OnErr r P
-on_error (Ok x) P h = tt
-on_error (Err e) P h = h
-
 module _ {T : Type 0} (cmp : T → T → Ordering) (item : T) where
   -- ---- what a definition says of the first pair
 

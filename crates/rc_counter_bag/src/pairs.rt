@@ -1,3 +1,4 @@
+//! What a bag does to its list of pairs.
 ghost use Rattle.std.specs.Prelude.{◌≡◌, ◌↔◌, ◌<◌, ℕ, false, Some, None, Ok, Err, IsTrue, OnOk, OnErr, IsErrOf};
 ghost use Rattle.rc_counter_bag.specs.Bag.{IsBag, one_less, size, count, added, removed, replayed};
 
@@ -16,7 +17,8 @@ pub(crate) fn count<T: Ord>(pairs: &[(T, u64)], item: &T) -> u64
     }
 }
 
-// Adds one occurrence. Memory is needed, and may be missing, only for an item that doesn't occur yet.
+// Adds one occurrence. Memory is needed, and may be missing, only for an item that doesn't occur
+// yet.
 pub(crate) fn add<T: Ord + Drop>(pairs: &mut Vec<(T, u64)>, item: T) -> Result<(), AllocError>
     requires { IsBag T.cmp pairs.old.items }
     ensures added { OnOk result (pairs.new.items ≡ added T.cmp item pairs.old.items) }
@@ -37,7 +39,8 @@ pub(crate) fn add<T: Ord + Drop>(pairs: &mut Vec<(T, u64)>, item: T) -> Result<(
 // Takes one occurrence away. False, and nothing changes, where there is none.
 pub(crate) fn remove<T: Ord + Drop>(pairs: &mut Vec<(T, u64)>, item: &T) -> bool
     requires { IsBag T.cmp pairs.old.items }
-    ensures removed { IsTrue result → removed T.cmp item.now pairs.old.items ≡ Some pairs.new.items }
+    ensures removed { IsTrue result
+        → removed T.cmp item.now pairs.old.items ≡ Some pairs.new.items }
     ensures bag { IsBag T.cmp pairs.new.items }
     ensures missing { result ≡ false → removed T.cmp item.now pairs.old.items ≡ None }
     ensures unchanged { result ≡ false → pairs.new.items ≡ pairs.old.items }
@@ -74,9 +77,11 @@ pub(crate) fn replay<T: Ord + Clone + Drop>(
 ) -> Result<(), BagFault>
     requires bag { IsBag T.cmp pairs.old.items }
     requires clones { (x y : T) → T.is_clone x y → y ≡ x }
-    ensures replayed { OnOk result (replayed T.cmp 0 updates.now pairs.old.items ≡ Ok pairs.new.items) }
+    ensures replayed { OnOk result
+        (replayed T.cmp 0 updates.now pairs.old.items ≡ Ok pairs.new.items) }
     ensures bag { IsBag T.cmp pairs.new.items }
-    ensures missing { (at : ℕ) → IsErrOf result (BagFault.Missing at) → replayed T.cmp 0 updates.now pairs.old.items ≡ Err at }
+    ensures missing { (at : ℕ) → IsErrOf result (BagFault.Missing at)
+        → replayed T.cmp 0 updates.now pairs.old.items ≡ Err at }
 {
     for (at, update) in updates.iter().enumerate() {
         match update {

@@ -1,5 +1,6 @@
 use Rattle.std.proofs.Common.{sym, ◌∙◌}
-use Rattle.rc_counter_bag.proofs.Edits.{added-stands, added-fits, absent, on_error}
+use Rattle.rc_counter_bag.proofs.Edits.{added-stands, added-fits, absent}
+use Rattle.sorted_pairs.proofs.Cases.{on_error}
 use Rattle.rc_counter_bag.proofs.Kept.{IsBag-added}
 use Rattle.rc_counter_bag.proofs.pairs.add.Goals as goal
 
