@@ -7,6 +7,7 @@ use Rattle.gem_value.specs.declared.record.Entry.{Entry}
 use Rattle.gem_value.specs.declared.conflict.Conflict.{Conflict}
 use Rattle.gem_value.specs.declared.conflict.ConflictKind.TheVariants.{WriteWrite}
 use Rattle.gem_value.specs.Oid.{oid_number}
+use Rattle.profile.specs.declared.kernel.TheConstants.{FIRST_SERIAL, KERNEL_SERIAL, GLOBALS_COUNTER}
 use Rattle.gem_value.specs.Writes.{with_written}
 use Rattle.shell_words.specs.Script.{SessionCommands}
 use Rattle.shell_words.specs.declared.script.Command.{Command}
@@ -21,9 +22,9 @@ pub record Opened : Type 0 where
   pub script : List SessionCommands
 
 -- The serial of the first session: one more than the largest in the opened image. In this stage no
--- object of a session has been made before, and the kernel's objects have serial 0.
+-- object of a session has been made before.
 abbrev pub base_serial : Opened → ℕ
-base_serial o = 1
+base_serial o = FIRST_SERIAL
 
 -- an event: the number of the session that made it, and what it was
 abbrev pub Event : Type 0
@@ -122,7 +123,7 @@ OthersCame session before after =
 
 -- the object that every global of this stage lies in: the dictionary Globals, 0:27
 abbrev pub globals : ℕ
-globals = oid_number 0 27
+globals = oid_number KERNEL_SERIAL GLOBALS_COUNTER
 
 -- The conflicts of a transaction that wrote something, where this stands and it ran so on its view.
 -- C1: in this stage there is one, and only where a commit came after the view.

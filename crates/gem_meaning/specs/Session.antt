@@ -3,6 +3,7 @@ use Rattle.std.specs.Prelude.{◌≡◌, ◌≢◌, ◌⊎◌, ℕ, zero, suc, �
 use Rattle.texts.specs.Bytes.{Bytes}
 use Rattle.gem_value.specs.Image.{Image}
 use Rattle.gem_value.specs.Oid.{oid_number}
+use Rattle.profile.specs.declared.kernel.TheConstants.{KERNEL_SERIAL, DATA_CURATOR_COUNTER}
 use Rattle.gem_value.specs.declared.record.Entry.{Entry}
 use Rattle.gem_value.specs.declared.conflict.Conflict.{Conflict}
 use Rattle.gem_replies.specs.declared.reply.Line.{Line}
@@ -19,7 +20,7 @@ use Rattle.gem_meaning.specs.Events.{Opened, Event, Told, run_on_view, after_eve
 -- the object of the user with this name, who may log in where this image stands: in this stage one
 -- user, whose profile the kernel has
 abbrev pub user_in : Image → Bytes → Option ℕ
-user_in image user = if bytes_eq user (codes "DataCurator") then Some (oid_number 0 32) else None
+user_in image user = if bytes_eq user (codes "DataCurator") then Some (oid_number KERNEL_SERIAL DATA_CURATOR_COUNTER) else None
 
 -- What a session carries from command to command.
 pub record SessionState : Type 0 where

@@ -1,5 +1,7 @@
 -- A session's commits and aborts.
 use Rattle.std.proofs.Common.{◌≡◌, ◌∙◌, refl, sym, ap, subst, ℕ, ℤ, ◌+◌, ◌-◌, ◌≤◌, true, false, Some, List, [], ◌∷◌, ◌++◌, length, arith, append-nil}
+use Rattle.std.proofs.lemmas.Bool.{true≢false}
+use Rattle.stone_core.specs.declared.port.CommitAnswer.{CommitAnswer}
 use Rattle.std.specs.FinMap as map
 use Rattle.std.specs.List.{AllByRecursion, slice_get}
 use Rattle.texts.specs.Bytes.{Bytes}
@@ -19,7 +21,7 @@ use Rattle.stone_core.specs.declared.port.CommitAnswer.TheVariants.{ReadOnly, Co
 use Rattle.stone_core.proofs.Apart.{apart_both, apart_later, apart_of_others}
 use Rattle.stone_core.proofs.Later.{run_stays}
 use Rattle.gem_session.specs.declared.session.Session.{Session}
-use Rattle.gem_session.specs.Running.{carried, MayBegin, StandsBefore, Begins, Replied}
+use Rattle.gem_session.specs.Running.{ends_transaction, commit_line, carried, MayBegin, StandsBefore, Begins, Replied}
 use Rattle.gem_session.proofs.Others.{nobody_came, came_and_came, extends_by}
 use Rattle.gem_session.proofs.Between.{entry_whole, written_to_commit}
 use Rattle.gem_session.proofs.Steps.{apart_when, stands_kept, begins_session, begins_stands}
@@ -233,3 +235,30 @@ pub apart_unplaced : (o : Opened) (es es' : List Event) (number : ℕ) (s : Sess
 apart_unplaced o es es' number s written at stands says =
     apart_when o es es' s.session (number + 1) (apart_next es s.session s.first_command number stands.first.1 stands.apart)
     (says.others, says.are_others, says.events ∙ append-nil (es ++ says.others))
+
+-- the earlier entries end before the next transaction, where the commit ended the one before it
+pub apart_ended : (o : Opened) (es es' : List Event) (number : ℕ) (s : Session) (written : List (Bytes × ℤ)) (answer : CommitAnswer) → ends_transaction answer ≡ true →
+    StandsBefore (At o es) number s → CommitSays o es es' (record_with number s written) answer → AllByRecursion (EndedBefore s.session (number + 1)) es'
+apart_ended o es es' number s written (ReadOnly at) ends stands says = apart_unplaced o es es' number s written at stands says
+apart_ended o es es' number s written (Conflicts found) ends stands says = absurd (true≢false (sym ends))
+apart_ended o es es' number s written (PlacedAt at) ends stands says = apart_placed o es es' number s written at stands says
+apart_ended o es es' number s written ShortOfMemory ends stands says = absurd (true≢false (sym ends))
+
+-- a commit that ended its transaction
+pub commit_ended : (o : Opened) (es es' es'' : List Event) (number : ℕ) (s : Session) (written : List (Bytes × ℤ)) (answer : CommitAnswer) (s' : Session) → ends_transaction answer ≡ true →
+    StandsBefore (At o es) number s → s.spoiled ≡ false → slice_get (commands_of o.script s.session) (number - 1) ≡ Some Commit → written ≡ map.entries s.state.written →
+    CommitSays o es es' (record_with number s written) answer → Begins o es' es'' (λ view. next_transaction (carried s) view number) s' →
+    Replied o number es es'' s Commit (commit_line answer s'.view ∷ []) s'
+commit_ended o es es' es'' number s written (ReadOnly at) s' ends stands calm is wrote says begins = commit_unchanged o es es' es'' number s written at s' stands calm is wrote says begins
+commit_ended o es es' es'' number s written (Conflicts found) s' ends stands calm is wrote says begins = absurd (true≢false (sym ends))
+commit_ended o es es' es'' number s written (PlacedAt at) s' ends stands calm is wrote says begins = commit_placed o es es' es'' number s written at s' stands calm is wrote says begins
+commit_ended o es es' es'' number s written ShortOfMemory s' ends stands calm is wrote says begins = absurd (true≢false (sym ends))
+
+-- a commit after which the transaction goes on
+pub commit_goes_on : (o : Opened) (es es' : List Event) (number : ℕ) (s : Session) (written : List (Bytes × ℤ)) (answer : CommitAnswer) (view : ℕ) → ends_transaction answer ≡ false →
+    StandsBefore (At o es) number s → s.spoiled ≡ false → slice_get (commands_of o.script s.session) (number - 1) ≡ Some Commit → written ≡ map.entries s.state.written →
+    CommitSays o es es' (record_with number s written) answer → Replied o number es es' s Commit (commit_line answer view ∷ []) s
+commit_goes_on o es es' number s written (ReadOnly at) view ends stands calm is wrote says = absurd (true≢false ends)
+commit_goes_on o es es' number s written (Conflicts found) view ends stands calm is wrote says = commit_refused o es es' number s written found stands calm is wrote says
+commit_goes_on o es es' number s written (PlacedAt at) view ends stands calm is wrote says = absurd (true≢false ends)
+commit_goes_on o es es' number s written ShortOfMemory view ends stands calm is wrote says = commit_starved o es es' number s written stands calm is wrote says

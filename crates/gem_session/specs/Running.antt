@@ -1,23 +1,39 @@
 -- What the fields of a running session stand for, and what each of its commands does to them.
 use Rattle.std.specs.Prelude.{◌≡◌, ℕ, ◌+◌, ◌-◌, ◌≤◌, ◌<◌, ◌⊎◌, Bool, true, false, not, List, [], ◌∷◌, length, Some}
 use Rattle.std.specs.List.{AllByRecursion, slice_get}
-use Rattle.shell_words.specs.Script.{SessionCommands, command_limit, is_logout}
+use Rattle.shell_words.specs.Script.{SessionCommands, is_logout}
+use Rattle.profile.specs.declared.limits.TheConstants.{COMMAND_LIMIT}
 use Rattle.shell_words.specs.declared.script.Command.{Command}
 use Rattle.gem_replies.specs.declared.reply.Line.{Line}
-use Rattle.gem_replies.specs.declared.reply.Line.TheVariants.{NoMemory}
+use Rattle.gem_replies.specs.declared.reply.Line.TheVariants.{NoMemory, Unchanged, Refused, Committed}
 use Rattle.gem_meaning.specs.Transaction.{run_command}
 use Rattle.gem_meaning.specs.Events.{Opened, Event, Told, commands_of, entry_commands, standing, events_of}
 use Rattle.gem_meaning.specs.Serial.{EndsTransaction, MayGoOn, EndedBefore}
 use Rattle.gem_meaning.specs.Session.{SessionState, user_in, first_transaction, entry_to, run_so_far, SeesNumber, CommandSays}
+use Rattle.stone_core.specs.declared.port.CommitAnswer.{CommitAnswer}
+use Rattle.stone_core.specs.declared.port.CommitAnswer.TheVariants.{ReadOnly, Conflicts, Placed, NoMemory as ShortOfMemory}
 use Rattle.gem_session.specs.declared.session.Session.{Session}
 
 -- the number of a command of a script, from 1
 abbrev pub IsCommandNumber : ℕ → Type 0
-IsCommandNumber number = (1 ≤ number) × (number < command_limit)
+IsCommandNumber number = (1 ≤ number) × (number < COMMAND_LIMIT)
 
 -- the session goes on after any command but a logout
 abbrev pub goes_on : Command → Bool
 goes_on command = not (is_logout command)
+
+-- whether a commit that was answered so ends its transaction
+abbrev pub ends_transaction : CommitAnswer → Bool
+ends_transaction (ReadOnly number) = true
+ends_transaction (Placed number) = true
+ends_transaction _ = false
+
+-- the reply to a commit that was answered so, with this view after it
+abbrev pub commit_line : CommitAnswer → ℕ → Line
+commit_line (ReadOnly number) view = Unchanged number view
+commit_line (Conflicts found) view = Refused found
+commit_line (Placed number) view = Committed number view
+commit_line ShortOfMemory view = NoMemory
 
 -- what the session carries from command to command
 abbrev pub carried : Session → SessionState

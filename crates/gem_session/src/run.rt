@@ -13,6 +13,7 @@ ghost use Rattle.gem_session.specs.Running.{goes_on, HasLoggedIn};
 use crate::session::Session;
 use gem_replies::{Line, Replies, Reply, Transcript};
 use gem_value::{Image, Oid};
+use profile::{DATA_CURATOR_COUNTER, KERNEL_SERIAL};
 use shell_words::{Command, SessionScript};
 use std::alloc::{AllocError, Global};
 use stone_core::StonePort;
@@ -91,7 +92,7 @@ fn user_in(_image: &Image, name: &Text) -> Option<Oid>
     ensures { result ≡ user_in _image.now name.now }
 {
     if name.bytes() == b"DataCurator".as_slice() {
-        Some(Oid::from_parts(0, 32))
+        Some(Oid::from_parts(KERNEL_SERIAL, DATA_CURATOR_COUNTER))
     } else {
         None
     }

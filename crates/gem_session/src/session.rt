@@ -9,7 +9,7 @@ ghost use Rattle.gem_meaning.specs.Events.{commands_of};
 ghost use Rattle.gem_meaning.specs.Serial.{EndsTransaction, EndedBefore, IsConsistent};
 ghost use Rattle.gem_meaning.specs.Session.{next_transaction};
 ghost use Rattle.stone_core.specs.Port.{GoesOn};
-ghost use Rattle.gem_session.specs.Running.{IsCommandNumber, goes_on, carried, StandsBefore, Begins, Ran, Replied};
+ghost use Rattle.gem_session.specs.Running.{IsCommandNumber, goes_on, ends_transaction, commit_line, carried, StandsBefore, Begins, Ran, Replied};
 
 use crate::running::run_command;
 use gem_meaning::PlainState;
@@ -142,24 +142,12 @@ impl Session {
             view: self.view,
             written,
         };
-        match port.commit(alloc, &done) {
-            CommitAnswer::ReadOnly(at) => {
-                self.begin_next(alloc, port, number)?;
-                Ok(Line::Unchanged {
-                    at,
-                    view: self.view,
-                })
-            }
-            CommitAnswer::Conflicts(found) => Ok(Line::Refused(found)),
-            CommitAnswer::Placed(commit) => {
-                self.begin_next(alloc, port, number)?;
-                Ok(Line::Committed {
-                    number: commit,
-                    view: self.view,
-                })
-            }
-            CommitAnswer::NoMemory => Ok(Line::NoMemory),
+        let answer = port.commit(alloc, &done);
+        if ends_transaction(&answer) {
+            self.begin_next(alloc, port, number)?;
+            return Ok(commit_line(answer, self.view));
         }
+        Ok(commit_line(answer, self.view))
     }
 
     fn abort<P: StonePort>(
@@ -206,5 +194,24 @@ impl Session {
         self.spoiled = false;
         self.state = PlainState::start(alloc, begun.image);
         Ok(())
+    }
+}
+
+// Whether a commit that was answered so ends its transaction.
+fn ends_transaction(answer: &CommitAnswer) -> bool
+    ensures { result ≡ ends_transaction answer.now }
+{
+    matches!(answer, CommitAnswer::ReadOnly(_) | CommitAnswer::Placed(_))
+}
+
+// The reply to a commit that was answered so, with this view after it.
+fn commit_line(answer: CommitAnswer, view: u64) -> Line
+    ensures { result ≡ commit_line answer view }
+{
+    match answer {
+        CommitAnswer::ReadOnly(at) => Line::Unchanged { at, view },
+        CommitAnswer::Conflicts(found) => Line::Refused(found),
+        CommitAnswer::Placed(number) => Line::Committed { number, view },
+        CommitAnswer::NoMemory => Line::NoMemory,
     }
 }

@@ -11,6 +11,9 @@ pub const FIRST_SERIAL: u32 = 1;
 /// The counter in the name of the dictionary Globals.
 pub const GLOBALS_COUNTER: u32 = 27;
 
+/// The counter in the name of the profile of the user DataCurator.
+pub const DATA_CURATOR_COUNTER: u32 = 32;
+
 // The names of the kernel's objects, and `UserGlobals`.
 static KERNEL_NAMES: [&[u8]; 32] = [
     b"Object",

@@ -13,6 +13,7 @@ mod tests;
 use crate::port::{Begun, CommitAnswer, StonePort};
 use gem_meaning::What;
 use gem_value::{Conflict, ConflictKind, Conflicts, Entry, History, Image, Oid, TxnRecord};
+use profile::{GLOBALS_COUNTER, KERNEL_SERIAL};
 use shell_words::Script;
 use std::alloc::{AllocError, Global};
 use std::marker::Model;
@@ -234,5 +235,5 @@ impl StonePort for Stone {
 fn globals() -> Oid
     ensures { result ≡ globals_name }
 {
-    Oid::from_parts(0, 27)
+    Oid::from_parts(KERNEL_SERIAL, GLOBALS_COUNTER)
 }
