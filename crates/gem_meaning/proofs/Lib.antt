@@ -3,4 +3,5 @@ pub mod Running
 pub mod Shapes
 pub mod Stays
 pub mod Steps
+pub mod Views
 pub mod Written
