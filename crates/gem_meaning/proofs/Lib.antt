@@ -1,3 +1,4 @@
+pub mod Claims
 pub mod Evaluation
 pub mod Running
 pub mod Shapes

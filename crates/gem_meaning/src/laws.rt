@@ -5,6 +5,7 @@ ghost use Rattle.shell_words.specs.Script.{SessionCommands};
 ghost use Rattle.gem_replies.specs.declared.reply.Reply.{Reply};
 ghost use Rattle.gem_meaning.specs.Events.{Event, Told, told_more, events_of};
 ghost use Rattle.gem_meaning.specs.Session.{Says};
+ghost use Rattle.gem_meaning.specs.Claims.{claims_of};
 ghost use Rattle.gem_meaning.specs.declared.evaluator.EvaluationError.{EvaluationError};
 ghost use Rattle.gem_meaning.specs.Form.{put_of};
 ghost use Rattle.gem_meaning.specs.State.{State, shown, set};
@@ -40,4 +41,10 @@ pub fn says_stay()
     ensures { (t : Told) (more : List Event) (session : ℕ) (script : SessionCommands) (replies : List Reply) →
         events_of session more ≡ [] → Says t session script replies →
         Says (told_more t more) session script replies }
+{}
+
+/// The events of a session are those that its replies claim: each is that of exactly one `committed`.
+pub fn claimed_once()
+    ensures { (t : Told) (session : ℕ) (script : SessionCommands) (replies : List Reply) →
+        Says t session script replies → events_of session t.events ≡ claims_of session replies }
 {}
