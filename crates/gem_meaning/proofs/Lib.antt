@@ -1,7 +1,10 @@
 pub mod Claims
 pub mod Evaluation
+pub mod Lines
+pub mod Printed
 pub mod Running
 pub mod Shapes
+pub mod SoFar
 pub mod Stays
 pub mod Steps
 pub mod Views
