@@ -2,7 +2,7 @@
 -- short of memory, are one: each is the replay of the script.
 use Rattle.std.proofs.Common.{◌≡◌, ◌⊎◌, inl, inr, ◌∙◌, refl, sym, ap, ap₂, subst, ℕ, ◌+◌, ◌≤◌, ◌<◌, Option, Some, None, List, [], ◌∷◌, ◌++◌, length, take, drop, arith, take-append-drop, length-take-le, take_at, drop_at, append-nil}
 use Rattle.std.specs.List.{fold, AllByRecursion}
-use Rattle.st_tree.specs.Trees.{Bytes}
+use Rattle.texts.specs.Bytes.{Bytes}
 use Rattle.gem_value.specs.declared.record.Entry.{Entry}
 use Rattle.gem_replies.specs.declared.reply.Line.TheVariants.{NoUser, Login}
 use Rattle.gem_replies.specs.declared.reply.Reply.{Reply}

@@ -2,7 +2,7 @@
 -- the image and the script. A legal run in which the sessions took turns, and none was short of
 -- memory, is this one.
 use Rattle.std.specs.Prelude.{ℕ, ℤ, ◌+◌, List, [], ◌∷◌, ◌++◌, length, Option, Some, None}
-use Rattle.st_tree.specs.Trees.{Bytes}
+use Rattle.texts.specs.Bytes.{Bytes}
 use Rattle.gem_replies.specs.declared.reply.Line.{Line}
 use Rattle.gem_replies.specs.declared.reply.Line.TheVariants.{NoUser, Login, NotBuilt, Unchanged, Committed, Aborted, Logout as LoggedOut}
 use Rattle.gem_replies.specs.declared.reply.Reply.{Reply}

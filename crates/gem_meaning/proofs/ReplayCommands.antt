@@ -1,7 +1,7 @@
 -- A session whose events alone come, and which is never short of memory, says what the replay says.
 use Rattle.std.proofs.Common.{◌≡◌, ◌≢◌, inl, inr, ◌∙◌, refl, sym, ap, ap₂, subst, ℕ, ℤ, ◌+◌, ◌-◌, ◌≤◌, Bool, true, false, true≢false, nat_lt, List, [], ◌∷◌, ◌++◌, take, drop, append-nil, arith, ltb-true, add-sub_of_le, drop-drop, take-add}
 use Rattle.std.specs.List.{AllByRecursion}
-use Rattle.st_tree.specs.Trees.{Bytes}
+use Rattle.texts.specs.Bytes.{Bytes}
 use Rattle.gem_value.specs.declared.conflict.Conflict.{Conflict}
 use Rattle.gem_replies.specs.declared.reply.Line.{Line}
 use Rattle.gem_replies.specs.declared.reply.Line.TheVariants.{NoMemory, NotBuilt, Spoiled, Unchanged, Refused, Committed, Aborted, Logout as LoggedOut}

@@ -22,7 +22,8 @@ after_more o before more = fold-append (after_event o) (before_events o) before 
 abbrev pub IsGrown : Opened → Standing → Type 0
 IsGrown o s = o.number + length s.earlier ≡ s.number
 
-pub grown_by : (o : Opened) (s : Standing) (event : Event) → IsGrown o s → IsGrown o (after_event o s event)
+pub grown_by : (o : Opened) (s : Standing) (event : Event) → IsGrown o s
+    → IsGrown o (after_event o s event)
 grown_by o s (session, Placed e) grown = omega arith
 
 pub grown_from : (o : Opened) (s : Standing) (events : List Event) → IsGrown o s
@@ -35,7 +36,8 @@ unfolding after_events
 is_grown o events = grown_from o (before_events o) events (omega arith)
 
 -- the same item, whatever stands for one that is missing
-same_item : {A : Type 0} (xs : List A) (i : ℕ) (d e : A) → i + 1 ≤ length xs → get_or xs i d ≡ get_or xs i e
+same_item : {A : Type 0} (xs : List A) (i : ℕ) (d e : A) → i + 1 ≤ length xs
+    → get_or xs i d ≡ get_or xs i e
 same_item [] i d e within = grind arith
 same_item (x ∷ xs) zero d e within = refl
 same_item (x ∷ xs) (suc i) d e within = same_item xs i d e (omega arith)
@@ -49,10 +51,12 @@ pub image_stays : (o : Opened) (s : Standing) (event : Event) (number : ℕ) →
     → image_at (after_event o s event) number ≡ image_at s number
 image_stays o s (session, Placed e) number grown from to =
     let next = with_written (effect_of o s e) s.image in
-    item_after next (s.image ∷ s.earlier) (s.number + 1 - number) (s.number - number) next (omega arith)
-    ∙ same_item (s.image ∷ s.earlier) (s.number - number) next s.image (omega arith)
+    let images = s.image ∷ s.earlier in
+    item_after next images (s.number + 1 - number) (s.number - number) next (omega arith)
+    ∙ same_item images (s.number - number) next s.image (omega arith)
 
-pub number_grows : (o : Opened) (s : Standing) (event : Event) → s.number ≤ (after_event o s event).number
+pub number_grows : (o : Opened) (s : Standing) (event : Event)
+    → s.number ≤ (after_event o s event).number
 number_grows o s (session, Placed e) = omega arith
 
 pub image_stays_from : (o : Opened) (s : Standing) (events : List Event) (number : ℕ) → IsGrown o s

@@ -1,13 +1,21 @@
 //! What follows from the definitions alone. Each law is the contract of a function that does nothing.
-ghost use Rattle.std.specs.Prelude.{◌≡◌, ◌≢◌, ℕ, ℤ, Bool, Some, Ok, Err, List, []};
+ghost use Rattle.std.specs.Prelude.{◌≡◌, ◌≢◌, ℕ, ℤ, Bool, Some, Ok, Err, List, [], ◌-◌, ◌≤◌, ◌<◌, true, ◌∷◌, ◌++◌, get_or};
+ghost use Rattle.texts.specs.Bytes.{Bytes};
 ghost use Rattle.texts.specs.Bytes.{Bytes};
 ghost use Rattle.st_tree.specs.Trees.{Expression, statement, Statements, append_statements};
 ghost use Rattle.shell_words.specs.Script.{SessionCommands};
 ghost use Rattle.gem_replies.specs.declared.reply.Reply.{Reply};
 ghost use Rattle.gem_replies.specs.declared.reply.RunBook.{RunBook};
-ghost use Rattle.gem_meaning.specs.Events.{Event, Told, told_more, events_of};
+ghost use Rattle.gem_meaning.specs.Events.{Event, Told, told_more, events_of, after_events, commands_of, run_at_place};
 ghost use Rattle.gem_meaning.specs.Session.{Says};
 ghost use Rattle.gem_meaning.specs.Legal.{IsLegal, NeverShort, AreInTurn};
+ghost use Rattle.std.specs.List.{slice_get};
+ghost use Rattle.gem_value.specs.declared.record.Entry.{Entry};
+ghost use Rattle.gem_replies.specs.declared.reply.Transcript.{Transcript};
+ghost use Rattle.shell_words.specs.declared.script.Command.{Command};
+ghost use Rattle.gem_meaning.specs.declared.event.What.TheVariants.{Placed};
+ghost use Rattle.gem_meaning.specs.Transaction.{is_run};
+ghost use Rattle.gem_meaning.specs.Claims.{claims_of, lines_of};
 ghost use Rattle.gem_meaning.specs.declared.evaluator.EvaluationError.{EvaluationError};
 ghost use Rattle.gem_meaning.specs.Form.{put_of};
 ghost use Rattle.gem_meaning.specs.State.{State, shown, set};
@@ -53,4 +61,24 @@ pub fn one_report()
         AreInTurn t 1 t.opened.script book.transcripts →
         AreInTurn t' 1 t'.opened.script book'.transcripts →
         NeverShort book → NeverShort book' → (t ≡ t') × (book ≡ book') }
+{}
+
+/// The events of a session are those that its replies claim, in their order: each is that of exactly
+/// one `committed`.
+pub fn claimed_once()
+    ensures { (t : Told) (session : ℕ) (script : SessionCommands) (replies : List Reply) →
+        Says t session script replies → events_of session t.events ≡ claims_of session replies }
+{}
+
+/// What a transcript replies to a chunk or a method of a placed transaction is what that command
+/// replies when the transaction is run at its place.
+pub fn printed_at_place()
+    ensures { (t : Told) (book : RunBook) (before more : List Event) (session : ℕ) (e : Entry)
+        (transcript : Transcript) (n : ℕ) (c : Command) → IsLegal t book →
+        t.events ≡ before ++ (session, Placed e) ∷ more →
+        slice_get book.transcripts (session - 1) ≡ Some transcript →
+        e.first_command ≤ n → n < e.last_command →
+        slice_get (commands_of t.opened.script session) (n - 1) ≡ Some c → is_run c ≡ true →
+        let at_place = run_at_place t.opened (after_events t.opened before) e in
+        lines_of n transcript.replies ≡ get_or at_place.replies (n - e.first_command) [] }
 {}
