@@ -16,8 +16,8 @@ returns-in_default-clause-replied g c =
     commit_short t.opened t.events c.args.number c.args.self.now c.requires.stands c.if-self.false
     c.requires.command c.in_default.ensures.starved
 
-pub commit-requires-clause-recorded : goal.commit-requires-clause-recorded
-commit-requires-clause-recorded g c =
+pub commit-answer-requires-clause-recorded : goal.commit-answer-requires-clause-recorded
+commit-answer-requires-clause-recorded g c =
     let t = (g.P.StonePort.state c.args.port.now).told in
     recorded t.opened t.events c.args.number c.args.self.now _ c.requires.stands c.if-self.false
     c.in-Ok.ensures.writes c.requires.command
@@ -52,6 +52,6 @@ pub returns-clause-replied : goal.returns-clause-replied
 returns-clause-replied g c =
     let t = (g.P.StonePort.state c.args.port.now).told in
     let stays = sym c.ends_transaction.ensures ∙ c.if-ends_transaction.false in
-    rw c.commit_line.ensures
+    rw c.commit_line-2.ensures
     (commit_goes_on t.opened t.events _ c.args.number c.args.self.now c.in-Ok.written c.commit-answer.result c.args.self.now.view stays
     c.requires.stands c.if-self.false c.requires.command c.in-Ok.ensures.writes c.commit-answer.ensures.says)
