@@ -7,7 +7,7 @@ mod limits;
 #[cfg(test)]
 mod tests;
 
-pub use integers::{LARGEST_INTEGER, SMALLEST_INTEGER, is_small_integer};
+pub use integers::{INTEGER_LIMIT, LARGEST_INTEGER, SMALLEST_INTEGER, is_small_integer};
 pub use kernel::{FIRST_SERIAL, GLOBALS_COUNTER, KERNEL_SERIAL, is_kernel_name};
 pub use limits::{
     CHUNK_LIMIT, COMMAND_LIMIT, DEPTH_LIMIT, SCRIPT_LIMIT, SESSION_LIMIT, SYMBOL_LIMIT, USER_LIMIT,
