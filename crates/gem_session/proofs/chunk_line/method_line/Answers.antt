@@ -1,8 +1,11 @@
-use Rattle.gem_session.proofs.Faults.{method_built, method_fault}
+use Rattle.std.proofs.Common.{sym, ap}
+use Rattle.gem_meaning.specs.Transaction.{parsed_line, method_line}
+use Rattle.gem_session.proofs.Faults.{method_fault}
 use Rattle.gem_session.proofs.chunk_line.method_line.Goals as goal
 
 pub returns-in-Ok : goal.returns-in-Ok
-returns-in-Ok c = method_built c.args.text.now c.in-Ok.field-0 c.in-Ok.ensures.tree
+unfolding method_line
+returns-in-Ok c = ap parsed_line (sym c.in-Ok.ensures.tree.is)
 
 pub returns-in-Err-Rule : goal.returns-in-Err-Rule
 returns-in-Err-Rule c =
