@@ -5,7 +5,8 @@ ghost use Rattle.profile.specs.Kernel.{is_kernel_name};
 /// The serial in the names of the kernel's objects.
 pub const KERNEL_SERIAL: u32 = 0;
 
-/// The serial in the names of the objects that a run's first session makes. No object has it before.
+/// The serial in the names of the objects that a run's first session makes. No object has it
+/// before.
 pub const FIRST_SERIAL: u32 = 1;
 
 /// The counter in the name of the dictionary Globals.

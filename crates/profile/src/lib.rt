@@ -7,7 +7,7 @@ mod limits;
 #[cfg(test)]
 mod tests;
 
-pub use integers::{LARGEST_INTEGER, SMALLEST_INTEGER, is_small_integer};
+pub use integers::{INTEGER_LIMIT, LARGEST_INTEGER, SMALLEST_INTEGER, is_small_integer};
 pub use kernel::{
     DATA_CURATOR_COUNTER, FIRST_SERIAL, GLOBALS_COUNTER, KERNEL_SERIAL, is_kernel_name,
 };

@@ -1,10 +1,15 @@
 -- The tokens of a Smalltalk text: what stands between its blanks and comments.
--- `Lexes` says which tokens a text has, and `Stops` at which place it has a bad one and which rule that breaks.
-use Rattle.std.specs.Prelude.{◌≡◌, ℕ, ◌+◌, ◌-◌, ◌*◌, ◌^◌, Bool, true, false, cond, not, ◌&&◌, ◌||◌, ◌==◌, nat_lt, nat_le, Option, Some, None, List, [], ◌∷◌, length, take, drop, codes, fold}
+-- `Lexes` says which tokens a text has, and `Stops` at which place it has a bad one and which rule
+-- that breaks.
+use Rattle.std.specs.Prelude.{◌≡◌, ℕ, ◌+◌, ◌-◌, ◌*◌, pos, Bool, true, false, cond, not, ◌&&◌, ◌||◌}
+use Rattle.std.specs.Prelude.{◌==◌, nat_lt, nat_le, Option, Some, None, List, [], ◌∷◌, length, take}
+use Rattle.std.specs.Prelude.{drop, codes, fold}
 use Rattle.std.specs.List.{prefix_len, list_all, list_any}
 use Rattle.std.specs.Char.{is_ascii_digit, is_ascii_uppercase}
 use Rattle.texts.specs.Bytes.{Bytes}
 use Rattle.texts.specs.NameBytes.{starts_name, is_name_byte}
+use Rattle.profile.specs.declared.integers.TheConstants.{INTEGER_LIMIT}
+use Rattle.profile.specs.declared.limits.TheConstants.{SYMBOL_LIMIT}
 
 -- The kinds of token.
 pub data Kind : Type 0 where
@@ -37,18 +42,19 @@ pub data Kind : Type 0 where
   open_array : Kind
 
 -- The rules that a bad token breaks.
-pub data Rule : Type 0 where
-  -- a byte that begins no token
-  p1 : Rule
-  -- a string, comment, character or symbol without its end, or a `#` with which neither a symbol nor `#(` begins
-  p2 : Rule
-  -- a number that isn't of the form or above the largest one, or a symbol that is too long
-  p3 : Rule
+pub data TokenRule : Type 0 where
+  -- P1: a byte that begins no token
+  p1 : TokenRule
+  -- P2: a string, comment, character or symbol without its end, or a `#` with which neither a
+  -- symbol nor `#(` begins
+  p2 : TokenRule
+  -- P3: a number that isn't of the form or above the largest one, or a symbol that is too long
+  p3 : TokenRule
 
-abbrev pub rule_number : Rule → ℕ
-rule_number p1 = 1
-rule_number p2 = 2
-rule_number p3 = 3
+abbrev pub token_rule_number : TokenRule → ℕ
+token_rule_number p1 = 1
+token_rule_number p2 = 2
+token_rule_number p3 = 3
 
 -- A token of a text: its kind, the offset where it begins and the one where it has ended.
 pub record Token : Type 0 where
@@ -65,7 +71,7 @@ pub data Piece : Type 0 where
   -- a token of so many bytes
   token : Kind → ℕ → Piece
   -- no token
-  bad : Rule → Piece
+  bad : TokenRule → Piece
 
 -- space, tab, LF, CR
 abbrev pub is_blank : ℕ → Bool
@@ -104,13 +110,14 @@ abbrev pub later : ℕ → Option ℕ → Option ℕ
 later k (Some n) = Some (n + k)
 later k None = None
 
--- how many bytes a comment has from behind its first double quote on, the last one included
+-- how many bytes a comment has from after its first double quote on, the last one included
 abbrev pub comment_end : Bytes → Option ℕ
 comment_end [] = None
 comment_end (b ∷ bs) = cond (b == 34) (Some 1) (later 1 (comment_end bs))
 
--- How many bytes a string has from behind its first quote on, the last one included. A doubled quote is a quote in it.
--- `quoted` says that the byte before was a quote: it ends the string unless another follows.
+-- How many bytes a string has from after its first quote on, the last one included. A doubled quote
+-- is a quote in it. `quoted` says that the byte before was a quote: it ends the string unless
+-- another follows.
 abbrev pub string_end : (quoted : Bool) → Bytes → Option ℕ
 string_end false [] = None
 string_end false (b ∷ bs) = later 1 (string_end (b == 39) bs)
@@ -132,7 +139,8 @@ name_goes_on here b = cond (here == 0) (starts_name b) (is_name_byte b)
 abbrev pub is_keyword_end : Bytes → Bool
 is_keyword_end bs = begins_with 58 bs && not (begins_with 61 (drop 1 bs))
 
--- How many bytes of keywords without a gap a text begins with. So many bytes of the first keyword's name stand before the text.
+-- How many bytes of keywords without a gap a text begins with. So many bytes of the first keyword's
+-- name stand before the text.
 abbrev pub keywords : (here : ℕ) → Bytes → ℕ
 keywords here [] = 0
 keywords here (b ∷ bs) = cond (name_goes_on here b) (keywords (here + 1) bs)
@@ -146,20 +154,25 @@ word text = cond (is_keyword_end (drop (prefix_len is_name_byte text) text))
 
 -- a number may end before this: neither a letter or `_` follows directly, nor `.` and a digit
 abbrev pub ends_number : Bytes → Bool
-ends_number bs = not (begins starts_name bs || (begins_with 46 bs && begins is_ascii_digit (drop 1 bs)))
+ends_number bs = not (begins starts_name bs ||
+    (begins_with 46 bs && begins is_ascii_digit (drop 1 bs)))
 
 -- a number of n bytes with this value, before the bytes that follow it
 abbrev pub number_before : (n value : ℕ) → Bytes → Piece
-number_before n value after = cond (ends_number after && nat_lt value (2 ^ 60)) (token number n) (bad p3)
+number_before n value after = cond (ends_number after && nat_lt value INTEGER_LIMIT)
+    (token number n) (bad p3)
 
 -- radix digits, of which there is at least one, and each is below the radix
 abbrev pub are_digits : (radix : ℕ) → Bytes → Bool
-are_digits radix digits = nat_le 2 radix && nat_le radix 36 && not (length digits == 0) && list_all (λ b. nat_lt (digit_value b) radix) digits
+are_digits radix digits = nat_le 2 radix && nat_le radix 36 && not (length digits == 0) && list_all
+    (λ b. nat_lt (digit_value b) radix) digits
 
 -- a number whose first n bytes gave its radix
 abbrev pub number_in : (radix n : ℕ) → Bytes → Piece
 number_in radix n rest = cond (are_digits radix (take (prefix_len is_radix_digit rest) rest))
-    (number_before (n + prefix_len is_radix_digit rest) (value_of radix (take (prefix_len is_radix_digit rest) rest)) (drop (prefix_len is_radix_digit rest) rest))
+    (number_before (n + prefix_len is_radix_digit rest)
+    (value_of radix (take (prefix_len is_radix_digit rest) rest))
+    (drop (prefix_len is_radix_digit rest) rest))
     (bad p3)
 
 -- a number whose first n bytes are its digits or those of its radix
@@ -173,7 +186,7 @@ number_at text = number_after (prefix_len is_ascii_digit text) text
 
 -- a symbol whose name has so many bytes, and which has n bytes itself
 abbrev pub sized : (size n : ℕ) → Piece
-sized size n = cond (nat_le size 1000) (token symbol n) (bad p3)
+sized size n = cond (nat_le size SYMBOL_LIMIT) (token symbol n) (bad p3)
 
 -- how many bytes of a name or of keywords follow a `#`
 abbrev pub symbol_name : Bytes → ℕ
@@ -192,13 +205,15 @@ symbol_at rest =
     cond (begins starts_name rest) (sized (symbol_name rest) (symbol_name rest + 1))
     (cond (begins is_operator rest) (token symbol (binary_len (drop 1 rest) + 1))
     (cond (begins_with 124 rest) (token symbol 2)
-    (cond (begins_with 39 rest) (quoted_symbol (length (string_bytes false (drop 1 rest))) (string_end false (drop 1 rest)))
+    (cond (begins_with 39 rest)
+    (quoted_symbol (length (string_bytes false (drop 1 rest))) (string_end false (drop 1 rest)))
     (cond (begins_with 40 rest) (token open_array 2)
     (bad p2)))))
 
 -- a character is `$` and one byte of 32 to 126
 abbrev pub character_at : Bytes → Piece
-character_at rest = cond (begins (λ b. nat_le 32 b && nat_le b 126) rest) (token character 2) (bad p2)
+character_at rest = cond (begins (λ b. nat_le 32 b && nat_le b 126) rest) (token character 2)
+    (bad p2)
 
 abbrev pub comment_to : Option ℕ → Piece
 comment_to (Some n) = gap (n + 1)
@@ -271,15 +286,20 @@ piece (b ∷ rest) = piece_in (class_of b) b rest
 -- The text, whose first byte has this offset, has exactly these tokens.
 pub data Lexes : ℕ → Bytes → List Token → Type 0 where
   at_end : {at : ℕ} {text : Bytes} → piece text ≡ end → Lexes at text []
-  after_gap : {at n : ℕ} {text : Bytes} {ts : List Token} → piece text ≡ gap n → Lexes (at + n) (drop n text) ts → Lexes at text ts
-  after_token : {at n : ℕ} {k : Kind} {text : Bytes} {ts : List Token} → piece text ≡ token k n → Lexes (at + n) (drop n text) ts
+  after_gap : {at n : ℕ} {text : Bytes} {ts : List Token} → piece text ≡ gap n
+      → Lexes (at + n) (drop n text) ts → Lexes at text ts
+  after_token : {at n : ℕ} {k : Kind} {text : Bytes} {ts : List Token} → piece text ≡ token k n
+      → Lexes (at + n) (drop n text) ts
       → Lexes at text (record { kind = k; from = at; to = at + n } ∷ ts)
 
--- The text, whose first byte has this offset, has its first bad token at `place`, and it breaks this rule.
-pub data Stops : ℕ → Bytes → (place : ℕ) → Rule → Type 0 where
-  here : {at : ℕ} {text : Bytes} {r : Rule} → piece text ≡ bad r → Stops at text at r
-  past_gap : {at n place : ℕ} {text : Bytes} {r : Rule} → piece text ≡ gap n → Stops (at + n) (drop n text) place r → Stops at text place r
-  past_token : {at n place : ℕ} {k : Kind} {text : Bytes} {r : Rule} → piece text ≡ token k n → Stops (at + n) (drop n text) place r → Stops at text place r
+-- The text, whose first byte has this offset, has its first bad token at `place`, and it breaks
+-- this rule.
+pub data Stops : ℕ → Bytes → (place : ℕ) → TokenRule → Type 0 where
+  here : {at : ℕ} {text : Bytes} {r : TokenRule} → piece text ≡ bad r → Stops at text at r
+  past_gap : {at n place : ℕ} {text : Bytes} {r : TokenRule} → piece text ≡ gap n
+      → Stops (at + n) (drop n text) place r → Stops at text place r
+  past_token : {at n place : ℕ} {k : Kind} {text : Bytes} {r : TokenRule} → piece text ≡ token k n
+      → Stops (at + n) (drop n text) place r → Stops at text place r
 
 -- the bytes of a token of this text
 abbrev pub text_of : Bytes → Token → Bytes
@@ -288,16 +308,25 @@ text_of text t = take (t.to - t.from) (drop t.from text)
 -- the number that a number token stands for, from its bytes
 abbrev pub number_value : Bytes → ℕ
 number_value bytes = cond (begins_with 114 (drop (prefix_len is_ascii_digit bytes) bytes))
-    (value_of (value_of 10 (take (prefix_len is_ascii_digit bytes) bytes)) (drop (prefix_len is_ascii_digit bytes + 1) bytes))
+    (value_of (value_of 10 (take (prefix_len is_ascii_digit bytes) bytes))
+    (drop (prefix_len is_ascii_digit bytes + 1) bytes))
     (value_of 10 (take (prefix_len is_ascii_digit bytes) bytes))
 
--- the bytes of a string, from those of its token: without the quotes around it, a doubled quote counted once
+-- the code of a character, from the bytes of its token: the byte after the `$`
+abbrev pub character_value : Bytes → ℕ
+character_value (first ∷ code ∷ rest) = code
+character_value _ = 0
+
+-- the bytes of a string, from those of its token: without the quotes around it, a doubled quote
+-- counted once
 abbrev pub string_value : Bytes → Bytes
 string_value bytes = string_bytes false (drop 1 bytes)
 
--- the name of a symbol, from the bytes of its token: what follows the `#`, and of a string its bytes
+-- the name of a symbol, from the bytes of its token: what follows the `#`, and of a string its
+-- bytes
 abbrev pub symbol_value : Bytes → Bytes
-symbol_value bytes = cond (begins_with 39 (drop 1 bytes)) (string_value (drop 1 bytes)) (drop 1 bytes)
+symbol_value bytes = cond (begins_with 39 (drop 1 bytes)) (string_value (drop 1 bytes))
+    (drop 1 bytes)
 
 -- where the last of these tokens ends, or `at` where there is none
 abbrev pub end_after : (at : ℕ) → List Token → ℕ

@@ -1,5 +1,5 @@
 -- A tree's size is at most three for each word that it is read from, and a few more or less by the sort of the tree.
--- Each lemma says so of what is read and of the words before and behind it.
+-- Each lemma says so of what is read and of the words before and after it.
 use Rattle.std.proofs.Common.{◌≡◌, refl, ℕ, ◌+◌, ◌*◌, ◌≤◌, Bool, true, false, cond, List, [], ◌∷◌, length, arith, bytes_eq, codes}
 use Rattle.texts.specs.Bytes.{Bytes}
 use Rattle.st_tree.specs.Trees.{Constant, nothing, yes, no, sym, Constants, Head, Expression, Send, Statement, Statements, Sends, Expressions, Program}

@@ -1,10 +1,10 @@
--- What stands behind an expression doesn't go on with it, so the machine may take its arguments as ended there.
+-- What stands after an expression doesn't go on with it, so the machine may take its arguments as ended there.
 use Rattle.std.proofs.Common.{◌≡◌, Bool, true, false, ◌&&◌, List, [], ◌∷◌, refl, sym, ap, ◌∙◌, true≢false}
 use Rattle.texts.specs.Bytes.{Bytes}
 use Rattle.st_tree.specs.Trees.{Expression, send, Sends, Expressions}
 use Rattle.st_grammar.specs.Tokens.{Kind, keyword, semicolon, period, close_paren, close_bracket}
 use Rattle.st_grammar.specs.Grammar.{Word, word, Kept, Scope, IsSelector, binary_is, bar_is, Level, of_binary, of_keyword, full, Sort, unary_sort, binary_sort, keyword_sort, holds, may_come, takes_unary, goes_on, Next, any_message, no_unary, no_message, ReadsSends, sends_end, sends_on, a_unary, a_binary, a_keyword, ReadsParts, parts_end, parts_on, ReadsCascade, cascade_end, cascade_on}
-use Rattle.st_grammar_laws.specs.Machine.{Role, Seat, Wide, alone, keyword_part, Slot, outer, binary_part, have, added, binary_send, and_argument, behind_role, level_of, run}
+use Rattle.st_grammar_laws.specs.Machine.{Role, Seat, Wide, alone, keyword_part, Slot, outer, binary_part, have, added, binary_send, and_argument, behind_role, level_of, machine_run}
 
 pub and_left : (a b : Bool) → (a && b) ≡ true → a ≡ true
 and_left true b h = refl
@@ -80,7 +80,7 @@ behind_cascade cascade_end f = f
 behind_cascade (cascade_on m rest) f = semicolon_follows
 
 -- Which messages might still have come is then the same to the machine.
-pub none_or_more : (kept : Kept) (k : Slot) (e : Expression) (next other : Next) {l : Level} {ws : List Word} → level_of k ≡ l → Follows l ws → run kept (have k e next) ws ≡ run kept (have k e other) ws
+pub none_or_more : (kept : Kept) (k : Slot) (e : Expression) (next other : Next) {l : Level} {ws : List Word} → level_of k ≡ l → Follows l ws → machine_run kept (have k e next) ws ≡ machine_run kept (have k e other) ws
 none_or_more kept k e next other h end_follows = refl
 none_or_more kept k e next other h period_follows = refl
 none_or_more kept k e next other h round_follows = refl
@@ -96,7 +96,7 @@ none_or_more kept (binary_part w role f x) e next other h (selector_follows bar_
 
 -- The argument of a binary message has ended.
 pub binary_ends : (kept : Kept) (w : Wide) (role : Role) (f : Expression) (x : Bytes) (e : Expression) (next : Next) {ws : List Word} → Follows of_binary ws
-    → run kept (have (binary_part w role f x) e next) ws ≡ run kept (have (outer w) (added role f (binary_send x e)) (behind_role role)) ws
+    → machine_run kept (have (binary_part w role f x) e next) ws ≡ machine_run kept (have (outer w) (added role f (binary_send x e)) (behind_role role)) ws
 binary_ends kept w role f x e next end_follows = refl
 binary_ends kept w role f x e next period_follows = refl
 binary_ends kept w role f x e next round_follows = refl
@@ -108,7 +108,7 @@ binary_ends kept w role f x e next (selector_follows bar_is) = refl
 
 -- The last argument of a keyword message has ended.
 pub keyword_ends : (kept : Kept) (o : Seat) (role : Role) (f : Expression) (selector : Bytes) (es : Expressions) (e : Expression) (next : Next) {ws : List Word} → Follows full ws
-    → run kept (have (outer (keyword_part o role f selector es)) e next) ws ≡ run kept (have (outer (alone o)) (added role f (send selector (and_argument es e))) no_message) ws
+    → machine_run kept (have (outer (keyword_part o role f selector es)) e next) ws ≡ machine_run kept (have (outer (alone o)) (added role f (send selector (and_argument es e))) no_message) ws
 keyword_ends kept o role f selector es e next end_follows = refl
 keyword_ends kept o role f selector es e next period_follows = refl
 keyword_ends kept o role f selector es e next round_follows = refl

@@ -6,9 +6,9 @@ use Rattle.st_tree.specs.Trees.{Program}
 use Rattle.st_grammar.specs.Tokens as tokens
 use Rattle.st_grammar.specs.Tokens.{Token, Lexes, Stops, end_after}
 use Rattle.st_grammar.specs.Lexed.{tokens_of}
-use Rattle.st_grammar.specs.Grammar.{Rule, Form, words_after, words_of}
+use Rattle.st_grammar.specs.Grammar.{GrammarRule, Form, words_after, words_of}
 use Rattle.st_grammar.specs.Fails.{every, Reads, place_of, AnyRule, of_grammar, Fails, bad_token, bad_form}
-use Rattle.st_grammar_laws.specs.Machine.{start, run}
+use Rattle.st_grammar_laws.specs.Machine.{start, machine_run}
 use Rattle.st_grammar_laws.specs.TreeOf.{TextFault, last_tokens, in_text, of_tokens, tree_of}
 use Rattle.st_lexer.proofs.Function.{gives_tokens, gives_fault}
 use Rattle.st_grammar_laws.proofs.Complete.{complete}
@@ -20,7 +20,7 @@ lexed : (text : Bytes) (ts : List Token) → Lexes 0 text ts → tokens_of text 
 unfolding tokens_of
 lexed text ts lexes = gives_tokens lexes
 
-stopped : (text : Bytes) (place : ℕ) (r : tokens.Rule) → Stops 0 text place r → tokens_of text ≡ Err (record { place = place; rule = r })
+stopped : (text : Bytes) (place : ℕ) (r : tokens.TokenRule) → Stops 0 text place r → tokens_of text ≡ Err (record { place = place; rule = r })
 unfolding tokens_of
 stopped text place r stops = gives_fault stops
 
@@ -66,8 +66,8 @@ fault_fails supplies stands form text fault is = elim (some_answer_there supplie
 ]
 
 -- where the machine can't go on, the text fails
-pub stop_fails : Supplies → Stands → (form : Form) (text : Bytes) (seen left : List Token) (r : Rule) → Lexes 0 text (seen ++ left)
-    → run every (start form) (words_of text (seen ++ left)) ≡ Err (record { left = words_after (end_after 0 seen) text left; rule = r }) → Fails form text (place_of text left) (of_grammar r)
+pub stop_fails : Supplies → Stands → (form : Form) (text : Bytes) (seen left : List Token) (r : GrammarRule) → Lexes 0 text (seen ++ left)
+    → machine_run every (start form) (words_of text (seen ++ left)) ≡ Err (record { left = words_after (end_after 0 seen) text left; rule = r }) → Fails form text (place_of text left) (of_grammar r)
 unfolding tree_of
 stop_fails supplies stands form text seen left r lexes is =
     fault_fails supplies stands form text (record { place = place_of text left; rule = of_grammar r })

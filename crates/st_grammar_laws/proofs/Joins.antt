@@ -36,7 +36,7 @@ pub expressions_assoc : (es fs gs : Expressions) → append_expressions (append_
 expressions_assoc no_expressions fs gs = refl
 expressions_assoc (an_expression e es) fs gs = ap (an_expression e) (expressions_assoc es fs gs)
 
--- an expression behind assignments to more names
+-- an expression after assignments to more names
 abbrev pub before : List Bytes → Expression → Expression
 before names (expression others h ms cs) = expression (names ++ others) h ms cs
 

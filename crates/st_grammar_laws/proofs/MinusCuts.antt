@@ -7,6 +7,8 @@ use Rattle.std.proofs.lemmas.List.{take-append-le, drop-append-le}
 use Rattle.std.proofs.Math.Seq.{drop-drop}
 use Rattle.texts.specs.Bytes.{Bytes}
 use Rattle.texts.specs.NameBytes.{starts_name, is_name_byte}
+use Rattle.profile.specs.declared.integers.TheConstants.{INTEGER_LIMIT}
+use Rattle.profile.specs.declared.limits.TheConstants.{SYMBOL_LIMIT}
 use Rattle.st_grammar.specs.Tokens.{Kind, Piece, gap, token, bad, p2, p3, string, binary, symbol, keyword, identifier, number, Class, blank, comment, name, digit, quote, dollar, hash, operator, colon_mark, other, begins_with, later, comment_end, string_end, string_bytes, name_goes_on, keywords, is_keyword_end, is_operator, is_radix_digit, word, ends_number, number_before, number_in, number_after, number_at, value_of, are_digits, sized, symbol_name, quoted_symbol, binary_len, symbol_at, character_at, comment_to, string_to, colon_before, class_of, piece_in, piece}
 use Rattle.st_lexer.proofs.Sizes.{on_cond, Inside, inside}
 use Rattle.st_lexer.proofs.Cuts.{token_len}
@@ -65,7 +67,7 @@ ends_alike (c ∷ []) x y = refl
 ends_alike (c ∷ d ∷ g) x y = refl
 
 before_alike : (n value : ℕ) (g x y : Bytes) → number_before n value (g ++ 45 ∷ x) ≡ number_before n value (g ++ 45 ∷ y)
-before_alike n value g x y = ap (λ b. cond (b && nat_lt value (2 ^ 60)) (token number n) (bad p3)) (ends_alike g x y)
+before_alike n value g x y = ap (λ b. cond (b && nat_lt value INTEGER_LIMIT) (token number n) (bad p3)) (ends_alike g x y)
 
 abbrev read_in : (radix n d : ℕ) (digits after : Bytes) → Piece
 read_in radix n d digits after = cond (are_digits radix digits) (number_before (n + d) (value_of radix digits) after) (bad p3)
@@ -146,7 +148,7 @@ binary_alike (c ∷ g) x y = refl
 sized_len : (size m : ℕ) (k : Kind) (n : ℕ) → sized size m ≡ token k n → m ≡ n
 sized_len size m k n =
     let P : Piece → Type 0 = λ q. q ≡ token k n → m ≡ n in
-    on_cond P (nat_le size 1000) (token symbol m) (bad p3) (λ _ e. token_len symbol k m n e) (λ _ e. absurd (bad_none p3 k n e))
+    on_cond P (nat_le size SYMBOL_LIMIT) (token symbol m) (bad p3) (λ _ e. token_len symbol k m n e) (λ _ e. absurd (bad_none p3 k n e))
 
 quoted_piece : (o : Option ℕ) (f x y : Bytes) (k : Kind) (n : ℕ) → string_end false (f ++ 45 ∷ x) ≡ o → quoted_symbol (length (string_bytes false (f ++ 45 ∷ x))) o ≡ token k n → n ≤ suc (suc (length f))
     → quoted_symbol (length (string_bytes false (f ++ 45 ∷ y))) (string_end false (f ++ 45 ∷ y)) ≡ token k n

@@ -20,7 +20,7 @@ none_is_some t ts e = cc
 same_token : (t : Token) (k : Kind) (a b : ℕ) → k ≡ t.kind → a ≡ t.from → b ≡ t.to → record { kind = k; from = a; to = b } ≡ t
 same_token t k a b p q r = λ i. record { kind = p i; from = q i; to = r i }
 
--- a token behind others stands behind where these begin
+-- a token after others stands after where these begin
 begins_behind : (at stop : ℕ) (seen left : List Token) (t : Token) → SpansAscend at stop (seen ++ t ∷ left) → at ≤ t.from
 begins_behind at stop [] left t h = h.0
 begins_behind at stop (u ∷ us) left t h =

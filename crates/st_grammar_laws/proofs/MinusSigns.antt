@@ -1,18 +1,19 @@
--- The machine is behind a `-` that wants its number only where the last word is one.
+-- The machine is after a `-` that wants its number only where the last word is one.
 use Rattle.std.proofs.Common.{◌≡◌, refl, sym, subst, Bool, true, false, cond, not, ◌&&◌, true≢false, nat_lt, Some, List, [], ◌∷◌}
 use Rattle.std.proofs.lemmas.Slice.Eq.{bytes_eq-Decides}
 use Rattle.texts.specs.Bytes.{Bytes}
+use Rattle.profile.specs.declared.limits.TheConstants.{DEPTH_LIMIT}
 use Rattle.st_tree.specs.Trees.{sym as symbol_of, array, Constants, name, Expression, no_statements}
 use Rattle.st_grammar.specs.Tokens.{Kind, identifier, keyword, number, character, string, symbol, binary, bar, assign, colon, caret, semicolon, period, open_paren, close_paren, open_bracket, close_bracket, open_array}
-use Rattle.st_grammar.specs.Grammar.{Word, word, p7, p8, p9, Kept, passes, depth_limit, is_super, may_assign, may_declare, is_minus, is_sign, Next, any_message, goes_on, takes_unary, Form, chunk, method}
-use Rattle.st_grammar_laws.specs.Machine.{Body, top, in_block, Seat, in_body, in_paren, Wide, alone, keyword_part, Slot, outer, Nest, of_head, in_array, State, at_pattern, pattern_operator, pattern_keyword, pattern_more, header, in_temps, begin, ended, want, named, minus, have, after_semicolon, in_params, param_wanted, in_elements, element_minus, element_run, Verdict, goes, breaks, stuck, bare, one_more, has_messages, declared, depth_of, depth_nest, scopes_of, level_of, wide_of, held, next_in, seat_of, closed, keyword_at, period_at, round_at, close_block, square_at, have_step, super_takes, is_full, named_step, head_step, begin_step, ended_step, header_step, temps_step, params_step, param_step, cascade_step, close_array, elements_step, element_minus_step, element_run_step, minus_step, pattern_step, operator_step, keyword_step, more_step, step, start}
+use Rattle.st_grammar.specs.Grammar.{Word, word, p7, p8, p9, Kept, passes, is_super, may_assign, may_declare, is_minus, is_sign, Next, any_message, goes_on, takes_unary, Form, chunk, method}
+use Rattle.st_grammar_laws.specs.Machine.{Body, top, in_block, Seat, in_body, in_paren, Wide, alone, keyword_part, Slot, outer, Nest, of_head, in_array, State, at_pattern, pattern_operator, pattern_keyword, pattern_more, header, in_temps, begin, ended, want, named, minus, have, after_semicolon, in_params, param_wanted, in_elements, element_minus, element_run, Verdict, goes, breaks, stuck, bare, one_more, has_messages, declared, depth_of, depth_nest, scopes_of, level_of, wide_of, held, next_in, seat_of, closed, keyword_at, period_at, round_at, close_block, square_at, have_step, super_takes, is_full, named_step, head_step, begin_step, ended_step, header_step, temps_step, params_step, param_step, cascade_step, close_array, elements_step, element_minus_step, element_run_step, minus_step, pattern_step, operator_step, keyword_step, more_step, machine_step, start}
 use Rattle.st_grammar_laws.proofs.Paths.{Path, path_end, path_on}
 
 abbrev pub in_minus : State → Bool
 in_minus (minus k names) = true
 in_minus s = false
 
--- The verdict on a token of this kind and with these bytes goes behind a `-` only where the token is one.
+-- The verdict on a token of this kind and with these bytes goes after a `-` only where the token is one.
 abbrev Signed : Kind → Bytes → Verdict → Type 0
 Signed q z (goes s) = in_minus s ≡ true → is_sign q z ≡ true
 Signed q z (breaks r) = Unit {0}
@@ -25,7 +26,7 @@ either : (q : Kind) (z : Bytes) (b : Bool) (v w : Verdict) → Signed q z v → 
 either q z true v w h i = h
 either q z false v w h i = i
 
--- behind an expression
+-- after an expression
 keyword_off : (q : Kind) (z : Bytes) (w : Wide) (e : Expression) (next : Next) (x : Bytes) → Signed q z (keyword_at w e next x)
 keyword_off q z (alone o) e next x = either q z (goes_on next) _ stuck off tt
 keyword_off q z (keyword_part o role f selector es) e next x = off
@@ -75,9 +76,9 @@ head_signed kept k names character x = off
 head_signed kept k names string x = off
 head_signed kept k names symbol x = off
 head_signed kept k names binary x = minus_signed k names x (is_minus x) refl
-head_signed kept k names open_paren x = either open_paren x (passes kept p9 (nat_lt (depth_of k) depth_limit)) _ (breaks p9) off tt
-head_signed kept k names open_bracket x = either open_bracket x (passes kept p9 (nat_lt (depth_of k) depth_limit)) _ (breaks p9) off tt
-head_signed kept k names open_array x = either open_array x (passes kept p9 (nat_lt (depth_of k) depth_limit)) _ (breaks p9) off tt
+head_signed kept k names open_paren x = either open_paren x (passes kept p9 (nat_lt (depth_of k) DEPTH_LIMIT)) _ (breaks p9) off tt
+head_signed kept k names open_bracket x = either open_bracket x (passes kept p9 (nat_lt (depth_of k) DEPTH_LIMIT)) _ (breaks p9) off tt
+head_signed kept k names open_array x = either open_array x (passes kept p9 (nat_lt (depth_of k) DEPTH_LIMIT)) _ (breaks p9) off tt
 head_signed kept k names _ x = tt
 
 -- bodies
@@ -131,8 +132,8 @@ elements_off kept n cs symbol x = off
 elements_off kept n cs keyword x = off
 elements_off kept n cs binary x = either binary x (is_minus x) _ _ off off
 elements_off kept n cs bar x = off
-elements_off kept n cs open_paren x = either open_paren x (passes kept p9 (nat_lt (depth_nest n) depth_limit)) _ (breaks p9) off tt
-elements_off kept n cs open_array x = either open_array x (passes kept p9 (nat_lt (depth_nest n) depth_limit)) _ (breaks p9) off tt
+elements_off kept n cs open_paren x = either open_paren x (passes kept p9 (nat_lt (depth_nest n) DEPTH_LIMIT)) _ (breaks p9) off tt
+elements_off kept n cs open_array x = either open_array x (passes kept p9 (nat_lt (depth_nest n) DEPTH_LIMIT)) _ (breaks p9) off tt
 elements_off kept n cs close_paren x = array_off close_paren x n cs
 elements_off kept n cs _ x = tt
 
@@ -171,7 +172,7 @@ more_signed : (kept : Kept) (selector : Bytes) (ps : List Bytes) (kind : Kind) (
 more_signed kept selector ps keyword x = off
 more_signed kept selector ps kind x = header_signed kept (top (Some selector) ps [] no_statements) kind x
 
-signed : (kept : Kept) (s : State) (w : Word) → SignedWord w (step kept s w)
+signed : (kept : Kept) (s : State) (w : Word) → SignedWord w (machine_step kept s w)
 signed kept at_pattern (word kind x t) = pattern_off kind x
 signed kept (pattern_operator selector) (word kind x t) = operator_off kept selector kind x
 signed kept (pattern_keyword selector ps) (word kind x t) = keyword_param_off kept selector ps kind x
@@ -200,7 +201,7 @@ ends_in_sign [] = false
 ends_in_sign (w ∷ []) = sign w
 ends_in_sign (w ∷ v ∷ ws) = ends_in_sign (v ∷ ws)
 
-signed_step : (kept : Kept) (s s' : State) (w : Word) → step kept s w ≡ goes s' → in_minus s' ≡ true → sign w ≡ true
+signed_step : (kept : Kept) (s s' : State) (w : Word) → machine_step kept s w ≡ goes s' → in_minus s' ≡ true → sign w ≡ true
 signed_step kept s s' (word kind x t) e = subst (Signed kind x) e (signed kept s (word kind x t))
 
 pub path_signs : (kept : Kept) (s end : State) (w : Word) (ws : List Word) → Path kept s (w ∷ ws) end → in_minus end ≡ true → ends_in_sign (w ∷ ws) ≡ true

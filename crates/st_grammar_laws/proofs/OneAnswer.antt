@@ -4,9 +4,9 @@ use Rattle.texts.specs.Bytes.{Bytes}
 use Rattle.st_tree.specs.Trees.{Program}
 use Rattle.st_grammar.specs.Tokens as tokens
 use Rattle.st_grammar.specs.Tokens.{Token, Lexes, Stops, text_of, end_after}
-use Rattle.st_grammar.specs.Grammar.{Word, Rule, p4, p5, p6, p7, p8, p9, Kept, Form, words_after, words_of, ReadsProgram}
+use Rattle.st_grammar.specs.Grammar.{Word, GrammarRule, p4, p5, p6, p7, p8, p9, Kept, Form, words_after, words_of, ReadsProgram}
 use Rattle.st_grammar.specs.Fails.{every, but, Reads, Continues, Halts, AllowedBut, square, round, Breaks, FailsBehind, place_of, AnyRule, of_token, of_grammar, Fails, bad_token, bad_form}
-use Rattle.st_grammar_laws.specs.Machine.{State, goes, stuck, step, run, start, Fault}
+use Rattle.st_grammar_laws.specs.Machine.{State, goes, stuck, machine_step, machine_run, start, Fault}
 use Rattle.st_lexer.proofs.Once.{one_list, one_fault, not_both, some_answer}
 use Rattle.st_grammar_laws.proofs.Complete.{only_one, complete}
 use Rattle.st_grammar_laws.proofs.Sound.{sound}
@@ -17,16 +17,16 @@ use Rattle.st_grammar_laws.proofs.Exact.{Supplies, Stands, path_lax, path_seen, 
 
 -- where a text goes on, the machine does
 continues_goes : (kept : Kept) (form : Form) (text : Bytes) (seen : List Token) (t : Token) (u : State) → Path kept (start form) (words_of text seen) u → Continues kept form text (seen ++ t ∷ [])
-    → (v : State) × (step kept u (first_word (end_after 0 seen) text t) ≡ goes v)
+    → (v : State) × (machine_step kept u (first_word (end_after 0 seen) text t) ≡ goes v)
 continues_goes kept form text seen t u p c =
     let w : Word = first_word (end_after 0 seen) text t in
     let more : List Word = words_after (end_after 0 (seen ++ t ∷ [])) c.other c.more in
     let joined : words_of text (seen ++ t ∷ []) ++ more ≡ words_of text seen ++ w ∷ more = ap (λ ws. ws ++ more) (words_joined 0 text seen (t ∷ [])) ∙ append_assoc (words_of text seen) (w ∷ []) more in
-    let ok : run kept u (w ∷ more) ≡ Ok c.program = sym (run_path p (w ∷ more)) ∙ ap (run kept (start form)) (sym joined) ∙ continued_run c in
+    let ok : machine_run kept u (w ∷ more) ≡ Ok c.program = sym (run_path p (w ∷ more)) ∙ ap (machine_run kept (start form)) (sym joined) ∙ continued_run c in
     let on = first_goes kept u w more c.program ok in
     (on.0, on.1)
 
-stuck_refuses : (form : Form) (text : Bytes) (seen : List Token) (t : Token) (u : State) (p : Rule) → Path every (start form) (words_of text seen) u → step every u (first_word (end_after 0 seen) text t) ≡ stuck
+stuck_refuses : (form : Form) (text : Bytes) (seen : List Token) (t : Token) (u : State) (p : GrammarRule) → Path every (start form) (words_of text seen) u → machine_step every u (first_word (end_after 0 seen) text t) ≡ stuck
     → Continues (but p) form text (seen ++ t ∷ []) → ⊥
 stuck_refuses form text seen t u p path e c = refuses (but p) form text seen t {ws = []} (path_lax (but p) path) (at_stuck (always_stuck (but p) u (first_word (end_after 0 seen) text t) e) refl) c
 
@@ -34,7 +34,7 @@ not_square_and_round : Some square ≡ Some round → ⊥
 not_square_and_round e = cc
 
 -- the rule that alone forbids a token is the machine's
-allowed_is : (form : Form) (text : Bytes) (seen left : List Token) (u : State) (p q : Rule) → MayBeLeft p → AllowedBut p form text seen left → Path every (start form) (words_of text seen) u
+allowed_is : (form : Form) (text : Bytes) (seen left : List Token) (u : State) (p q : GrammarRule) → MayBeLeft p → AllowedBut p form text seen left → Path every (start form) (words_of text seen) u
     → Halted every u (words_after (end_after 0 seen) text left) q → p ≡ q
 allowed_is form text seen [] u p q may c path h = absurd c
 allowed_is form text seen (t ∷ left) u p q may c path (at_broken e) =
@@ -43,12 +43,12 @@ allowed_is form text seen (t ∷ left) u p q may c path (at_broken e) =
 allowed_is form text seen (t ∷ left) u p q may c path (at_stuck e is) = absurd (stuck_refuses form text seen t u p path e c)
 
 -- Of the rules that can't be left, only one is broken.
-data Stays : Rule → Type 0 where
+data Stays : GrammarRule → Type 0 where
   p4_stays : Stays p4
   p5_stays : Stays p5
   p6_stays : Stays p6
 
-apart : (form : Form) (text : Bytes) (seen left : List Token) (r q : Rule) → Stays r → Breaks r form text seen left → Breaks q form text seen left → r ≡ q
+apart : (form : Form) (text : Bytes) (seen left : List Token) (r q : GrammarRule) → Stays r → Breaks r form text seen left → Breaks q form text seen left → r ≡ q
 apart form text seen left p4 p4 p4_stays a b = refl
 apart form text seen left p4 p5 p4_stays a b = absurd (a.1 b.1)
 apart form text seen left p4 p6 p4_stays a b = absurd (a.2 b.1)
@@ -71,7 +71,7 @@ apart form text seen left p7 q stays a b = elim stays [ ]
 apart form text seen left p8 q stays a b = elim stays [ ]
 apart form text seen left p9 q stays a b = elim stays [ ]
 
-rule_is : Supplies → Stands → (form : Form) (text : Bytes) (seen left : List Token) (u : State) (r q : Rule) → Lexes 0 text (seen ++ left) → Breaks r form text seen left → Path every (start form) (words_of text seen) u
+rule_is : Supplies → Stands → (form : Form) (text : Bytes) (seen left : List Token) (u : State) (r q : GrammarRule) → Lexes 0 text (seen ++ left) → Breaks r form text seen left → Path every (start form) (words_of text seen) u
     → Halted every u (words_after (end_after 0 seen) text left) q → r ≡ q
 rule_is supplies stands form text seen left u p4 q lexes b p h = apart form text seen left p4 q p4_stays b (breaks_there supplies stands form text seen left u q lexes p h)
 rule_is supplies stands form text seen left u p5 q lexes b p h = apart form text seen left p5 q p5_stays b (breaks_there supplies stands form text seen left u q lexes p h)
@@ -82,7 +82,7 @@ rule_is supplies stands form text seen left u p9 q lexes b p h = allowed_is form
 
 -- Where a text fails, the machine halts.
 goes_no_further : Supplies → (form : Form) (text : Bytes) (seen : List Token) (t : Token) (left : List Token) (u v : State) → Lexes 0 text (seen ++ t ∷ left) → Path every (start form) (words_of text seen) u
-    → Halts form text seen (t ∷ left) → step every u (first_word (end_after 0 seen) text t) ≡ goes v → ⊥
+    → Halts form text seen (t ∷ left) → machine_step every u (first_word (end_after 0 seen) text t) ≡ goes v → ⊥
 goes_no_further supplies form text seen t left u v lexes p stop e = stop (supplies every form text (seen ++ t ∷ []) left v (subst (Lexes 0 text) (sym (append_assoc seen (t ∷ []) left)) lexes) (path_seen text seen t p e))
 
 same_first : (t s : Token) (ts ss : List Token) → t ∷ ts ≡ s ∷ ss → t ≡ s
@@ -95,28 +95,28 @@ none_is_some : (t : Token) (ts : List Token) → [] ≡ t ∷ ts → ⊥
 none_is_some t ts e = cc
 
 halted_by : Supplies → (form : Form) (text : Bytes) (seen left : List Token) (u : State) → Lexes 0 text (seen ++ left) → Path every (start form) (words_of text seen) u → Halts form text seen left → Outcome every text u (end_after 0 seen) left
-    → (q : Rule) × Halted every u (words_after (end_after 0 seen) text left) q
+    → (q : GrammarRule) × Halted every u (words_after (end_after 0 seen) text left) q
 halted_by supplies form text seen [] u lexes p stop (reaches program path_end f) = absurd (stop program (sound every form (words_of text seen) program (run_reaches program p f)))
 halted_by supplies form text seen (t ∷ left) u lexes p stop (reaches program (path_on {u = v} e rest) f) = absurd (goes_no_further supplies form text seen t left u v lexes p stop e)
 halted_by supplies form text seen left u lexes p stop (halts {r = q} [] back same path_end h) = (q, subst (λ ts. Halted every u (words_after (end_after 0 seen) text ts) q) (sym same) h)
 halted_by supplies form text seen [] u lexes p stop (halts (s ∷ front) back same path h) = absurd (none_is_some s (front ++ back) same)
 halted_by supplies form text seen (t ∷ left) u lexes p stop (halts (s ∷ front) back same (path_on {u = v} e rest) h) =
-    absurd (goes_no_further supplies form text seen t left u v lexes p stop (subst (λ s. step every u (first_word (end_after 0 seen) text s) ≡ goes v) (sym (same_first t s left (front ++ back) same)) e))
+    absurd (goes_no_further supplies form text seen t left u v lexes p stop (subst (λ s. machine_step every u (first_word (end_after 0 seen) text s) ≡ goes v) (sym (same_first t s left (front ++ back) same)) e))
 
-pub record HaltsSo (form : Form) (text : Bytes) (seen left : List Token) (r : Rule) : Type 0 where
+pub record HaltsSo (form : Form) (text : Bytes) (seen left : List Token) (r : GrammarRule) : Type 0 where
   pub state : State
   pub path : Path every (start form) (words_of text seen) state
   pub halted : Halted every state (words_after (end_after 0 seen) text left) r
 
-pub halts_so : Supplies → Stands → (form : Form) (text : Bytes) (seen left : List Token) (r : Rule) → Lexes 0 text (seen ++ left) → FailsBehind form text seen left r → HaltsSo form text seen left r
+pub halts_so : Supplies → Stands → (form : Form) (text : Bytes) (seen left : List Token) (r : GrammarRule) → Lexes 0 text (seen ++ left) → FailsBehind form text seen left r → HaltsSo form text seen left r
 halts_so supplies stands form text seen left r lexes f =
     let on = path_of_run every (start form) (words_of text seen) (words_after (end_after 0 seen) f.continues.other f.continues.more) f.continues.program (continued_run f.continues) in
     let h = halted_by supplies form text seen left on.0 lexes on.1 f.halts (outcome every text on.0 (end_after 0 seen) left) in
     let is : r ≡ h.0 = rule_is supplies stands form text seen left on.0 r h.0 lexes f.breaks on.1 h.1 in
     record { state = on.0; path = on.1; halted = subst (λ q. Halted every on.0 (words_after (end_after 0 seen) text left) q) (sym is) h.1 }
 
-pub run_so : {form : Form} {text : Bytes} {seen left : List Token} {r : Rule} → HaltsSo form text seen left r → run every (start form) (words_of text (seen ++ left)) ≡ Err (fault (words_after (end_after 0 seen) text left) r)
-run_so {form} {text} {seen} {left} h = ap (run every (start form)) (words_joined 0 text seen left) ∙ run_path h.path (words_after (end_after 0 seen) text left) ∙ run_halted h.halted
+pub run_so : {form : Form} {text : Bytes} {seen left : List Token} {r : GrammarRule} → HaltsSo form text seen left r → machine_run every (start form) (words_of text (seen ++ left)) ≡ Err (fault (words_after (end_after 0 seen) text left) r)
+run_so {form} {text} {seen} {left} h = ap (machine_run every (start form)) (words_joined 0 text seen left) ∙ run_path h.path (words_after (end_after 0 seen) text left) ∙ run_halted h.halted
 
 -- one place
 pub many_words : (at : ℕ) (text : Bytes) (ts : List Token) → length (words_after at text ts) ≡ length ts
@@ -135,12 +135,12 @@ same_fault answer f g a b = cc
 pub not_ok : (answer : Result Program Fault) (program : Program) (f : Fault) → answer ≡ Ok program → answer ≡ Err f → ⊥
 not_ok answer program f a b = cc
 
-one_halt : (form : Form) (text : Bytes) (seen left front back : List Token) (r q : Rule) → seen ++ left ≡ front ++ back → HaltsSo form text seen left r → HaltsSo form text front back q → (left ≡ back) × (r ≡ q)
+one_halt : (form : Form) (text : Bytes) (seen left front back : List Token) (r q : GrammarRule) → seen ++ left ≡ front ++ back → HaltsSo form text seen left r → HaltsSo form text front back q → (left ≡ back) × (r ≡ q)
 one_halt form text seen left front back r q same h k =
     let f : Fault = fault (words_after (end_after 0 seen) text left) r in
     let g : Fault = fault (words_after (end_after 0 front) text back) q in
-    let there : run every (start form) (words_of text (seen ++ left)) ≡ Err g = ap (λ ts. run every (start form) (words_of text ts)) same ∙ run_so k in
-    let is : f ≡ g = same_fault (run every (start form) (words_of text (seen ++ left))) f g (run_so h) there in
+    let there : machine_run every (start form) (words_of text (seen ++ left)) ≡ Err g = ap (λ ts. machine_run every (start form) (words_of text ts)) same ∙ run_so k in
+    let is : f ≡ g = same_fault (machine_run every (start form) (words_of text (seen ++ left))) f g (run_so h) there in
     let long : length left ≡ length back = sym (many_words (end_after 0 seen) text left) ∙ ap (λ f. length f.left) is ∙ many_words (end_after 0 front) text back in
     (same_back seen left front back same long, ap (λ f. f.rule) is)
 
@@ -148,7 +148,7 @@ one_halt form text seen left front back r q same h k =
 pub one_tree : (form : Form) (text : Bytes) (a b : Program) → Reads form text a → Reads form text b → a ≡ b
 one_tree form text a b r s = only_one r.2 (subst (λ ts. ReadsProgram every form b (words_of text ts)) (sym (one_list r.1 s.1)) s.2)
 
-same_of_token : (r q : tokens.Rule) → r ≡ q → of_token r ≡ of_token q
+same_of_token : (r q : tokens.TokenRule) → r ≡ q → of_token r ≡ of_token q
 same_of_token r q e = ap of_token e
 
 pub one_place : Supplies → Stands → (form : Form) (text : Bytes) (place other : ℕ) (r q : AnyRule) → Fails form text place r → Fails form text other q → (place ≡ other) × (r ≡ q)
@@ -163,8 +163,8 @@ pub never_both : Supplies → Stands → (form : Form) (text : Bytes) (program :
 never_both supplies stands form text program place r reads (bad_token a) = not_both reads.1 a
 never_both supplies stands form text program place r reads (bad_form {seen = seen} {left = left} {r = p} lexes f) =
     let h = halts_so supplies stands form text seen left p lexes f in
-    let ok : run every (start form) (words_of text (seen ++ left)) ≡ Ok program = ap (λ ts. run every (start form) (words_of text ts)) (one_list lexes reads.1) ∙ complete reads.2 in
-    not_ok (run every (start form) (words_of text (seen ++ left))) program (fault (words_after (end_after 0 seen) text left) p) ok (run_so h)
+    let ok : machine_run every (start form) (words_of text (seen ++ left)) ≡ Ok program = ap (λ ts. machine_run every (start form) (words_of text ts)) (one_list lexes reads.1) ∙ complete reads.2 in
+    not_ok (machine_run every (start form) (words_of text (seen ++ left))) program (fault (words_after (end_after 0 seen) text left) p) ok (run_so h)
 
 abbrev pub Answer : Form → Bytes → Type 0
 Answer form text = ((program : Program) × Reads form text program) ⊎ ((place : ℕ) × (rule : AnyRule) × Fails form text place rule)

@@ -3,9 +3,9 @@ use Rattle.std.proofs.Common.{◌≡◌, ℕ, Bool, true, false, cond, Some, Lis
 use Rattle.texts.specs.Bytes.{Bytes}
 use Rattle.st_tree.specs.Trees.{Expression, Statement, Constants, no_statements, name, sym as sym_constant}
 use Rattle.st_grammar.specs.Tokens.{Kind, identifier, keyword, number, character, string, symbol, binary, bar, assign, colon, caret, semicolon, period, open_paren, close_paren, open_bracket, close_bracket, open_array, Token}
-use Rattle.st_grammar.specs.Grammar.{word, Rule, Kept, passes, is_minus, Next, any_message, takes_unary, goes_on, words_after, Form, chunk, method}
+use Rattle.st_grammar.specs.Grammar.{word, GrammarRule, Kept, passes, is_minus, Next, any_message, takes_unary, goes_on, words_after, Form, chunk, method}
 use Rattle.st_grammar.specs.Fails.{Bracket, square, round, open_behind, open_after, first_of, innermost}
-use Rattle.st_grammar_laws.specs.Machine.{Body, top, in_block, Seat, in_body, in_paren, Wide, alone, keyword_part, Slot, outer, binary_part, Nest, of_head, in_array, State, at_pattern, pattern_operator, pattern_keyword, pattern_more, header, in_temps, begin, ended, want, named, minus, have, after_semicolon, in_params, param_wanted, in_elements, element_minus, element_run, Verdict, goes, breaks, stuck, check, bare, one_more, has_messages, with_statement, with_temp, wide_of, seat_of, held, next_in, closed, keyword_at, period_at, round_at, square_at, close_block, have_step, named_step, head_step, begin_step, header_step, params_step, close_array, elements_step, more_step, level_of, is_full, step, bracket, bracket_body, bracket_seat, start}
+use Rattle.st_grammar_laws.specs.Machine.{Body, top, in_block, Seat, in_body, in_paren, Wide, alone, keyword_part, Slot, outer, binary_part, Nest, of_head, in_array, State, at_pattern, pattern_operator, pattern_keyword, pattern_more, header, in_temps, begin, ended, want, named, minus, have, after_semicolon, in_params, param_wanted, in_elements, element_minus, element_run, Verdict, goes, breaks, stuck, check, bare, one_more, has_messages, with_statement, with_temp, wide_of, seat_of, held, next_in, closed, keyword_at, period_at, round_at, square_at, close_block, have_step, named_step, head_step, begin_step, header_step, params_step, close_array, elements_step, more_step, level_of, is_full, machine_step, bracket, bracket_body, bracket_seat, start}
 use Rattle.st_grammar_laws.proofs.Paths.{Path, path_end, path_on}
 
 -- the brackets that stand open around a place, the innermost first
@@ -78,7 +78,7 @@ if_leaves : (bs : List Bracket) (v : Bool) (a b : Verdict) → Leaves bs a → L
 if_leaves bs true a b p q = p
 if_leaves bs false a b p q = q
 
-check_leaves : (kept : Kept) (r : Rule) (test : Bool) (u : State) (bs : List Bracket) → brackets u ≡ bs → Leaves bs (check kept r test u)
+check_leaves : (kept : Kept) (r : GrammarRule) (test : Bool) (u : State) (bs : List Bracket) → brackets u ≡ bs → Leaves bs (check kept r test u)
 check_leaves kept r test u bs e = if_leaves bs (passes kept r test) (goes u) (breaks r) e tt
 
 keyword_leaves : (w : Wide) (e : Expression) (next : Next) (x : Bytes) → Leaves (brackets_wide w) (keyword_at w e next x)
@@ -168,7 +168,7 @@ more_leaves : (kept : Kept) (selector : Bytes) (ps : List Bytes) (kind : Kind) (
 more_leaves kept selector ps keyword x = refl
 more_leaves kept selector ps kind x = header_leaves kept (top (Some selector) ps [] no_statements) kind x
 
-step_leaves : (kept : Kept) (s : State) (kind : Kind) (x : Bytes) (t : Bool) → Leaves (open_behind kind (brackets s)) (step kept s (word kind x t))
+step_leaves : (kept : Kept) (s : State) (kind : Kind) (x : Bytes) (t : Bool) → Leaves (open_behind kind (brackets s)) (machine_step kept s (word kind x t))
 step_leaves kept at_pattern identifier x t = refl
 step_leaves kept at_pattern binary x t = refl
 step_leaves kept at_pattern bar x t = refl

@@ -4,14 +4,14 @@ use Rattle.texts.specs.Bytes.{Bytes}
 use Rattle.st_tree.specs.Trees.{int, sym, nothing, array, no_constants, a_constant, name, constant, block, closure, Expression, expression, send, statement, Statements, no_statements, a_statement, no_sends, a_send, no_expressions, an_expression, Program}
 use Rattle.st_grammar.specs.Tokens.{p2}
 use Rattle.st_grammar.specs.Lexed.{tokens_of}
-use Rattle.st_grammar.specs.Grammar.{Rule, p4, p5, p6, p7, p8, p9, chunk, method}
+use Rattle.st_grammar.specs.Grammar.{GrammarRule, p4, p5, p6, p7, p8, p9, chunk, method}
 use Rattle.st_grammar.specs.Fails.{of_token, of_grammar}
 use Rattle.st_grammar_laws.specs.TreeOf.{TextFault, tree_of}
 
 abbrev tree : Program → Result Program TextFault
 tree program = Ok program
 
-abbrev fault : (place : ℕ) → Rule → Result Program TextFault
+abbrev fault : (place : ℕ) → GrammarRule → Result Program TextFault
 fault place rule = Err (record { place = place; rule = of_grammar rule })
 
 abbrev number_tree : ℕ → Expression

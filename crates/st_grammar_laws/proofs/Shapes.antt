@@ -3,12 +3,12 @@ use Rattle.std.proofs.Common.{◌≡◌, Bool, true, false, cond, ◌&&◌, not,
 use Rattle.texts.specs.Bytes.{Bytes}
 use Rattle.st_tree.specs.Trees.{Expression, Constants, no_statements, name, sym as sym_constant}
 use Rattle.st_grammar.specs.Tokens.{Kind, identifier, keyword, number, character, string, symbol, binary, bar, assign, colon, caret, semicolon, period, open_paren, close_paren, open_bracket, close_bracket, open_array}
-use Rattle.st_grammar.specs.Grammar.{Word, word, Rule, p7, p8, p9, Kept, is_super, is_minus, Next, any_message, takes_unary, goes_on}
+use Rattle.st_grammar.specs.Grammar.{Word, word, GrammarRule, p7, p8, p9, Kept, is_super, is_minus, Next, any_message, takes_unary, goes_on}
 use Rattle.st_grammar.specs.Fails.{every, but}
-use Rattle.st_grammar_laws.specs.Machine.{Body, top, in_block, Seat, in_body, in_paren, Wide, alone, keyword_part, Slot, outer, Nest, State, at_pattern, pattern_operator, pattern_keyword, pattern_more, header, in_temps, begin, ended, want, named, minus, have, after_semicolon, in_params, param_wanted, in_elements, element_minus, element_run, Verdict, goes, breaks, stuck, check, bare, one_more, has_messages, with_statement, wide_of, seat_of, held, next_in, closed, keyword_at, period_at, round_at, square_at, close_block, have_step, named_step, head_step, begin_step, header_step, params_step, elements_step, more_step, level_of, super_takes, is_full, step}
+use Rattle.st_grammar_laws.specs.Machine.{Body, top, in_block, Seat, in_body, in_paren, Wide, alone, keyword_part, Slot, outer, Nest, State, at_pattern, pattern_operator, pattern_keyword, pattern_more, header, in_temps, begin, ended, want, named, minus, have, after_semicolon, in_params, param_wanted, in_elements, element_minus, element_run, Verdict, goes, breaks, stuck, check, bare, one_more, has_messages, with_statement, wide_of, seat_of, held, next_in, closed, keyword_at, period_at, round_at, square_at, close_block, have_step, named_step, head_step, begin_step, header_step, params_step, elements_step, more_step, level_of, super_takes, is_full, machine_step}
 
 -- the rules that a text may be let off
-pub data MayBeLeft : Rule → Type 0 where
+pub data MayBeLeft : GrammarRule → Type 0 where
   p7_may : MayBeLeft p7
   p8_may : MayBeLeft p8
   p9_may : MayBeLeft p9
@@ -17,7 +17,7 @@ pub data MayBeLeft : Rule → Type 0 where
 pub data Shape (f : Kept → Verdict) : Type 0 where
   goes_always : (u : State) → ((kept : Kept) → f kept ≡ goes u) → Shape f
   stuck_always : ((kept : Kept) → f kept ≡ stuck) → Shape f
-  checks : (r : Rule) → MayBeLeft r → (test : Bool) (u : State) → ((kept : Kept) → f kept ≡ check kept r test u) → Shape f
+  checks : (r : GrammarRule) → MayBeLeft r → (test : Bool) (u : State) → ((kept : Kept) → f kept ≡ check kept r test u) → Shape f
 
 goes_shape : (u : State) → Shape (λ kept. goes u)
 goes_shape u = goes_always u (λ kept. refl)
@@ -25,7 +25,7 @@ goes_shape u = goes_always u (λ kept. refl)
 stuck_shape : Shape (λ kept. stuck)
 stuck_shape = stuck_always (λ kept. refl)
 
-check_shape : (r : Rule) → MayBeLeft r → (test : Bool) (u : State) → Shape (λ kept. check kept r test u)
+check_shape : (r : GrammarRule) → MayBeLeft r → (test : Bool) (u : State) → Shape (λ kept. check kept r test u)
 check_shape r may test u = checks r may test u (λ kept. refl)
 
 if_shape : (v : Bool) (f g : Kept → Verdict) → Shape f → Shape g → Shape (λ kept. cond v (f kept) (g kept))
@@ -114,7 +114,7 @@ more_shape : (selector : Bytes) (ps : List Bytes) (kind : Kind) (x : Bytes) → 
 more_shape selector ps keyword x = goes_shape _
 more_shape selector ps kind x = header_shape (top (Some selector) ps [] no_statements) kind x
 
-pub shape : (s : State) (kind : Kind) (x : Bytes) (t : Bool) → Shape (λ kept. step kept s (word kind x t))
+pub shape : (s : State) (kind : Kind) (x : Bytes) (t : Bool) → Shape (λ kept. machine_step kept s (word kind x t))
 shape at_pattern identifier x t = goes_shape _
 shape at_pattern binary x t = goes_shape _
 shape at_pattern bar x t = goes_shape _
@@ -158,20 +158,20 @@ shape (element_run n cs run) kind x t = elements_shape n (one_more cs (sym_const
 goes_is_not_stuck : (u : State) → goes u ≡ stuck → ⊥
 goes_is_not_stuck u e = cc
 
-goes_does_not_break : (u : State) (r : Rule) → goes u ≡ breaks r → ⊥
+goes_does_not_break : (u : State) (r : GrammarRule) → goes u ≡ breaks r → ⊥
 goes_does_not_break u r e = cc
 
-stuck_does_not_break : (r : Rule) → stuck ≡ breaks r → ⊥
+stuck_does_not_break : (r : GrammarRule) → stuck ≡ breaks r → ⊥
 stuck_does_not_break r e = cc
 
-same_broken : (q r : Rule) → breaks q ≡ breaks r → q ≡ r
+same_broken : (q r : GrammarRule) → breaks q ≡ breaks r → q ≡ r
 same_broken q r e = cc
 
-passed : (kept : Bool) (r : Rule) (v : State) → cond (cond kept true true) (goes v) (breaks r) ≡ goes v
+passed : (kept : Bool) (r : GrammarRule) (v : State) → cond (cond kept true true) (goes v) (breaks r) ≡ goes v
 passed true r v = refl
 passed false r v = refl
 
-check_lax : (kept : Kept) (r : Rule) (test : Bool) (v u : State) → check every r test v ≡ goes u → check kept r test v ≡ goes u
+check_lax : (kept : Kept) (r : GrammarRule) (test : Bool) (v u : State) → check every r test v ≡ goes u → check kept r test v ≡ goes u
 check_lax kept r true v u h = passed (kept r) r v ∙ h
 check_lax kept r false v u h = absurd (goes_does_not_break u r (sym h))
 
@@ -180,7 +180,7 @@ lax_by (goes_always v e) kept u h = e kept ∙ sym (e every) ∙ h
 lax_by (stuck_always e) kept u h = absurd (goes_is_not_stuck u (sym h ∙ e every))
 lax_by (checks r may test v e) kept u h = e kept ∙ check_lax kept r test v u (sym (e every) ∙ h)
 
-check_not_stuck : (r : Rule) (test : Bool) (v : State) → check every r test v ≡ stuck → ⊥
+check_not_stuck : (r : GrammarRule) (test : Bool) (v : State) → check every r test v ≡ stuck → ⊥
 check_not_stuck r true v h = goes_is_not_stuck v h
 check_not_stuck r false v h = stuck_does_not_break r (sym h)
 
@@ -190,27 +190,27 @@ stuck_by (stuck_always e) kept h = e kept
 stuck_by (checks r may test v e) kept h = absurd (check_not_stuck r test v (sym (e every) ∙ h))
 
 -- the rule that a token breaks is one that may be left, and without it the token can come
-pub record Excused (f : Kept → Verdict) (r : Rule) : Type 0 where
+pub record Excused (f : Kept → Verdict) (r : GrammarRule) : Type 0 where
   pub may : MayBeLeft r
   pub next : State
   pub goes_there : f (but r) ≡ goes next
 
-left_off : (r : Rule) (v : State) → MayBeLeft r → check (but r) r false v ≡ goes v
+left_off : (r : GrammarRule) (v : State) → MayBeLeft r → check (but r) r false v ≡ goes v
 left_off r v p7_may = refl
 left_off r v p8_may = refl
 left_off r v p9_may = refl
 
-check_excused : (q r : Rule) (test : Bool) (v : State) → MayBeLeft q → check every q test v ≡ breaks r → Excused (λ kept. check kept q test v) r
+check_excused : (q r : GrammarRule) (test : Bool) (v : State) → MayBeLeft q → check every q test v ≡ breaks r → Excused (λ kept. check kept q test v) r
 check_excused q r true v may h = absurd (goes_does_not_break v r h)
 check_excused q r false v may h = subst (λ r. Excused (λ kept. check kept q false v) r) (same_broken q r h) (record { may = may; next = v; goes_there = left_off q v may })
 
-excused_by : {f : Kept → Verdict} {r : Rule} → Shape f → f every ≡ breaks r → Excused f r
+excused_by : {f : Kept → Verdict} {r : GrammarRule} → Shape f → f every ≡ breaks r → Excused f r
 excused_by {r = r} (goes_always v e) h = absurd (goes_does_not_break v r (sym (e every) ∙ h))
 excused_by {r = r} (stuck_always e) h = absurd (stuck_does_not_break r (sym (e every) ∙ h))
 excused_by {r = r} (checks q may test v e) h = let x = check_excused q r test v may (sym (e every) ∙ h) in record { may = x.may; next = x.next; goes_there = e (but r) ∙ x.goes_there }
 
 -- only without that rule it can come
-check_only : (p q : Rule) (v u : State) → MayBeLeft p → MayBeLeft q → check (but p) q false v ≡ goes u → p ≡ q
+check_only : (p q : GrammarRule) (v u : State) → MayBeLeft p → MayBeLeft q → check (but p) q false v ≡ goes u → p ≡ q
 check_only p q v u p7_may p7_may h = refl
 check_only p q v u p7_may p8_may h = absurd (goes_does_not_break u _ (sym h))
 check_only p q v u p7_may p9_may h = absurd (goes_does_not_break u _ (sym h))
@@ -221,23 +221,23 @@ check_only p q v u p9_may p7_may h = absurd (goes_does_not_break u _ (sym h))
 check_only p q v u p9_may p8_may h = absurd (goes_does_not_break u _ (sym h))
 check_only p q v u p9_may p9_may h = refl
 
-check_only_excused : (p q r : Rule) (test : Bool) (v u : State) → MayBeLeft p → MayBeLeft q → check every q test v ≡ breaks r → check (but p) q test v ≡ goes u → p ≡ r
+check_only_excused : (p q r : GrammarRule) (test : Bool) (v u : State) → MayBeLeft p → MayBeLeft q → check every q test v ≡ breaks r → check (but p) q test v ≡ goes u → p ≡ r
 check_only_excused p q r true v u may there h g = absurd (goes_does_not_break v r h)
 check_only_excused p q r false v u may there h g = check_only p q v u may there g ∙ same_broken q r h
 
-only_excused_by : {f : Kept → Verdict} {r : Rule} (p : Rule) (u : State) → MayBeLeft p → Shape f → f every ≡ breaks r → f (but p) ≡ goes u → p ≡ r
+only_excused_by : {f : Kept → Verdict} {r : GrammarRule} (p : GrammarRule) (u : State) → MayBeLeft p → Shape f → f every ≡ breaks r → f (but p) ≡ goes u → p ≡ r
 only_excused_by {r = r} p u may (goes_always v e) h g = absurd (goes_does_not_break v r (sym (e every) ∙ h))
 only_excused_by {r = r} p u may (stuck_always e) h g = absurd (stuck_does_not_break r (sym (e every) ∙ h))
 only_excused_by {r = r} p u may (checks q there test v e) h g = check_only_excused p q r test v u may there (sym (e every) ∙ h) (sym (e (but p)) ∙ g)
 
-pub lax : (kept : Kept) (s u : State) (w : Word) → step every s w ≡ goes u → step kept s w ≡ goes u
+pub lax : (kept : Kept) (s u : State) (w : Word) → machine_step every s w ≡ goes u → machine_step kept s w ≡ goes u
 lax kept s u (word kind x t) h = lax_by (shape s kind x t) kept u h
 
-pub always_stuck : (kept : Kept) (s : State) (w : Word) → step every s w ≡ stuck → step kept s w ≡ stuck
+pub always_stuck : (kept : Kept) (s : State) (w : Word) → machine_step every s w ≡ stuck → machine_step kept s w ≡ stuck
 always_stuck kept s (word kind x t) h = stuck_by (shape s kind x t) kept h
 
-pub excused : (s : State) (w : Word) (r : Rule) → step every s w ≡ breaks r → Excused (λ kept. step kept s w) r
+pub excused : (s : State) (w : Word) (r : GrammarRule) → machine_step every s w ≡ breaks r → Excused (λ kept. machine_step kept s w) r
 excused s (word kind x t) r h = excused_by (shape s kind x t) h
 
-pub only_excused : (s u : State) (w : Word) (p r : Rule) → MayBeLeft p → step every s w ≡ breaks r → step (but p) s w ≡ goes u → p ≡ r
+pub only_excused : (s u : State) (w : Word) (p r : GrammarRule) → MayBeLeft p → machine_step every s w ≡ breaks r → machine_step (but p) s w ≡ goes u → p ≡ r
 only_excused s u (word kind x t) p r may h g = only_excused_by p u may (shape s kind x t) h g

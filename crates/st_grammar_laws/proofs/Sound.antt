@@ -1,10 +1,11 @@
 -- What the machine reads is of the grammar, with the tree that the machine builds.
 use Rattle.std.proofs.Common.{◌≡◌, refl, sym, ap, ap₂, ◌∙◌, subst, subst₂, nat_lt, Bool, true, false, cond, not, ◌&&◌, true≢false, Some, None, Result, Ok, Err, List, [], ◌∷◌, ◌++◌, append_assoc, append-nil}
 use Rattle.texts.specs.Bytes.{Bytes}
+use Rattle.profile.specs.declared.limits.TheConstants.{DEPTH_LIMIT}
 use Rattle.st_tree.specs.Trees.{sym as symbol_of, array, Constants, no_constants, name, Expression, Send, send, Sends, no_sends, a_send, no_expressions, statement, no_statements, a_statement, Program}
 use Rattle.st_grammar.specs.Tokens.{Kind, identifier, keyword, number, character, string, symbol, binary, bar, colon, caret, open_paren, close_paren, close_bracket, open_array}
-use Rattle.st_grammar.specs.Grammar.{Word, word, Rule, p7, p9, Kept, passes, depth_limit, is_super, may_declare, IsSelector, binary_is, bar_is, is_minus, Level, Sort, unary_sort, binary_sort, keyword_sort, holds, no_message, may_come, needs_no_message, starts_with_joined_number, run_end, run_on, a_number, a_negative_number, a_character, a_string, a_symbol, an_array, a_literal_element, a_name_element, a_keyword_element, a_selector_element, a_nested_array, no_elements, no_params, a_param, no_bar, a_bar, bar_left_out, temps_end, a_temp, a_name, sends_end, sends_on, a_unary, a_binary, a_keyword, a_plain, a_return, statements_end, statements_on, rest_end, pattern_end, pattern_on, a_unary_pattern, a_binary_pattern, a_keyword_pattern, Form, chunk, method, ReadsProgram}
-use Rattle.st_grammar_laws.specs.Machine.{as_cascade, Body, top, in_block, Seat, in_body, in_paren, alone, keyword_part, Slot, outer, binary_part, Nest, of_head, in_array, State, at_pattern, pattern_operator, pattern_keyword, pattern_more, header, in_temps, begin, ended, want, named, minus, have, after_semicolon, in_params, param_wanted, in_elements, element_minus, element_run, Verdict, goes, breaks, stuck, bare, added, one_more, unary, close_array, with_temp, declared, depth_nest, seat_of, closed, close_block, program_of, last_at, begin_step, ended_step, header_step, temps_step, params_step, param_step, cascade_step, elements_step, element_minus_step, element_run_step, pattern_step, operator_step, keyword_step, more_step, step, last, blame, Fault, go, finish, run, start}
+use Rattle.st_grammar.specs.Grammar.{Word, word, GrammarRule, p7, p9, Kept, passes, is_super, may_declare, IsSelector, binary_is, bar_is, is_minus, Level, Sort, unary_sort, binary_sort, keyword_sort, holds, no_message, may_come, needs_no_message, starts_with_joined_number, run_end, run_on, a_number, a_negative_number, a_character, a_string, a_symbol, an_array, a_literal_element, a_name_element, a_keyword_element, a_selector_element, a_nested_array, no_elements, no_params, a_param, no_bar, a_bar, bar_left_out, temps_end, a_temp, a_name, sends_end, sends_on, a_unary, a_binary, a_keyword, a_plain, a_return, statements_end, statements_on, rest_end, pattern_end, pattern_on, a_unary_pattern, a_binary_pattern, a_keyword_pattern, Form, chunk, method, ReadsProgram}
+use Rattle.st_grammar_laws.specs.Machine.{as_cascade, Body, top, in_block, Seat, in_body, in_paren, alone, keyword_part, Slot, outer, binary_part, Nest, of_head, in_array, State, at_pattern, pattern_operator, pattern_keyword, pattern_more, header, in_temps, begin, ended, want, named, minus, have, after_semicolon, in_params, param_wanted, in_elements, element_minus, element_run, Verdict, goes, breaks, stuck, bare, added, one_more, unary, close_array, with_temp, declared, depth_nest, seat_of, closed, close_block, program_of, last_at, begin_step, ended_step, header_step, temps_step, params_step, param_step, cascade_step, elements_step, element_minus_step, element_run_step, pattern_step, operator_step, keyword_step, more_step, machine_step, last, blame, Fault, go, finish, machine_run, start}
 use Rattle.st_grammar_laws.proofs.SoundWants.{BodyEnds, text_ends, block_ends, SeatEnds, statement_ends, CascadeEnds, messages_end, keywords_end, wide_ends, argument_ends, SendsEnd, sends_then, WantEnds, SemicolonEnds, message_then, BeginEnds, statements_then, TempsEnd, temps_then, HeaderEnds, without_temps, behind_bar, ParamsEnd, params_then, ElementsEnd, elements_then, literal_ends, element_ends, RunEnds, run_then, PatternEnds, pattern_then, ParamEnds, param_then, Will, Wills}
 use Rattle.st_grammar_laws.proofs.SoundTrees.{no_more_statements, no_more_constants}
 use Rattle.st_grammar_laws.proofs.SoundParts.{ExpressionThen, expression_then, unassigned, head_wanted, chunk_read, method_read, element_first, no_more_messages}
@@ -104,12 +105,12 @@ run_first : {kept : Kept} {n : Nest} {cs : Constants} {x : Bytes} {t : Bool} {ws
 run_first {kept} {n} {cs} {program = program} (run_then {us = us} reads same ends) =
     element_first (a_keyword_element reads) (subst (λ (run : Bytes). ElementsEnd kept n (one_more cs (symbol_of run)) us program) (sym same) ends)
 
-nest_first : {kept : Kept} {n : Nest} {cs : Constants} {x : Bytes} {t : Bool} {ws : List Word} {program : Program} → passes kept p9 (nat_lt (depth_nest n) depth_limit) ≡ true
+nest_first : {kept : Kept} {n : Nest} {cs : Constants} {x : Bytes} {t : Bool} {ws : List Word} {program : Program} → passes kept p9 (nat_lt (depth_nest n) DEPTH_LIMIT) ≡ true
     → ElementsEnd kept (in_array n cs) no_constants ws program → ElementsEnd kept n cs (word open_paren x t ∷ ws) program
 nest_first {kept} {n} {cs} {program = program} pass (elements_then reads same (element_ends {ws = us} ends)) =
     element_first (a_nested_array pass reads) (subst (λ (ds : Constants). ElementsEnd kept n (one_more cs (array ds)) us program) (sym same) ends)
 
-array_first : {kept : Kept} {n : Nest} {cs : Constants} {x : Bytes} {t : Bool} {ws : List Word} {program : Program} → passes kept p9 (nat_lt (depth_nest n) depth_limit) ≡ true
+array_first : {kept : Kept} {n : Nest} {cs : Constants} {x : Bytes} {t : Bool} {ws : List Word} {program : Program} → passes kept p9 (nat_lt (depth_nest n) DEPTH_LIMIT) ≡ true
     → ElementsEnd kept (in_array n cs) no_constants ws program → ElementsEnd kept n cs (word open_array x t ∷ ws) program
 array_first {kept} {n} {cs} {program = program} pass (elements_then reads same (element_ends {ws = us} ends)) =
     element_first (a_literal_element (an_array pass reads)) (subst (λ (ds : Constants). ElementsEnd kept n (one_more cs (array ds)) us program) (sym same) ends)
@@ -133,8 +134,8 @@ elements_back n cs symbol x t h = element_first (a_literal_element a_symbol) h
 elements_back n cs keyword x t h = run_first h
 elements_back n cs binary x t h = selector_by n cs x t (is_minus x) refl h
 elements_back n cs bar x t h = element_first (a_selector_element bar_is refl) h
-elements_back {kept} n cs open_paren x t {ws} {program} h = let h' = checked kept ws program (passes kept p9 (nat_lt (depth_nest n) depth_limit)) (in_elements (in_array n cs) no_constants) p9 h in nest_first h'.0 h'.1
-elements_back {kept} n cs open_array x t {ws} {program} h = let h' = checked kept ws program (passes kept p9 (nat_lt (depth_nest n) depth_limit)) (in_elements (in_array n cs) no_constants) p9 h in array_first h'.0 h'.1
+elements_back {kept} n cs open_paren x t {ws} {program} h = let h' = checked kept ws program (passes kept p9 (nat_lt (depth_nest n) DEPTH_LIMIT)) (in_elements (in_array n cs) no_constants) p9 h in nest_first h'.0 h'.1
+elements_back {kept} n cs open_array x t {ws} {program} h = let h' = checked kept ws program (passes kept p9 (nat_lt (depth_nest n) DEPTH_LIMIT)) (in_elements (in_array n cs) no_constants) p9 h in array_first h'.0 h'.1
 elements_back n cs close_paren x t h = array_closes n cs x t h
 elements_back n cs _ x t h = absurd h
 
@@ -187,7 +188,7 @@ more_back selector ps keyword x t h = one_more_part h
 more_back selector ps kind x t h = pattern_then (pattern_end refl) (append-nil selector) (append-nil ps) (header_back (top (Some selector) ps [] no_statements) kind x t h)
 
 -- a token back, from every state
-back : (kept : Kept) (s : State) (w : Word) (ws : List Word) (program : Program) → Wills kept (step kept s w) ws program → Will kept s (w ∷ ws) program
+back : (kept : Kept) (s : State) (w : Word) (ws : List Word) (program : Program) → Wills kept (machine_step kept s w) ws program → Will kept s (w ∷ ws) program
 back kept at_pattern (word kind x t) ws program h = pattern_back kind x t h
 back kept (pattern_operator selector) (word kind x t) ws program h = operator_back selector kind x t h
 back kept (pattern_keyword selector ps) (word kind x t) ws program h = keyword_back selector ps kind x t h
@@ -220,15 +221,15 @@ same_program p q e = cc
 no_program : {A : Type 0} (f : Fault) (q : Program) → fails_by f ≡ read_as q → A
 no_program f q e = let none : ⊥ = cc in absurd none
 
-body_last : {kept : Kept} (b : Body) (r : Rule) {program : Program} → finish r (program_of b) ≡ Ok program → BodyEnds kept b no_statements [] program
+body_last : {kept : Kept} (b : Body) (r : GrammarRule) {program : Program} → finish r (program_of b) ≡ Ok program → BodyEnds kept b no_statements [] program
 body_last {kept} (top selector ps ts body) r {program} e =
     subst (λ (q : Program). BodyEnds kept (top selector ps ts body) no_statements [] q) (same_program _ program e) (text_ends (no_more_statements body))
 body_last (in_block k names ps ts body) r {program} e = no_program _ program e
 
-begin_last : {kept : Kept} (b : Body) (r : Rule) {program : Program} → finish r (program_of b) ≡ Ok program → BeginEnds kept b [] program
+begin_last : {kept : Kept} (b : Body) (r : GrammarRule) {program : Program} → finish r (program_of b) ≡ Ok program → BeginEnds kept b [] program
 begin_last b r e = statements_then statements_end (body_last b r e)
 
-seat_last : {kept : Kept} (o : Seat) (e : Expression) (r : Rule) {program : Program} → finish r (last_at o e) ≡ Ok program → SeatEnds kept o e [] program
+seat_last : {kept : Kept} (o : Seat) (e : Expression) (r : GrammarRule) {program : Program} → finish r (last_at o e) ≡ Ok program → SeatEnds kept o e [] program
 seat_last {kept} (in_body (top selector ps ts body) returns) e r {program} same =
     statement_ends rest_end (subst (λ (q : Program). BodyEnds kept (top selector ps ts body) (a_statement (statement returns e) no_statements) [] q) (same_program _ program same) (text_ends refl))
 seat_last (in_body (in_block k names ps ts body) returns) e r {program} same = no_program _ program same
@@ -238,12 +239,12 @@ no_super : (x : Bytes) → is_super x ≡ false → (ms : Sends) → needs_no_me
 no_super x e no_sends = ap not e
 no_super x e (a_send m ms) = refl
 
-named_last : {kept : Kept} (k : Slot) (names : List Bytes) (y : Bytes) (r : Rule) (t : Bool) {program : Program} (super : Bool) → is_super y ≡ super
+named_last : {kept : Kept} (k : Slot) (names : List Bytes) (y : Bytes) (r : GrammarRule) (t : Bool) {program : Program} (super : Bool) → is_super y ≡ super
     → finish r (cond super None (last_at (seat_of k) (closed k (bare names (name y))))) ≡ Ok program → WantEnds kept k names (word identifier y t ∷ []) program
 named_last k names y r t {program} true is e = no_program _ program e
 named_last k names y r t false is e = head_wanted a_name (no_super y is) (no_more_messages k (seat_last (seat_of k) (closed k (bare names (name y))) r e))
 
-at_end : (kept : Kept) (s : State) (r : Rule) {program : Program} → finish r (last s) ≡ Ok program → Will kept s [] program
+at_end : (kept : Kept) (s : State) (r : GrammarRule) {program : Program} → finish r (last s) ≡ Ok program → Will kept s [] program
 at_end kept (pattern_more selector ps) r e = pattern_then (pattern_end refl) (append-nil selector) (append-nil ps) (without_temps refl (begin_last (top (Some selector) ps [] no_statements) r e))
 at_end kept (header b) r e = without_temps refl (begin_last b r e)
 at_end kept (begin b) r e = begin_last b r e
@@ -253,17 +254,17 @@ at_end kept (have k e next) r same = no_more_messages k (seat_last (seat_of k) (
 at_end kept _ r {program} e = no_program _ program e
 
 -- any number of tokens
-goes_back : (kept : Kept) (ws all : List Word) (program : Program) (r : Rule) (v : Verdict) → ((s : State) → run kept s ws ≡ Ok program → Will kept s ws program)
-    → go r all (λ (s : State). run kept s ws) v ≡ Ok program → Wills kept v ws program
+goes_back : (kept : Kept) (ws all : List Word) (program : Program) (r : GrammarRule) (v : Verdict) → ((s : State) → machine_run kept s ws ≡ Ok program → Will kept s ws program)
+    → go r all (λ (s : State). machine_run kept s ws) v ≡ Ok program → Wills kept v ws program
 goes_back kept ws all program r (goes s) on e = on s e
 goes_back kept ws all program r (breaks other) on e = no_program _ program e
 goes_back kept ws all program r stuck on e = no_program _ program e
 
-pub will_be : (kept : Kept) (s : State) (ws : List Word) (program : Program) → run kept s ws ≡ Ok program → Will kept s ws program
+pub will_be : (kept : Kept) (s : State) (ws : List Word) (program : Program) → machine_run kept s ws ≡ Ok program → Will kept s ws program
 will_be kept s [] program e = at_end kept s (blame kept s) e
-will_be kept s (w ∷ ws) program e = back kept s w ws program (goes_back kept ws (w ∷ ws) program (blame kept s) (step kept s w) (λ (s' : State). will_be kept s' ws program) e)
+will_be kept s (w ∷ ws) program e = back kept s w ws program (goes_back kept ws (w ∷ ws) program (blame kept s) (machine_step kept s w) (λ (s' : State). will_be kept s' ws program) e)
 
 -- What the machine reads from the start on is of the grammar, with this tree.
-pub sound : (kept : Kept) (form : Form) (ws : List Word) (program : Program) → run kept (start form) ws ≡ Ok program → ReadsProgram kept form program ws
+pub sound : (kept : Kept) (form : Form) (ws : List Word) (program : Program) → machine_run kept (start form) ws ≡ Ok program → ReadsProgram kept form program ws
 sound kept chunk ws program e = chunk_read (will_be kept (start chunk) ws program e)
 sound kept method ws program e = will_be kept (start method) ws program e

@@ -1,9 +1,10 @@
 -- From what follows a part to the grammar of the whole: expressions, blocks, methods.
 use Rattle.std.proofs.Common.{◌≡◌, refl, sym, ◌∙◌, subst, ℕ, suc, nat_lt, Bool, true, true≢false, Option, Some, None, List, [], ◌∷◌, append-nil}
 use Rattle.texts.specs.Bytes.{Bytes}
+use Rattle.profile.specs.declared.limits.TheConstants.{DEPTH_LIMIT}
 use Rattle.st_tree.specs.Trees.{Constant, array, Constants, no_constants, Head, name, constant, block, closure, Expression, expression, Statement, Statements, no_statements, a_statement, Sends, no_sends, a_send, Program}
 use Rattle.st_grammar.specs.Tokens.{open_paren, open_bracket, open_array, close_bracket}
-use Rattle.st_grammar.specs.Grammar.{Word, word, p9, Kept, passes, depth_limit, Scope, scope, full, needs_no_message, Next, any_message, ReadsLiteral, an_array, ReadsElement, an_element, ReadsTemps, no_temps, some_temps, ReadsBar, ReadsParams, ReadsExpression, messages_sent, a_cascade, ReadsHead, a_literal, a_paren, a_block, ReadsSends, sends_end, parts_end, ReadsCascade, cascade_end, ReadsStatements, ReadsPattern, chunk, method, ReadsProgram, a_chunk, a_method}
+use Rattle.st_grammar.specs.Grammar.{Word, word, p9, Kept, passes, Scope, scope, full, needs_no_message, Next, any_message, ReadsLiteral, an_array, ReadsElement, an_element, ReadsTemps, no_temps, some_temps, ReadsBar, ReadsParams, ReadsExpression, messages_sent, a_cascade, ReadsHead, a_literal, a_paren, a_block, ReadsSends, sends_end, parts_end, ReadsCascade, cascade_end, ReadsStatements, ReadsPattern, chunk, method, ReadsProgram, a_chunk, a_method}
 use Rattle.st_grammar_laws.specs.Machine.{as_message, Body, top, in_block, Seat, in_paren, Wide, alone, keyword_part, Slot, outer, binary_part, Nest, of_head, bare, with_statement, one_more, scopes_seat, scopes_of, depth_seat, depth_of, depth_nest, level_of, wide_of, held, next_in, seat_in, closed_in, seat_of, closed}
 use Rattle.st_grammar_laws.proofs.SoundWants.{with_sends, may_follow, BodyEnds, text_ends, block_ends, SeatEnds, paren_ends, CascadeEnds, cascade_then, WideEnds, messages_end, keywords_end, SlotEnds, wide_ends, argument_ends, SendsEnd, sends_then, SendsGoOn, goes_then, ExpressionEnds, WantEnds, wanted, BeginEnds, statements_then, temps_then, HeaderEnds, without_temps, behind_bar, ParamsEnd, params_then, ElementsEnd, elements_then, literal_ends}
 use Rattle.st_grammar_laws.proofs.SoundTrees.{with_messages, with_cascade, statements_one_by_one, constants_one_by_one, text_with_temps, block_with_temps}
@@ -56,15 +57,15 @@ pub unassigned : {kept : Kept} {k : Slot} {ws : List Word} {program : Program} �
 unassigned {kept} {k} {ws} (wanted {h = h} {ms = ms} {cs = cs} {us = us} reads same ends) =
     expression_then (subst (λ (names : List Bytes). ReadsExpression kept (scopes_of k) (depth_of k) (level_of k) (expression names h ms cs) ws us) same reads) ends
 
-paren_read : {kept : Kept} {k : Slot} {names : List Bytes} {x : Bytes} {t : Bool} {ws : List Word} {program : Program} → passes kept p9 (nat_lt (depth_of k) depth_limit) ≡ true
+paren_read : {kept : Kept} {k : Slot} {names : List Bytes} {x : Bytes} {t : Bool} {ws : List Word} {program : Program} → passes kept p9 (nat_lt (depth_of k) DEPTH_LIMIT) ≡ true
     → ExpressionThen kept (outer (alone (in_paren k names))) ws program → WantEnds kept k names (word open_paren x t ∷ ws) program
 paren_read pass (expression_then reads (paren_ends ends)) = head_wanted (a_paren pass reads) (λ ms. refl) ends
 
-pub paren_wanted : {kept : Kept} {k : Slot} {names : List Bytes} {x : Bytes} {t : Bool} {ws : List Word} {program : Program} → passes kept p9 (nat_lt (depth_of k) depth_limit) ≡ true
+pub paren_wanted : {kept : Kept} {k : Slot} {names : List Bytes} {x : Bytes} {t : Bool} {ws : List Word} {program : Program} → passes kept p9 (nat_lt (depth_of k) DEPTH_LIMIT) ≡ true
     → WantEnds kept (outer (alone (in_paren k names))) [] ws program → WantEnds kept k names (word open_paren x t ∷ ws) program
 paren_wanted pass ends = paren_read pass (unassigned ends)
 
-pub array_wanted : {kept : Kept} {k : Slot} {names : List Bytes} {x : Bytes} {t : Bool} {ws : List Word} {program : Program} → passes kept p9 (nat_lt (depth_of k) depth_limit) ≡ true
+pub array_wanted : {kept : Kept} {k : Slot} {names : List Bytes} {x : Bytes} {t : Bool} {ws : List Word} {program : Program} → passes kept p9 (nat_lt (depth_of k) DEPTH_LIMIT) ≡ true
     → ElementsEnd kept (of_head k names) no_constants ws program → WantEnds kept k names (word open_array x t ∷ ws) program
 array_wanted {kept} {k} {names} {program = program} pass (elements_then reads e (literal_ends {ws = us} ends)) =
     literal_wanted (an_array pass reads) (subst (λ (cs : Constants). SendsEnd kept k (bare names (constant (array cs))) any_message us program) (sym e) ends)
@@ -85,11 +86,11 @@ block_header (without_temps e ends) = block_body (no_temps e) ends
 block_header {kept} {k} {names} {ps} {program = program} (behind_bar (temps_then {ts = ts} {us = us} reads ends)) =
     block_body (some_temps reads) (subst (λ (b : Body). BeginEnds kept b us program) (block_with_temps k names ps [] ts no_statements) ends)
 
-block_read : {kept : Kept} {k : Slot} {names ps : List Bytes} {x : Bytes} {t : Bool} {ws us vs : List Word} {program : Program} → passes kept p9 (nat_lt (depth_of k) depth_limit) ≡ true
+block_read : {kept : Kept} {k : Slot} {names ps : List Bytes} {x : Bytes} {t : Bool} {ws us vs : List Word} {program : Program} → passes kept p9 (nat_lt (depth_of k) DEPTH_LIMIT) ≡ true
     → ReadsParams kept [] ps ws us → ReadsBar ps us vs → BlockEnds kept k names ps vs program → WantEnds kept k names (word open_bracket x t ∷ ws) program
 block_read pass params line (block_then temps reads ends) = head_wanted (a_block pass params line temps reads) (λ ms. refl) ends
 
-pub block_wanted : {kept : Kept} {k : Slot} {names : List Bytes} {x : Bytes} {t : Bool} {ws : List Word} {program : Program} → passes kept p9 (nat_lt (depth_of k) depth_limit) ≡ true
+pub block_wanted : {kept : Kept} {k : Slot} {names : List Bytes} {x : Bytes} {t : Bool} {ws : List Word} {program : Program} → passes kept p9 (nat_lt (depth_of k) DEPTH_LIMIT) ≡ true
     → ParamsEnd kept k names [] ws program → WantEnds kept k names (word open_bracket x t ∷ ws) program
 block_wanted {kept} {k} {names} {ws = ws} {program = program} pass (params_then {us = us} params e line ends) =
     block_read pass (subst (λ (ps : List Bytes). ReadsParams kept [] ps ws us) e params) line (block_header ends)

@@ -1,16 +1,17 @@
--- One token back: what has to follow a state, from what has to follow the state behind the token.
+-- One token back: what has to follow a state, from what has to follow the state after the token.
 use Rattle.std.proofs.Common.{◌≡◌, refl, sym, ap, ap₂, ◌∙◌, subst, nat_lt, Bool, true, false, cond, not, ◌&&◌, true≢false, List, [], ◌∷◌, ◌++◌, append_assoc}
 use Rattle.texts.specs.Bytes.{Bytes}
+use Rattle.profile.specs.declared.limits.TheConstants.{DEPTH_LIMIT}
 use Rattle.st_tree.specs.Trees.{no_constants, name, Expression, Send, send, statement, no_statements, Sends, no_sends, a_send, Expressions, no_expressions, an_expression, Program}
 use Rattle.st_grammar.specs.Tokens.{Kind, identifier, keyword, number, character, string, symbol, binary, bar, assign, semicolon, period, open_paren, close_paren, open_bracket, close_bracket, open_array}
-use Rattle.st_grammar.specs.Grammar.{Word, word, Rule, p8, p9, Kept, passes, depth_limit, is_super, may_assign, IsSelector, binary_is, bar_is, is_minus, Level, of_binary, of_keyword, full, unary_sort, binary_sort, keyword_sort, holds, Next, any_message, no_unary, no_message, goes_on, may_come, needs_no_message, a_number, a_negative_number, a_character, a_string, a_symbol, an_assignment, a_name, sends_end, sends_on, a_unary, a_binary, a_keyword, parts_on, cascade_on, rest_end, last_period, rest_on}
+use Rattle.st_grammar.specs.Grammar.{Word, word, GrammarRule, p8, p9, Kept, passes, is_super, may_assign, IsSelector, binary_is, bar_is, is_minus, Level, of_binary, of_keyword, full, unary_sort, binary_sort, keyword_sort, holds, Next, any_message, no_unary, no_message, goes_on, may_come, needs_no_message, a_number, a_negative_number, a_character, a_string, a_symbol, an_assignment, a_name, sends_end, sends_on, a_unary, a_binary, a_keyword, parts_on, cascade_on, rest_end, last_period, rest_on}
 use Rattle.st_grammar_laws.specs.Machine.{Role, as_message, Body, top, in_block, Seat, in_body, in_paren, Wide, alone, keyword_part, Slot, outer, binary_part, of_head, State, want, minus, after_semicolon, in_params, in_elements, goes, breaks, stuck, bare, added, has_messages, and_argument, unary, with_statement, depth_of, scopes_of, level_of, wide_of, held, next_in, seat_of, closed, binary_at, keyword_at, semicolon_at, period_at, round_at, square_at, have_step, super_takes, named_step, head_step, minus_step}
 use Rattle.st_grammar_laws.proofs.SoundWants.{BodyEnds, block_ends, SeatEnds, statement_ends, paren_ends, CascadeEnds, cascade_then, messages_end, keywords_end, wide_ends, argument_ends, WideEnds, SendsEnd, sends_then, SendsGoOn, goes_then, WantEnds, wanted, SemicolonEnds, message_then, BeginEnds, statements_then, Will, Wills}
 use Rattle.st_grammar_laws.proofs.SoundTrees.{arguments_one_by_one}
 use Rattle.st_grammar_laws.proofs.SoundParts.{ExpressionThen, expression_then, unassigned, head_wanted, head_goes_on, literal_wanted, paren_wanted, array_wanted, block_wanted, statement_first, argument_closes, seat_closes, no_more_messages}
 
 -- a test that the machine makes
-pub checked : (kept : Kept) (ws : List Word) (program : Program) (test : Bool) (s : State) (r : Rule) → Wills kept (cond test (goes s) (breaks r)) ws program → (test ≡ true) × Will kept s ws program
+pub checked : (kept : Kept) (ws : List Word) (program : Program) (test : Bool) (s : State) (r : GrammarRule) → Wills kept (cond test (goes s) (breaks r)) ws program → (test ≡ true) × Will kept s ws program
 checked kept ws program true s r h = (refl, h)
 checked kept ws program false s r h = absurd h
 
@@ -176,9 +177,9 @@ head_back k names character x t h = literal_wanted a_character h
 head_back k names string x t h = literal_wanted a_string h
 head_back k names symbol x t h = literal_wanted a_symbol h
 head_back {kept} k names binary x t {ws} {program} h = let h' = taken kept ws program (is_minus x) (minus k names) h in h'.1 x t h'.0
-head_back {kept} k names open_paren x t {ws} {program} h = let h' = checked kept ws program (passes kept p9 (nat_lt (depth_of k) depth_limit)) (want (outer (alone (in_paren k names))) []) p9 h in paren_wanted h'.0 h'.1
-head_back {kept} k names open_bracket x t {ws} {program} h = let h' = checked kept ws program (passes kept p9 (nat_lt (depth_of k) depth_limit)) (in_params k names []) p9 h in block_wanted h'.0 h'.1
-head_back {kept} k names open_array x t {ws} {program} h = let h' = checked kept ws program (passes kept p9 (nat_lt (depth_of k) depth_limit)) (in_elements (of_head k names) no_constants) p9 h in array_wanted h'.0 h'.1
+head_back {kept} k names open_paren x t {ws} {program} h = let h' = checked kept ws program (passes kept p9 (nat_lt (depth_of k) DEPTH_LIMIT)) (want (outer (alone (in_paren k names))) []) p9 h in paren_wanted h'.0 h'.1
+head_back {kept} k names open_bracket x t {ws} {program} h = let h' = checked kept ws program (passes kept p9 (nat_lt (depth_of k) DEPTH_LIMIT)) (in_params k names []) p9 h in block_wanted h'.0 h'.1
+head_back {kept} k names open_array x t {ws} {program} h = let h' = checked kept ws program (passes kept p9 (nat_lt (depth_of k) DEPTH_LIMIT)) (in_elements (of_head k names) no_constants) p9 h in array_wanted h'.0 h'.1
 head_back k names _ x t h = absurd h
 
 pub minus_back : {kept : Kept} (k : Slot) (names : List Bytes) (w : Word) (m : Bytes) (t : Bool) {ws : List Word} {program : Program} → is_minus m ≡ true → Wills kept (minus_step k names w) ws program

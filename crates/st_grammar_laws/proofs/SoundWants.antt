@@ -80,7 +80,7 @@ ExpressionEnds kept (outer (alone o)) e ws program = SeatEnds kept o e ws progra
 ExpressionEnds kept (outer (keyword_part o role f selector es)) e ws program = SlotEnds kept (outer (keyword_part o role f selector es)) e ws program
 ExpressionEnds kept (binary_part w role f x) e ws program = SlotEnds kept (binary_part w role f x) e ws program
 
--- An expression is to follow in this slot, behind assignments to these names.
+-- An expression is to follow in this slot, after assignments to these names.
 pub data WantEnds (kept : Kept) : Slot → List Bytes → List Word → Program → Type 0 where
   wanted : {k : Slot} {names more all : List Bytes} {h : Head} {ms cs : Sends} {ws us : List Word} {program : Program}
       → ReadsExpression kept (scopes_of k) (depth_of k) (level_of k) (expression more h ms cs) ws us → names ++ more ≡ all

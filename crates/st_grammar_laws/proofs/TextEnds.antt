@@ -7,7 +7,7 @@ use Rattle.texts.specs.NameBytes.{is_name_byte}
 use Rattle.st_grammar.specs.Tokens.{identifier, keyword, Piece, Token, token, piece, is_keyword_end, Lexes, end_after}
 use Rattle.st_grammar.specs.Grammar.{Word, word, Kept, Form, words_of}
 use Rattle.st_grammar.specs.Fails.{Continues}
-use Rattle.st_grammar_laws.specs.Machine.{Body, top, in_block, Seat, in_body, in_paren, Wide, alone, keyword_part, Slot, outer, binary_part, Nest, of_head, in_array, State, at_pattern, pattern_operator, pattern_keyword, pattern_more, header, in_temps, begin, ended, want, named, minus, have, after_semicolon, in_params, param_wanted, in_elements, element_minus, element_run, run, start}
+use Rattle.st_grammar_laws.specs.Machine.{Body, top, in_block, Seat, in_body, in_paren, Wide, alone, keyword_part, Slot, outer, binary_part, Nest, of_head, in_array, State, at_pattern, pattern_operator, pattern_keyword, pattern_more, header, in_temps, begin, ended, want, named, minus, have, after_semicolon, in_params, param_wanted, in_elements, element_minus, element_run, machine_run, start}
 use Rattle.st_grammar_laws.proofs.Sound.{sound}
 use Rattle.st_grammar_laws.proofs.Viable.{longest, close_body, close_seat, close_wide, close_slot, close_nest, end_of, leads}
 use Rattle.st_grammar_laws.proofs.Paths.{Path, run_path}
@@ -124,7 +124,7 @@ continued_reads kept form text seen s path c =
       program = end.0;
       alike = c.alike;
       lexes = c.lexes;
-      reads = sound kept form (words_of c.other (seen ++ c.more)) end.0 (ap (run kept (start form)) c.words ∙ run_path path (end_of s) ∙ end.1);
+      reads = sound kept form (words_of c.other (seen ++ c.more)) end.0 (ap (machine_run kept (start form)) c.words ∙ run_path path (end_of s) ∙ end.1);
     }
 
 pub continues_apart : (kept : Kept) (form : Form) (text : Bytes) (seen left : List Token) (s : State) → Lexes 0 text (seen ++ left) → Path kept (start form) (words_of text seen) s → StandsApart s

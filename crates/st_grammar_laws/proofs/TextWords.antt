@@ -86,7 +86,7 @@ none_more text seen left lexes = record {
   words = words_joined 0 (take (end_after 0 seen) text ++ 32 ∷ []) seen [] ∙ ap (λ (ws : List Word). ws ++ []) (words_same text (take (end_after 0 seen) text ++ 32 ∷ []) seen left lexes (front_alike text (32 ∷ []) seen left lexes));
 }
 
--- one token behind a space
+-- one token after a space
 drop_front : (n : ℕ) (front back : Bytes) → length front ≡ n → drop (n + 1) (front ++ 32 ∷ back) ≡ back
 drop_front n [] back e = ap (λ (m : ℕ). drop (m + 1) (32 ∷ back)) (sym e)
 drop_front n (c ∷ front) back e =

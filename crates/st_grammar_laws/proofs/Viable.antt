@@ -5,8 +5,8 @@ use Rattle.std.proofs.lemmas.Slice.Eq.{bytes_eq-Decides}
 use Rattle.texts.specs.Bytes.{Bytes}
 use Rattle.st_tree.specs.Trees.{sym as symbol_of, array, Constants, block, closure, name, Expression, no_statements, Program}
 use Rattle.st_grammar.specs.Tokens.{identifier, number, bar, close_paren, close_bracket}
-use Rattle.st_grammar.specs.Grammar.{Word, word, Rule, p7, Kept, is_super, is_among, may_declare, Next, any_message, no_message}
-use Rattle.st_grammar_laws.specs.Machine.{as_message, as_cascade, Body, top, in_block, Seat, in_body, in_paren, Wide, alone, keyword_part, Slot, outer, binary_part, Nest, of_head, in_array, State, at_pattern, pattern_operator, pattern_keyword, pattern_more, header, in_temps, begin, ended, want, named, minus, have, after_semicolon, in_params, param_wanted, in_elements, element_minus, element_run, goes, breaks, stuck, check, bare, added, one_more, unary, held, closed_in, round_at, square_at, params_step, last_at, seat_in, close_block, program_of, close_array, step, last, blame, go, finish, run, have_step}
+use Rattle.st_grammar.specs.Grammar.{Word, word, GrammarRule, p7, Kept, is_super, is_among, may_declare, Next, any_message, no_message}
+use Rattle.st_grammar_laws.specs.Machine.{as_message, as_cascade, Body, top, in_block, Seat, in_body, in_paren, Wide, alone, keyword_part, Slot, outer, binary_part, Nest, of_head, in_array, State, at_pattern, pattern_operator, pattern_keyword, pattern_more, header, in_temps, begin, ended, want, named, minus, have, after_semicolon, in_params, param_wanted, in_elements, element_minus, element_run, goes, breaks, stuck, check, bare, added, one_more, unary, held, closed_in, round_at, square_at, params_step, last_at, seat_in, close_block, program_of, close_array, machine_step, last, blame, go, finish, machine_run, have_step}
 
 -- a name that isn't among these, of a letter more than the longest of them
 abbrev pub longest : List Bytes → ℕ
@@ -103,15 +103,15 @@ end_of (element_minus n cs m) = close_nest n
 end_of (element_run n cs r) = close_nest n
 
 abbrev pub Leads : Kept → State → List Word → Type 0
-Leads kept s ws = (program : Program) × (run kept s ws ≡ Ok program)
+Leads kept s ws = (program : Program) × (machine_run kept s ws ≡ Ok program)
 
-by_step : (kept : Kept) (s : State) (w : Word) (s' : State) (ws : List Word) → step kept s w ≡ goes s' → Leads kept s' ws → Leads kept s (w ∷ ws)
-by_step kept s w s' ws e h = (h.0, ap (go (blame kept s) (w ∷ ws) (λ (x : State). run kept x ws)) e ∙ h.1)
+by_step : (kept : Kept) (s : State) (w : Word) (s' : State) (ws : List Word) → machine_step kept s w ≡ goes s' → Leads kept s' ws → Leads kept s (w ∷ ws)
+by_step kept s w s' ws e h = (h.0, ap (go (blame kept s) (w ∷ ws) (λ (x : State). machine_run kept x ws)) e ∙ h.1)
 
 at_last : (kept : Kept) (s : State) (program : Program) → last s ≡ Some program → Leads kept s []
 at_last kept s program e = (program, ap (finish (blame kept s)) e)
 
-allowed : (kept : Kept) (r : Rule) (s : State) → check kept r true s ≡ goes s
+allowed : (kept : Kept) (r : GrammarRule) (s : State) → check kept r true s ≡ goes s
 allowed kept r s = ap (λ (b : Bool). cond b (goes s) (breaks r)) (always_true (kept r)) where
   always_true : (b : Bool) → cond b true true ≡ true
   always_true true = refl
@@ -122,13 +122,13 @@ declares kept names s = ap (λ (b : Bool). check kept p7 b s) (fresh_declared na
 
 -- a state that takes the brackets and the end as an expression does
 mutual
-  seat_leads : (kept : Kept) (o : Seat) (e : Expression) (s : State) → last s ≡ last_at o e → step kept s round_word ≡ round_at o e → step kept s square_word ≡ square_at o e → Leads kept s (close_seat o)
+  seat_leads : (kept : Kept) (o : Seat) (e : Expression) (s : State) → last s ≡ last_at o e → machine_step kept s round_word ≡ round_at o e → machine_step kept s square_word ≡ square_at o e → Leads kept s (close_seat o)
   seat_leads kept (in_body (top selector ps ts body) r) e s end round square = at_last kept s _ end
   seat_leads kept (in_body (in_block k names ps ts body) r) e s end round square = by_step kept s square_word _ (close_slot k) square (slot_leads kept k _ any_message)
   seat_leads kept (in_paren k names) e s end round square = by_step kept s round_word _ (close_slot k) round (slot_leads kept k _ any_message)
 
-  wide_leads : (kept : Kept) (w : Wide) (e : Expression) (s : State) → last s ≡ last_at (seat_in w) (closed_in w e) → step kept s round_word ≡ round_at (seat_in w) (closed_in w e)
-      → step kept s square_word ≡ square_at (seat_in w) (closed_in w e) → Leads kept s (close_wide w)
+  wide_leads : (kept : Kept) (w : Wide) (e : Expression) (s : State) → last s ≡ last_at (seat_in w) (closed_in w e) → machine_step kept s round_word ≡ round_at (seat_in w) (closed_in w e)
+      → machine_step kept s square_word ≡ square_at (seat_in w) (closed_in w e) → Leads kept s (close_wide w)
   wide_leads kept (alone o) e s end round square = seat_leads kept o e s end round square
   wide_leads kept (keyword_part o role f selector es) e s end round square = seat_leads kept o (closed_in (keyword_part o role f selector es) e) s end round square
 
@@ -137,7 +137,7 @@ mutual
   slot_leads kept (binary_part w role f x) e next = wide_leads kept w (held (binary_part w role f x) e) (have (binary_part w role f x) e next) refl refl refl
 
 -- a state that takes `]` and the end as a body does
-body_leads : (kept : Kept) (b : Body) (s : State) → last s ≡ program_of b → step kept s square_word ≡ close_block b → Leads kept s (close_body b)
+body_leads : (kept : Kept) (b : Body) (s : State) → last s ≡ program_of b → machine_step kept s square_word ≡ close_block b → Leads kept s (close_body b)
 body_leads kept (top selector ps ts body) s end square = at_last kept s _ end
 body_leads kept (in_block k names ps ts body) s end square = by_step kept s square_word _ (close_slot k) square (slot_leads kept k _ any_message)
 
@@ -165,7 +165,7 @@ params_close kept k names (p ∷ ps) = refl
 params_lead : (kept : Kept) (k : Slot) (names ps : List Bytes) → Leads kept (in_params k names ps) (square_word ∷ close_slot k)
 params_lead kept k names ps = by_step kept (in_params k names ps) square_word _ (close_slot k) (params_close kept k names ps) (slot_leads kept k _ any_message)
 
-nest_leads : (kept : Kept) (n : Nest) (cs : Constants) (s : State) → step kept s round_word ≡ goes (close_array n (array cs)) → Leads kept s (close_nest n)
+nest_leads : (kept : Kept) (n : Nest) (cs : Constants) (s : State) → machine_step kept s round_word ≡ goes (close_array n (array cs)) → Leads kept s (close_nest n)
 nest_leads kept (of_head k names) cs s round = by_step kept s round_word _ (close_slot k) round (slot_leads kept k _ any_message)
 nest_leads kept (in_array n ds) cs s round =
     by_step kept s round_word _ (close_nest n) round (nest_leads kept n (one_more ds (array cs)) (in_elements n (one_more ds (array cs))) refl)

@@ -1,10 +1,26 @@
 -- A machine that reads the tokens of a chunk or method one by one and builds its tree.
 -- Its states hold the parts of the tree that are begun, and every state can still reach the end.
-use Rattle.std.specs.Prelude.{ℕ, suc, Bool, true, false, cond, not, ◌&&◌, nat_lt, Option, Some, None, Result, Ok, Err, List, [], ◌∷◌, ◌++◌}
+use Rattle.std.specs.Prelude.{ℕ, suc, Bool, true, false, cond, not, ◌&&◌, nat_lt, Option, Some}
+use Rattle.std.specs.Prelude.{None, Result, Ok, Err, List, [], ◌∷◌, ◌++◌}
 use Rattle.texts.specs.Bytes.{Bytes}
-use Rattle.st_tree.specs.Trees.{Constant, char, str, sym, array, Constants, no_constants, a_constant, append_constants, Head, name, constant, block, paren, closure, Expression, expression, Send, send, Statement, statement, Statements, no_statements, a_statement, append_statements, no_sends, a_send, append_sends, Expressions, no_expressions, an_expression, append_expressions, Program}
-use Rattle.st_grammar.specs.Tokens.{Kind, identifier, keyword, number, character, string, symbol, binary, bar, assign, colon, caret, semicolon, period, open_paren, close_paren, open_bracket, close_bracket, open_array, string_value, symbol_value}
-use Rattle.st_grammar.specs.Grammar.{Word, word, Rule, p4, p5, p6, p7, p8, p9, Kept, passes, depth_limit, is_super, Scope, scope, may_assign, may_declare, is_minus, whole_number, negative_number, character_value, named_constant, Level, of_binary, of_keyword, full, binary_sort, keyword_sort, holds, Next, any_message, no_unary, no_message, goes_on, takes_unary, Form, chunk, method}
+use Rattle.profile.specs.declared.limits.TheConstants.{DEPTH_LIMIT}
+use Rattle.st_tree.specs.Trees.{Constant, char, str, sym, array, Constants, no_constants}
+use Rattle.st_tree.specs.Trees.{a_constant, append_constants, Head, name, constant, block, paren}
+use Rattle.st_tree.specs.Trees.{closure, Expression, expression, Send, send, Statement, statement}
+use Rattle.st_tree.specs.Trees.{Statements, no_statements, a_statement, append_statements, no_sends}
+use Rattle.st_tree.specs.Trees.{a_send, append_sends, Expressions, no_expressions, an_expression}
+use Rattle.st_tree.specs.Trees.{append_expressions, Program}
+use Rattle.st_grammar.specs.Tokens.{Kind, identifier, keyword, number, character, string, symbol}
+use Rattle.st_grammar.specs.Tokens.{binary, bar, assign, colon, caret, semicolon, period}
+use Rattle.st_grammar.specs.Tokens.{open_paren, close_paren, open_bracket, close_bracket}
+use Rattle.st_grammar.specs.Tokens.{open_array, string_value, symbol_value}
+use Rattle.st_grammar.specs.Grammar.{Word, word, GrammarRule, p4, p5, p6, p7, p8, p9, Kept, passes}
+use Rattle.st_grammar.specs.Grammar.{is_super, Scope, scope, may_assign, may_declare, is_minus}
+use Rattle.st_grammar.specs.Tokens.{character_value}
+use Rattle.st_grammar.specs.Grammar.{whole_number, negative_number, named_constant}
+use Rattle.st_grammar.specs.Grammar.{Level, of_binary, of_keyword, full, binary_sort, keyword_sort}
+use Rattle.st_grammar.specs.Grammar.{holds, Next, any_message, no_unary, no_message, goes_on}
+use Rattle.st_grammar.specs.Grammar.{takes_unary, Form, chunk, method}
 use Rattle.st_grammar.specs.Fails.{Bracket, square, round}
 
 -- What a message is of the expression that it is in.
@@ -18,20 +34,22 @@ mutual
   pub data Body : Type 0 where
     -- of the whole text
     top : (selector : Option Bytes) → (params temps : List Bytes) → Statements → Body
-    -- of a block that is the head of an expression in this slot, behind assignments to these names
+    -- of a block that is the head of an expression in this slot, after assignments to these names
     in_block : Slot → (names : List Bytes) → (params temps : List Bytes) → Statements → Body
 
   -- Where a whole expression stands.
   pub data Seat : Type 0 where
     -- as a statement of this body, with or without `^`
     in_body : Body → (returns : Bool) → Seat
-    -- in parentheses that are the head of an expression in this slot, behind assignments to these names
+    -- in parentheses that are the head of an expression in this slot, after assignments to these
+    -- names
     in_paren : Slot → (names : List Bytes) → Seat
 
   -- Where an expression with binary messages stands.
   pub data Wide : Type 0 where
     alone : Seat → Wide
-    -- as an argument of a keyword message to the expression so far, with the selector so far and the arguments before
+    -- as an argument of a keyword message to the expression so far, with the selector so far and
+    -- the arguments before
     keyword_part : Seat → Role → Expression → (selector : Bytes) → Expressions → Wide
 
   -- Where an expression with unary messages stands.
@@ -42,20 +60,20 @@ mutual
 
 -- The literal arrays that are begun around the elements of one.
 pub data Nest : Type 0 where
-  -- the array is the head of an expression in this slot, behind assignments to these names
+  -- the array is the head of an expression in this slot, after assignments to these names
   of_head : Slot → (names : List Bytes) → Nest
-  -- the array is the next element behind these
+  -- the array is the next element after these
   in_array : Nest → Constants → Nest
 
 -- What has been read, and with it what may come.
 pub data State : Type 0 where
   -- the pattern of a method
   at_pattern : State
-  -- behind a binary selector: its parameter
+  -- after a binary selector: its parameter
   pattern_operator : (selector : Bytes) → State
-  -- behind a keyword: its parameter, with the selector so far and the parameters before
+  -- after a keyword: its parameter, with the selector so far and the parameters before
   pattern_keyword : (selector : Bytes) → (params : List Bytes) → State
-  -- behind a keyword's parameter
+  -- after a keyword's parameter
   pattern_more : (selector : Bytes) → (params : List Bytes) → State
   -- the temporaries of a body, or its first statement
   header : Body → State
@@ -63,37 +81,37 @@ pub data State : Type 0 where
   in_temps : Body → State
   -- a statement or the end of the body
   begin : Body → State
-  -- the end of the body: behind a statement with `^` and its `.`
+  -- the end of the body: after a statement with `^` and its `.`
   ended : Body → State
-  -- the head of an expression, behind assignments to these names
+  -- the head of an expression, after assignments to these names
   want : Slot → (names : List Bytes) → State
-  -- behind an identifier that is such a head, or is assigned to
+  -- after an identifier that is such a head, or is assigned to
   named : Slot → (names : List Bytes) → Bytes → State
-  -- behind a `-`: the number that touches it
+  -- after a `-`: the number that touches it
   minus : Slot → (names : List Bytes) → State
-  -- behind an expression that may have more messages
+  -- after an expression that may have more messages
   have : Slot → Expression → Next → State
-  -- behind a `;`: a message
+  -- after a `;`: a message
   after_semicolon : Seat → Expression → State
-  -- behind the `[` of a block, and behind each parameter
+  -- after the `[` of a block, and after each parameter
   in_params : Slot → (names : List Bytes) → (params : List Bytes) → State
-  -- behind the `:` of a parameter
+  -- after the `:` of a parameter
   param_wanted : Slot → (names : List Bytes) → (params : List Bytes) → State
-  -- among the elements of a literal array, behind these
+  -- among the elements of a literal array, after these
   in_elements : Nest → Constants → State
-  -- behind a `-` among them
+  -- after a `-` among them
   element_minus : Nest → Constants → (selector : Bytes) → State
-  -- behind keywords among them
+  -- after keywords among them
   element_run : Nest → Constants → (run : Bytes) → State
 
 -- What becomes of a state by a token.
 pub data Verdict : Type 0 where
   goes : State → Verdict
   -- only this rule forbids the token
-  breaks : Rule → Verdict
+  breaks : GrammarRule → Verdict
   stuck : Verdict
 
-abbrev pub check : Kept → Rule → Bool → State → Verdict
+abbrev pub check : Kept → GrammarRule → Bool → State → Verdict
 check kept r test s = cond (passes kept r test) (goes s) (breaks r)
 
 -- Parts of trees.
@@ -102,8 +120,10 @@ bare names h = expression names h no_sends no_sends
 
 -- the expression with one more message
 abbrev pub added : Role → Expression → Send → Expression
-added as_message (expression names h ms cs) m = expression names h (append_sends ms (a_send m no_sends)) cs
-added as_cascade (expression names h ms cs) m = expression names h ms (append_sends cs (a_send m no_sends))
+added as_message (expression names h ms cs) m = expression names h
+    (append_sends ms (a_send m no_sends)) cs
+added as_cascade (expression names h ms cs) m = expression names h ms
+    (append_sends cs (a_send m no_sends))
 
 abbrev pub has_messages : Expression → Bool
 has_messages (expression names h no_sends cs) = false
@@ -123,8 +143,10 @@ binary_send x e = send x (an_expression e no_expressions)
 
 -- bodies with one more statement, or one more temporary
 abbrev pub with_statement : Body → Statement → Body
-with_statement (top selector ps ts body) s = top selector ps ts (append_statements body (a_statement s no_statements))
-with_statement (in_block k names ps ts body) s = in_block k names ps ts (append_statements body (a_statement s no_statements))
+with_statement (top selector ps ts body) s = top selector ps ts
+    (append_statements body (a_statement s no_statements))
+with_statement (in_block k names ps ts body) s = in_block k names ps ts
+    (append_statements body (a_statement s no_statements))
 
 abbrev pub with_temp : Body → Bytes → Body
 with_temp (top selector ps ts body) x = top selector ps (ts ++ x ∷ []) body
@@ -178,7 +200,8 @@ level_of (outer (alone o)) = full
 level_of (outer (keyword_part o role f selector es)) = of_keyword
 level_of (binary_part w role f x) = of_binary
 
--- The argument of a binary message ends: where its receiver stands, what that becomes, and what may come behind it.
+-- The argument of a binary message ends: where its receiver stands, what that becomes, and what may
+-- come after it.
 abbrev pub behind_role : Role → Next
 behind_role as_message = no_unary
 behind_role as_cascade = no_message
@@ -210,13 +233,15 @@ seat_of k = seat_in (wide_of k)
 abbrev pub closed : Slot → Expression → Expression
 closed k e = closed_in (wide_of k) (held k e)
 
--- A token behind an expression, where all arguments that it ends have ended.
+-- A token after an expression, where all arguments that it ends have ended.
 abbrev pub binary_at : Wide → Expression → Next → Bytes → Verdict
 binary_at w e next x = cond (goes_on next) (goes (want (binary_part w as_message e x) [])) stuck
 
 abbrev pub keyword_at : Wide → Expression → Next → Bytes → Verdict
-keyword_at (alone o) e next x = cond (goes_on next) (goes (want (outer (keyword_part o as_message e x no_expressions)) [])) stuck
-keyword_at (keyword_part o role f selector es) e next x = goes (want (outer (keyword_part o role f (selector ++ x) (and_argument es e))) [])
+keyword_at (alone o) e next x = cond (goes_on next)
+    (goes (want (outer (keyword_part o as_message e x no_expressions)) [])) stuck
+keyword_at (keyword_part o role f selector es) e next x = goes
+    (want (outer (keyword_part o role f (selector ++ x) (and_argument es e))) [])
 
 abbrev pub semicolon_at : Seat → Expression → Verdict
 semicolon_at o e = cond (has_messages e) (goes (after_semicolon o e)) stuck
@@ -232,23 +257,26 @@ round_at (in_paren k names) e = goes (have k (bare names (paren e)) any_message)
 
 abbrev pub close_block : Body → Verdict
 close_block (top selector ps ts body) = stuck
-close_block (in_block k names ps ts body) = goes (have k (bare names (block (closure ps ts body))) any_message)
+close_block (in_block k names ps ts body) = goes
+    (have k (bare names (block (closure ps ts body))) any_message)
 
 abbrev pub square_at : Seat → Expression → Verdict
 square_at (in_body b r) e = close_block (with_statement b (statement r e))
 square_at (in_paren k names) e = stuck
 
 abbrev pub program_of : Body → Option Program
-program_of (top selector ps ts body) = Some (record { selector = selector; params = ps; temps = ts; body = body })
+program_of (top selector ps ts body) = Some
+    (record { selector = selector; params = ps; temps = ts; body = body })
 program_of (in_block k names ps ts body) = None
 
 abbrev pub last_at : Seat → Expression → Option Program
 last_at (in_body b r) e = program_of (with_statement b (statement r e))
 last_at (in_paren k names) e = None
 
--- A token of this kind and with these bytes behind an expression.
+-- A token of this kind and with these bytes after an expression.
 abbrev pub have_step : Slot → Expression → Next → Kind → Bytes → Verdict
-have_step k e next identifier x = cond (takes_unary next) (goes (have k (added as_message e (unary x)) any_message)) stuck
+have_step k e next identifier x = cond (takes_unary next)
+    (goes (have k (added as_message e (unary x)) any_message)) stuck
 have_step k e next binary x = binary_at (wide_of k) (held k e) (next_in k next) x
 have_step k e next bar x = binary_at (wide_of k) (held k e) (next_in k next) x
 have_step k e next keyword x = keyword_at (wide_of k) (held k e) (next_in k next) x
@@ -270,22 +298,30 @@ abbrev pub is_full : Level → Bool
 is_full full = true
 is_full _ = false
 
--- a token behind an identifier
+-- a token after an identifier
 abbrev pub named_step : Kept → Slot → List Bytes → Bytes → Kind → Bytes → Verdict
-named_step kept k names y assign x = cond (is_full (level_of k)) (check kept p8 (may_assign (scopes_of k) y) (want k (names ++ y ∷ []))) stuck
-named_step kept k names y kind x = cond (is_super y && not (super_takes (level_of k) kind)) stuck (have_step k (bare names (name y)) any_message kind x)
+named_step kept k names y assign x = cond (is_full (level_of k))
+    (check kept p8 (may_assign (scopes_of k) y) (want k (names ++ y ∷ []))) stuck
+named_step kept k names y kind x = cond (is_super y && not (super_takes (level_of k) kind)) stuck
+    (have_step k (bare names (name y)) any_message kind x)
 
 -- a token where the head of an expression is expected
 abbrev pub head_step : Kept → Slot → List Bytes → Kind → Bytes → Verdict
 head_step kept k names identifier x = goes (named k names x)
 head_step kept k names number x = goes (have k (bare names (constant (whole_number x))) any_message)
-head_step kept k names character x = goes (have k (bare names (constant (char (character_value x)))) any_message)
-head_step kept k names string x = goes (have k (bare names (constant (str (string_value x)))) any_message)
-head_step kept k names symbol x = goes (have k (bare names (constant (sym (symbol_value x)))) any_message)
+head_step kept k names character x = goes
+    (have k (bare names (constant (char (character_value x)))) any_message)
+head_step kept k names string x = goes
+    (have k (bare names (constant (str (string_value x)))) any_message)
+head_step kept k names symbol x = goes
+    (have k (bare names (constant (sym (symbol_value x)))) any_message)
 head_step kept k names binary x = cond (is_minus x) (goes (minus k names)) stuck
-head_step kept k names open_paren x = check kept p9 (nat_lt (depth_of k) depth_limit) (want (outer (alone (in_paren k names))) [])
-head_step kept k names open_bracket x = check kept p9 (nat_lt (depth_of k) depth_limit) (in_params k names [])
-head_step kept k names open_array x = check kept p9 (nat_lt (depth_of k) depth_limit) (in_elements (of_head k names) no_constants)
+head_step kept k names open_paren x = check kept p9 (nat_lt (depth_of k) DEPTH_LIMIT)
+    (want (outer (alone (in_paren k names))) [])
+head_step kept k names open_bracket x = check kept p9 (nat_lt (depth_of k) DEPTH_LIMIT)
+    (in_params k names [])
+head_step kept k names open_array x = check kept p9 (nat_lt (depth_of k) DEPTH_LIMIT)
+    (in_elements (of_head k names) no_constants)
 head_step kept k names _ x = stuck
 
 -- a token where a statement or the end of the body is expected
@@ -303,25 +339,29 @@ header_step kept b bar x = goes (in_temps b)
 header_step kept b kind x = begin_step kept b kind x
 
 abbrev pub temps_step : Kept → Body → Kind → Bytes → Verdict
-temps_step kept b identifier x = check kept p7 (may_declare (declared b) x) (in_temps (with_temp b x))
+temps_step kept b identifier x = check kept p7 (may_declare (declared b) x)
+    (in_temps (with_temp b x))
 temps_step kept b bar x = goes (begin b)
 temps_step kept b _ x = stuck
 
--- a token behind `[` and these parameters
+-- a token after `[` and these parameters
 abbrev pub params_step : Kept → Slot → List Bytes → List Bytes → Kind → Bytes → Verdict
 params_step kept k names ps colon x = goes (param_wanted k names ps)
 params_step kept k names [] kind x = header_step kept (in_block k names [] [] no_statements) kind x
 params_step kept k names (p ∷ ps) bar x = goes (header (in_block k names (p ∷ ps) [] no_statements))
-params_step kept k names (p ∷ ps) close_bracket x = close_block (in_block k names (p ∷ ps) [] no_statements)
+params_step kept k names (p ∷ ps) close_bracket x = close_block
+    (in_block k names (p ∷ ps) [] no_statements)
 params_step kept k names (p ∷ ps) _ x = stuck
 
 abbrev pub param_step : Kept → Slot → List Bytes → List Bytes → Kind → Bytes → Verdict
-param_step kept k names ps identifier x = check kept p7 (may_declare ps x) (in_params k names (ps ++ x ∷ []))
+param_step kept k names ps identifier x = check kept p7 (may_declare ps x)
+    (in_params k names (ps ++ x ∷ []))
 param_step kept k names ps _ x = stuck
 
--- a token behind a `;`
+-- a token after a `;`
 abbrev pub cascade_step : Seat → Expression → Kind → Bytes → Verdict
-cascade_step o e identifier x = goes (have (outer (alone o)) (added as_cascade e (unary x)) no_message)
+cascade_step o e identifier x = goes
+    (have (outer (alone o)) (added as_cascade e (unary x)) no_message)
 cascade_step o e binary x = goes (want (binary_part (alone o) as_cascade e x) [])
 cascade_step o e bar x = goes (want (binary_part (alone o) as_cascade e x) [])
 cascade_step o e keyword x = goes (want (outer (keyword_part o as_cascade e x no_expressions)) [])
@@ -340,16 +380,20 @@ elements_step kept n cs character x = goes (in_elements n (one_more cs (char (ch
 elements_step kept n cs string x = goes (in_elements n (one_more cs (str (string_value x))))
 elements_step kept n cs symbol x = goes (in_elements n (one_more cs (sym (symbol_value x))))
 elements_step kept n cs keyword x = goes (element_run n cs x)
-elements_step kept n cs binary x = cond (is_minus x) (goes (element_minus n cs x)) (goes (in_elements n (one_more cs (sym x))))
+elements_step kept n cs binary x = cond (is_minus x) (goes (element_minus n cs x))
+    (goes (in_elements n (one_more cs (sym x))))
 elements_step kept n cs bar x = goes (in_elements n (one_more cs (sym x)))
-elements_step kept n cs open_paren x = check kept p9 (nat_lt (depth_nest n) depth_limit) (in_elements (in_array n cs) no_constants)
-elements_step kept n cs open_array x = check kept p9 (nat_lt (depth_nest n) depth_limit) (in_elements (in_array n cs) no_constants)
+elements_step kept n cs open_paren x = check kept p9 (nat_lt (depth_nest n) DEPTH_LIMIT)
+    (in_elements (in_array n cs) no_constants)
+elements_step kept n cs open_array x = check kept p9 (nat_lt (depth_nest n) DEPTH_LIMIT)
+    (in_elements (in_array n cs) no_constants)
 elements_step kept n cs close_paren x = goes (close_array n (array cs))
 elements_step kept n cs _ x = stuck
 
 -- the `-` is a symbol, unless a number touches it
 abbrev pub element_minus_step : Kept → Nest → Constants → Bytes → Word → Verdict
-element_minus_step kept n cs m (word number x true) = goes (in_elements n (one_more cs (negative_number x)))
+element_minus_step kept n cs m (word number x true) = goes
+    (in_elements n (one_more cs (negative_number x)))
 element_minus_step kept n cs m (word kind x t) = elements_step kept n (one_more cs (sym m)) kind x
 
 -- the keywords are a symbol, unless one more touches them
@@ -358,7 +402,8 @@ element_run_step kept n cs run (word keyword x true) = goes (element_run n cs (r
 element_run_step kept n cs run (word kind x t) = elements_step kept n (one_more cs (sym run)) kind x
 
 abbrev pub minus_step : Slot → List Bytes → Word → Verdict
-minus_step k names (word number x true) = goes (have k (bare names (constant (negative_number x))) any_message)
+minus_step k names (word number x true) = goes
+    (have k (bare names (constant (negative_number x))) any_message)
 minus_step k names _ = stuck
 
 -- a token of a method's pattern
@@ -370,37 +415,41 @@ pattern_step keyword x = goes (pattern_keyword x [])
 pattern_step _ x = stuck
 
 abbrev pub operator_step : Kept → Bytes → Kind → Bytes → Verdict
-operator_step kept selector identifier x = check kept p7 (may_declare [] x) (header (top (Some selector) (x ∷ []) [] no_statements))
+operator_step kept selector identifier x = check kept p7 (may_declare [] x)
+    (header (top (Some selector) (x ∷ []) [] no_statements))
 operator_step kept selector _ x = stuck
 
 abbrev pub keyword_step : Kept → Bytes → List Bytes → Kind → Bytes → Verdict
-keyword_step kept selector ps identifier x = check kept p7 (may_declare ps x) (pattern_more selector (ps ++ x ∷ []))
+keyword_step kept selector ps identifier x = check kept p7 (may_declare ps x)
+    (pattern_more selector (ps ++ x ∷ []))
 keyword_step kept selector ps _ x = stuck
 
 abbrev pub more_step : Kept → Bytes → List Bytes → Kind → Bytes → Verdict
 more_step kept selector ps keyword x = goes (pattern_keyword (selector ++ x) ps)
-more_step kept selector ps kind x = header_step kept (top (Some selector) ps [] no_statements) kind x
+more_step kept selector ps kind x = header_step kept
+    (top (Some selector) ps [] no_statements) kind x
 
 -- what becomes of a state by a token
-abbrev pub step : Kept → State → Word → Verdict
-step kept at_pattern (word kind x t) = pattern_step kind x
-step kept (pattern_operator selector) (word kind x t) = operator_step kept selector kind x
-step kept (pattern_keyword selector ps) (word kind x t) = keyword_step kept selector ps kind x
-step kept (pattern_more selector ps) (word kind x t) = more_step kept selector ps kind x
-step kept (header b) (word kind x t) = header_step kept b kind x
-step kept (in_temps b) (word kind x t) = temps_step kept b kind x
-step kept (begin b) (word kind x t) = begin_step kept b kind x
-step kept (ended b) (word kind x t) = ended_step b kind
-step kept (want k names) (word kind x t) = head_step kept k names kind x
-step kept (named k names y) (word kind x t) = named_step kept k names y kind x
-step kept (minus k names) w = minus_step k names w
-step kept (have k e next) (word kind x t) = have_step k e next kind x
-step kept (after_semicolon o e) (word kind x t) = cascade_step o e kind x
-step kept (in_params k names ps) (word kind x t) = params_step kept k names ps kind x
-step kept (param_wanted k names ps) (word kind x t) = param_step kept k names ps kind x
-step kept (in_elements n cs) (word kind x t) = elements_step kept n cs kind x
-step kept (element_minus n cs m) w = element_minus_step kept n cs m w
-step kept (element_run n cs run) w = element_run_step kept n cs run w
+abbrev pub machine_step : Kept → State → Word → Verdict
+machine_step kept at_pattern (word kind x t) = pattern_step kind x
+machine_step kept (pattern_operator selector) (word kind x t) = operator_step kept selector kind x
+machine_step kept (pattern_keyword selector ps)
+    (word kind x t) = keyword_step kept selector ps kind x
+machine_step kept (pattern_more selector ps) (word kind x t) = more_step kept selector ps kind x
+machine_step kept (header b) (word kind x t) = header_step kept b kind x
+machine_step kept (in_temps b) (word kind x t) = temps_step kept b kind x
+machine_step kept (begin b) (word kind x t) = begin_step kept b kind x
+machine_step kept (ended b) (word kind x t) = ended_step b kind
+machine_step kept (want k names) (word kind x t) = head_step kept k names kind x
+machine_step kept (named k names y) (word kind x t) = named_step kept k names y kind x
+machine_step kept (minus k names) w = minus_step k names w
+machine_step kept (have k e next) (word kind x t) = have_step k e next kind x
+machine_step kept (after_semicolon o e) (word kind x t) = cascade_step o e kind x
+machine_step kept (in_params k names ps) (word kind x t) = params_step kept k names ps kind x
+machine_step kept (param_wanted k names ps) (word kind x t) = param_step kept k names ps kind x
+machine_step kept (in_elements n cs) (word kind x t) = elements_step kept n cs kind x
+machine_step kept (element_minus n cs m) w = element_minus_step kept n cs m w
+machine_step kept (element_run n cs run) w = element_run_step kept n cs run w
 
 -- the tree, where the text may end here
 abbrev pub last : State → Option Program
@@ -408,7 +457,8 @@ last (pattern_more selector ps) = program_of (top (Some selector) ps [] no_state
 last (header b) = program_of b
 last (begin b) = program_of b
 last (ended b) = program_of b
-last (named k names y) = cond (is_super y) None (last_at (seat_of k) (closed k (bare names (name y))))
+last (named k names y) = cond (is_super y) None
+    (last_at (seat_of k) (closed k (bare names (name y))))
 last (have k e next) = last_at (seat_of k) (closed k e)
 last _ = None
 
@@ -441,33 +491,38 @@ bracket (in_elements n cs) = Some round
 bracket (element_minus n cs m) = Some round
 bracket (element_run n cs run) = Some round
 
--- the rule that a token breaks which can't come at all: it shows a missing bracket where that could stand here
-abbrev pub blame_of : Option Bracket → (square_bracket round_bracket : Verdict) → Rule
+-- the rule that a token breaks which can't come at all: it shows a missing bracket where that could
+-- stand here
+abbrev pub blame_of : Option Bracket → (square_bracket round_bracket : Verdict) → GrammarRule
 blame_of (Some square) (goes s) v = p5
 blame_of (Some round) v (goes s) = p6
 blame_of _ v w = p4
 
-abbrev pub blame : Kept → State → Rule
-blame kept s = blame_of (bracket s) (step kept s (word close_bracket (93 ∷ []) false)) (step kept s (word close_paren (41 ∷ []) false))
+abbrev pub blame : Kept → State → GrammarRule
+blame kept s = blame_of (bracket s) (machine_step kept s (word close_bracket (93 ∷ []) false))
+    (machine_step kept s (word close_paren (41 ∷ []) false))
 
--- Where the machine can't go on: the tokens that are left, and the rule that the first of them, or the end, breaks.
+-- Where the machine can't go on: the tokens that are left, and the rule that the first of them, or
+-- the end, breaks.
 pub record Fault : Type 0 where
   pub left : List Word
-  pub rule : Rule
+  pub rule : GrammarRule
 
-abbrev pub go : Rule → List Word → (State → Result Program Fault) → Verdict → Result Program Fault
+abbrev pub go : GrammarRule → List Word → (State → Result Program Fault) → Verdict
+    → Result Program Fault
 go rule ws on (goes s) = on s
 go rule ws on (breaks r) = Err (record { left = ws; rule = r })
 go rule ws on stuck = Err (record { left = ws; rule = rule })
 
-abbrev pub finish : Rule → Option Program → Result Program Fault
+abbrev pub finish : GrammarRule → Option Program → Result Program Fault
 finish rule (Some program) = Ok program
 finish rule None = Err (record { left = []; rule = rule })
 
 -- what the machine makes of these tokens from this state on
-abbrev pub run : Kept → State → List Word → Result Program Fault
-run kept s [] = finish (blame kept s) (last s)
-run kept s (w ∷ ws) = go (blame kept s) (w ∷ ws) (λ s'. run kept s' ws) (step kept s w)
+abbrev pub machine_run : Kept → State → List Word → Result Program Fault
+machine_run kept s [] = finish (blame kept s) (last s)
+machine_run kept s (w ∷ ws) = go (blame kept s) (w ∷ ws)
+    (λ s'. machine_run kept s' ws) (machine_step kept s w)
 
 -- where a text of this form begins
 abbrev pub start : Form → State

@@ -8,7 +8,7 @@ use Rattle.st_lexer.proofs.Sizes.{Inside, inside}
 use Rattle.st_lexer.proofs.Cuts.{Follows}
 use Rattle.st_lexer.proofs.PieceCuts.{token_cut, gap_cut}
 
--- the same text behind so many more bytes
+-- the same text after so many more bytes
 same_moved : (k at n : ℕ) (kind : Kind) (text : Bytes) (ts : List Token) → Lexes (k + at) text (record { kind = kind; from = k + at; to = (k + at) + n } ∷ ts) → Lexes (k + at) text (record { kind = kind; from = k + at; to = k + (at + n) } ∷ ts)
 same_moved k at n kind text ts h = subst (λ (m : ℕ). Lexes (k + at) text (record { kind = kind; from = k + at; to = m } ∷ ts)) (add_assoc k at n) h
 

@@ -14,7 +14,7 @@ and_false : (a : Bool) → (a && false) ≡ false
 and_false true = refl
 and_false false = refl
 
--- what stands behind the name that a text begins with
+-- what stands after the name that a text begins with
 abbrev pub behind_name : Bytes → Bytes
 behind_name text = drop (prefix_len is_name_byte text) text
 
@@ -26,7 +26,7 @@ behind_cons b bs h =
 behind_none : (b : ℕ) (bs : Bytes) → is_name_byte b ≡ false → behind_name (b ∷ bs) ≡ b ∷ bs
 behind_none b bs h = ap (λ v. drop (cond v (1 + prefix_len is_name_byte bs) 0) (b ∷ bs)) h
 
--- a name that has begun makes a keyword exactly where a keyword's end stands behind it
+-- a name that has begun makes a keyword exactly where a keyword's end stands after it
 keyword_by : (here b : ℕ) (bs : Bytes) (v : Bool) → 0 < here → is_name_byte b ≡ v → keywords here (b ∷ bs) ≡ cond v (keywords (here + 1) bs) (cond (nat_lt 0 here && is_keyword_end (b ∷ bs)) (here + 1 + keywords 0 bs) 0)
 keyword_by here b bs v some e = ap (λ t. cond t (keywords (here + 1) bs) (cond (nat_lt 0 here && is_keyword_end (b ∷ bs)) (here + 1 + keywords 0 bs) 0)) (goes_on here b some ∙ e)
 

@@ -9,7 +9,9 @@ mod pieces;
 mod quotes;
 #[cfg(test)]
 mod tests;
+mod token_values;
 mod words;
 
 pub use kinds::{LexFault, Token, TokenKind};
 pub use lex::tokens;
+pub use token_values::{character_value, number_value, string_value, symbol_value};

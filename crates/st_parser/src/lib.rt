@@ -13,7 +13,6 @@ mod scopes;
 mod stops;
 #[cfg(test)]
 mod tests;
-mod texts;
 
 pub use faults::ParseFault;
 pub use parse::{parse_chunk, parse_method};

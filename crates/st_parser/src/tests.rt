@@ -110,7 +110,8 @@ fn push_often(text: &mut Vec<u8>, piece: &[u8], count: usize) -> Result<(), Allo
     Ok(())
 }
 
-// A chunk of 65,536 bytes, of messages of each kind in a row and in parentheses that are nested 199 deep.
+// A chunk of 65,536 bytes, of messages of each kind in a row and in parentheses that are nested 199
+// deep.
 #[test]
 fn long(rt: HostRuntime) -> Result<(), Fail> {
     let alloc = rt.alloc();

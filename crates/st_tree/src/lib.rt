@@ -1,7 +1,7 @@
 //! Room: language. Has the trees of texts and their copies. Knows nothing of how a text is read.
 //!
-//! A contract sees a tree as plain data: an `Expr` as an `Expression`, a `Stat` as a `Statement`, a `Message`
-//! as a `Send`, a `BlockTree` as a `Closure` and a `Tree` as a `Program`.
+//! A contract sees a tree as plain data: an `Expr` as an `Expression`, a `Stat` as a `Statement`, a
+//! `Message` as a `Send`, a `BlockTree` as a `Closure` and a `Tree` as a `Program`.
 #![tactic(auto)]
 
 mod clones;

@@ -1,7 +1,8 @@
 //! Trees that are built, read back and copied.
 ghost use Rattle.std.specs.Prelude.{◌≡◌, [], ◌∷◌, codes, pos, IfOk};
 ghost use Rattle.st_tree.specs.Views.{constant_of};
-ghost use Rattle.st_tree.specs.Trees.{Expression, expression, constant, int, char, sym, array, constants, send, sends, expressions};
+ghost use Rattle.st_tree.specs.Trees.{Expression, expression, constant, int, char, sym, array};
+ghost use Rattle.st_tree.specs.Trees.{constants, send, sends, expressions};
 
 use crate::{BlockTree, Expr, Literal, Literals, Message, Primary, Stat, Tree};
 use std::alloc::{AllocError, Global};
@@ -15,7 +16,9 @@ fn int(alloc: Global, value: i64) -> Expr
 }
 
 fn message(alloc: Global, selector: &[u8], value: i64) -> Result<Message, AllocError>
-    ensures { IfOk result (λ m. m ≡ send selector.now (expressions (expression [] (constant (int value)) (sends []) (sends []) ∷ []))) }
+    ensures { IfOk result (λ m. m
+        ≡ send selector.now (expressions
+        (expression [] (constant (int value)) (sends []) (sends []) ∷ []))) }
 {
     Ok(Message {
         selector: Text::copy_of(alloc, selector)?,
@@ -27,8 +30,10 @@ fn message(alloc: Global, selector: &[u8], value: i64) -> Result<Message, AllocE
 #[tactic(auto, using(crate::proofs::Appends::appends))]
 fn greatest_of_sum(alloc: Global) -> Result<Expr, AllocError>
     ensures { IfOk result (λ e. e ≡ expression [] (constant (int (pos 3)))
-        (sends (send (codes "+") (expressions (expression [] (constant (int (pos 4))) (sends []) (sends []) ∷ []))
-        ∷ send (codes "max:") (expressions (expression [] (constant (int (pos 9))) (sends []) (sends []) ∷ [])) ∷ []))
+        (sends (send (codes "+")
+        (expressions (expression [] (constant (int (pos 4))) (sends []) (sends []) ∷ []))
+        ∷ send (codes "max:") (expressions
+        (expression [] (constant (int (pos 9))) (sends []) (sends []) ∷ [])) ∷ []))
         (sends [])) }
 {
     let mut expr = int(alloc, 3);
@@ -39,7 +44,8 @@ fn greatest_of_sum(alloc: Global) -> Result<Expr, AllocError>
 
 // `#(1 $a #b)`
 fn small_array(alloc: Global) -> Result<Literal, AllocError>
-    ensures { IfOk result (λ l. constant_of l ≡ array (constants (int (pos 1) ∷ char 97 ∷ sym (codes "b") ∷ []))) }
+    ensures { IfOk result (λ l. constant_of l
+        ≡ array (constants (int (pos 1) ∷ char 97 ∷ sym (codes "b") ∷ []))) }
 {
     let mut items = Vec::new(alloc);
     items.push(Literal::Int(1))?;
