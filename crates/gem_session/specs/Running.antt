@@ -2,7 +2,7 @@
 use Rattle.std.specs.Prelude.{◌≡◌, ℕ, ◌+◌, ◌-◌, ◌≤◌, ◌<◌, ◌⊎◌, Bool, true, false, not, List, ◌++◌, length, take, drop}
 use Rattle.std.specs.List.{AllByRecursion, filter, slice_get}
 use Rattle.texts.specs.Bytes.{Bytes}
-use Rattle.shell_words.specs.Script.{command_limit}
+use Rattle.profile.specs.declared.limits.TheConstants.{COMMAND_LIMIT}
 use Rattle.gem_replies.specs.declared.reply.Line.{Line}
 use Rattle.gem_replies.specs.declared.reply.Line.TheVariants.{NoMemory}
 use Rattle.shell_words.specs.Script.{is_logout}
@@ -16,7 +16,7 @@ use Rattle.gem_session.specs.declared.session.Session.{Session}
 
 -- the number of a command of a script, from 1
 abbrev pub IsCommandNumber : ℕ → Type 0
-IsCommandNumber number = (1 ≤ number) × (number < command_limit)
+IsCommandNumber number = (1 ≤ number) × (number < COMMAND_LIMIT)
 
 -- only chunks and methods are done within a transaction
 abbrev pub is_done_within : Command → Bool

@@ -4,7 +4,8 @@ ghost use Rattle.std.specs.List.{slice_get};
 ghost use Rattle.shell_words.specs.declared.script.Command.TheVariants.{Commit, Abort};
 ghost use Rattle.gem_meaning.specs.Events.{Opened, Event, commands_of};
 ghost use Rattle.gem_meaning.specs.Serial.{EndsTransaction};
-ghost use Rattle.shell_words.specs.Script.{HasShortText, most_bytes};
+ghost use Rattle.profile.specs.declared.limits.TheConstants.{CHUNK_LIMIT};
+ghost use Rattle.shell_words.specs.Script.{HasShortText};
 ghost use Rattle.stone_core.specs.Port.{IsAloneStill};
 ghost use Rattle.gem_session.specs.Running.{IsCommandNumber, MayBegin, StandsBefore, Begins, RanChunk, RanMethod, Extends, Replied};
 
@@ -105,7 +106,7 @@ impl Session {
 
     // Runs a chunk. Without memory it spoils the transaction.
     fn run(&mut self, alloc: Global, prints: bool, text: &Text) -> Line
-        requires { length text.now ≤ most_bytes }
+        requires { length text.now ≤ CHUNK_LIMIT }
         ensures { RanChunk prints text.now self.old result self.new }
     {
         match run_chunk(alloc, &mut self.state, prints, text.bytes()) {
@@ -119,7 +120,7 @@ impl Session {
 
     // Replies to a method. Without memory it spoils the transaction.
     fn method(&mut self, alloc: Global, text: &Text) -> Line
-        requires { length text.now ≤ most_bytes }
+        requires { length text.now ≤ CHUNK_LIMIT }
         ensures { RanMethod text.now self.old result self.new }
     {
         match method_line(alloc, text.bytes()) {

@@ -1,5 +1,5 @@
 ghost use Rattle.std.specs.Prelude.{◌≡◌, ◌≤◌, ◌∷◌, [], false, codes, length, IfOk};
-ghost use Rattle.shell_words.specs.Script.{most_bytes};
+ghost use Rattle.profile.specs.declared.limits.TheConstants.{CHUNK_LIMIT};
 ghost use Rattle.shell_words.specs.declared.script.Command.TheVariants.{Chunk, Commit};
 
 use super::*;
@@ -58,7 +58,7 @@ fn conflict_of_an_older_view(rt: HostRuntime) -> Result<(), Fail> {
 }
 
 fn session_that_runs(alloc: Global, chunk: &[u8]) -> Result<SessionScript, AllocError>
-    requires { length chunk.now ≤ most_bytes }
+    requires { length chunk.now ≤ CHUNK_LIMIT }
     ensures { IfOk result (λ session. session ≡ record { user = codes "A"; commands = Chunk false chunk.now ∷ Commit ∷ [] }) }
 {
     let user = Text::of(Vec::from_slice(alloc, b"A")?);
