@@ -6,7 +6,7 @@ use Rattle.shell_words.specs.ScriptGrammar.{ReadsScript, BreaksRule}
 use Rattle.shell_words.proofs.OneAnswer.{one_rule, never_both}
 use Rattle.gem_server.specs.declared.status.Status.{Status}
 use Rattle.gem_server.specs.declared.status.Status.TheVariants.{Done, Usage, Script, ReadFault, WriteFault, NoMemory}
-use Rattle.shell_words.specs.Rules.{script_rule_number, IsFault}
+use Rattle.shell_words.specs.Rules.{script_rule_number, IsScriptFault}
 use Rattle.shell_words.specs.declared.fault.ScriptFault.{ScriptFault}
 use Rattle.shell_words.specs.declared.fault.ScriptFault.TheVariants.{Rule, NoMemory as ShortOfMemory}
 use Rattle.gem_server.specs.Server.{WasRead, status_of}
@@ -51,7 +51,7 @@ out_of_memory : (text : Bytes) → Tells text NoMemory
 out_of_memory text line rule = (λ same. absurd cc, λ also. absurd also.0)
 
 -- the status tells why the text is no script, or that memory ran out
-pub fault_told : (text : Bytes) (fault : ScriptFault) (status : Status) → status ≡ status_of fault → IsFault text fault → Tells text status
+pub fault_told : (text : Bytes) (fault : ScriptFault) (status : Status) → status ≡ status_of fault → IsScriptFault text fault → Tells text status
 fault_told text (Rule line rule) status is breaks = refused text status line (script_rule_number rule) is breaks
 fault_told text ShortOfMemory status is breaks = subst (Tells text) (sym is) (out_of_memory text)
 

@@ -4,7 +4,7 @@ ghost use Rattle.std.specs.Io.KnownBytes.{Appends, Consumes};
 ghost use Rattle.gem_io.specs.Faults.{HasRisen};
 ghost use Rattle.shell_words.specs.Script.{SessionCommands};
 ghost use Rattle.shell_words.specs.ScriptGrammar.{ReadsScript, BreaksRule};
-ghost use Rattle.shell_words.specs.Rules.{IsFault};
+ghost use Rattle.shell_words.specs.Rules.{IsScriptFault};
 ghost use Rattle.gem_replies.specs.Report.{report_of};
 ghost use Rattle.gem_server.specs.Server.{IsServe, WasRead, IsWhole, HasRun, IsRunOf, IsRun, IsBlank};
 
@@ -27,7 +27,7 @@ use std::alloc::Global;
 pub fn serve_text(alloc: Global, text: &[u8]) -> Result<Served, ScriptFault>
     ensures legal_run { IfOk result (λ served. IsRunOf text.now served.events served.book) }
     ensures report_written { IfOk result (λ served. served.report.items ≡ report_of served.book) }
-    ensures script { IfErr result (IsFault text.now) }
+    ensures script { IfErr result (IsScriptFault text.now) }
 {
     let script = read_script(alloc, text)?;
     let (book, events) = run(alloc, script)?;

@@ -3,7 +3,7 @@ use Rattle.std.proofs.Common.{◌≡◌, ℕ, ◌+◌, ◌<◌, ◌≤◌, Bool,
 use Rattle.std.specs.List.{list_all}
 use Rattle.std.proofs.lemmas.List.Folds.{list_all-append}
 use Rattle.profile.specs.declared.limits.TheConstants.{SESSION_LIMIT}
-use Rattle.shell_words.specs.Script.{SessionCommands, HasShortText, is_logout, logout_is_last, takes_commands, with_command}
+use Rattle.shell_words.specs.Script.{SessionCommands, HasShortText, is_logout, logout_is_last, takes_commands, with_next_command}
 use Rattle.std.proofs.lemmas.Bool.Decides.{nat_tests}
 use Rattle.shell_words.specs.Names.{is_user_name}
 use Rattle.shell_words.specs.Reading.{session_of, sessions_of, IsWithin, IsDraft, IsReading}
@@ -18,12 +18,12 @@ takes-last (s ∷ []) last = refl
 takes-last (s ∷ t ∷ sessions) last = takes-last (t ∷ sessions) last
 
 pub with-last : (sessions : List SessionCommands) (last : SessionCommands) (command : Command)
-    → with_command (sessions ++ last ∷ []) command ≡ sessions ++ record { user = last.user; commands = last.commands ++ command ∷ [] } ∷ []
+    → with_next_command (sessions ++ last ∷ []) command ≡ sessions ++ record { user = last.user; commands = last.commands ++ command ∷ [] } ∷ []
 with-last [] last command = refl
 with-last (s ∷ []) last command = refl
 with-last (s ∷ t ∷ sessions) last command = ap (λ more. s ∷ more) (with-last (t ∷ sessions) last command)
 
-pub count-with : (sessions : List SessionCommands) (command : Command) → length (with_command sessions command) ≡ length sessions
+pub count-with : (sessions : List SessionCommands) (command : Command) → length (with_next_command sessions command) ≡ length sessions
 count-with [] command = refl
 count-with (s ∷ []) command = refl
 count-with (s ∷ t ∷ sessions) command = let more = count-with (t ∷ sessions) command in omega (arith, more)
@@ -67,7 +67,7 @@ more_commands r d e {lines = lines} c is current user more short later =
     }
 
 pub sessions_with : (r : Reading) (d : Draft) {items : List Command} (c : Command) → r.current ≡ Some d → items ≡ d.commands.items ++ c ∷ []
-    → r.ended.items ++ record { user = d.user; commands = items } ∷ [] ≡ with_command (sessions_of r) c
+    → r.ended.items ++ record { user = d.user; commands = items } ∷ [] ≡ with_next_command (sessions_of r) c
 sessions_with r d c current more = rw (current, more) (sym (with-last r.ended.items (session_of d) c))
 
 one_test : (b : Bool) → (true && (b && true)) ≡ b

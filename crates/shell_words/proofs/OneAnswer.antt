@@ -8,7 +8,7 @@ use Rattle.profile.specs.declared.limits.TheConstants.{SESSION_LIMIT, CHUNK_LIMI
 use Rattle.shell_words.specs.Lines.{lines_of, IsBody}
 use Rattle.shell_words.specs.Names.{is_user_name}
 use Rattle.shell_words.specs.Script.{SessionCommands, takes_commands}
-use Rattle.shell_words.specs.ScriptGrammar.{BeginsSession, SaysCommand, Adds, empty_line, session_line, command_line, chunk_lines, Leads, at_once, after, BreaksAt, command_outside, chunk_outside, chunk_without_end, long_chunk, one_session_more, no_user_name, is_script_byte, IsPlain, ReadsScript, HasOtherByte, StopsAt, BreaksRule, long_script, other_byte, at_line}
+use Rattle.shell_words.specs.ScriptGrammar.{BeginsSession, SaysCommand, Adds, empty_line, session_line, command_line, chunk_lines, Leads, at_once, after, BreaksAt, command_outside, chunk_outside, chunk_without_end, long_chunk, one_session_more, no_user_name, is_script_byte, IsPlain, ReadsScript, HasOtherByte, StopsAtLine, BreaksRule, long_script, other_byte, at_line}
 use Rattle.shell_words.specs.Reading.{command_of, LineSays}
 use Rattle.shell_words.specs.declared.script.Command.{Command}
 use Rattle.shell_words.specs.declared.table.Opening.{Opening}
@@ -206,7 +206,7 @@ no_other : {lines : List Bytes} {n : ℕ} → AllByRecursion IsPlain lines → H
 no_other all h = other_not_plain _ h.before h.rest h.line h.whole all h.other
 
 -- a stop is at one place
-one_stop : {lines : List Bytes} {m n rule broken_rule : ℕ} → StopsAt lines m rule → StopsAt lines n broken_rule → (m ≡ n) × (rule ≡ broken_rule)
+one_stop : {lines : List Bytes} {m n rule broken_rule : ℕ} → StopsAtLine lines m rule → StopsAtLine lines n broken_rule → (m ≡ n) × (rule ≡ broken_rule)
 one_stop {lines = lines} {rule = rule} {broken_rule = broken_rule} h k =
     let place = one_place h.read k.read (stuck_where_broken h.script h.line h.rest rule h.breaks) (stuck_where_broken k.script k.line k.rest broken_rule k.breaks) in
     let e : broken rule ≡ broken broken_rule = sym (breaks_outcome h.breaks) ∙ (there (sym place.0) (sym place.1) ∙ breaks_outcome k.breaks) in
@@ -217,7 +217,7 @@ one_stop {lines = lines} {rule = rule} {broken_rule = broken_rule} h k =
     let n_is = k.numbered in
     (omega (arith, left, first, second, m_is, n_is), same_rule e)
 
-no_stop : {lines : List Bytes} {script : List SessionCommands} {n rule : ℕ} → Leads [] lines script [] → StopsAt lines n rule → ⊥
+no_stop : {lines : List Bytes} {script : List SessionCommands} {n rule : ℕ} → Leads [] lines script [] → StopsAtLine lines n rule → ⊥
 no_stop {script = script} {rule = rule} leads h =
     let place = one_place leads h.read (stuck_at_end script) (stuck_where_broken h.script h.line h.rest rule h.breaks) in
     let none : [] ≡ h.line ∷ h.rest = place.1 in

@@ -6,8 +6,8 @@ use Rattle.texts.specs.Bytes.{Bytes}
 use Rattle.texts.specs.Lines.{text_of_lines}
 use Rattle.profile.specs.declared.limits.TheConstants.{SESSION_LIMIT, CHUNK_LIMIT}
 use Rattle.shell_words.specs.Lines.{is_space, line_words, IsInner, IsBody}
-use Rattle.shell_words.specs.Names.{is_identifier, is_user_name}
-use Rattle.shell_words.specs.Script.{SessionCommands, takes_commands, with_command}
+use Rattle.shell_words.specs.Names.{is_name, is_user_name}
+use Rattle.shell_words.specs.Script.{SessionCommands, takes_commands, with_next_command}
 use Rattle.shell_words.specs.ScriptGrammar.{BeginsSession, SaysCommand, BeginsChunk, IsChunkLine, Adds, empty_line, session_line, command_line, chunk_lines, BreaksAt, none_of_table, command_outside, chunk_outside, chunk_without_end, long_chunk, one_session_more, no_user_name}
 use Rattle.shell_words.specs.Reading.{command_of, LineSays, SaysNothing}
 use Rattle.shell_words.proofs.LineFronts.{one_part}
@@ -36,13 +36,13 @@ line_with (w ∷ []) =
     (cond (same w (codes "logout")) (Some (Orders Logout)) None))))
 line_with (w ∷ n ∷ []) =
     cond (same w (codes "session")) (cond (same n []) None (Some (Session n)))
-    (cond (is_identifier n)
+    (cond (is_name n)
     (cond (same w (codes "classmethod:")) (Some (Opens (OfMethod true n)))
     (cond (same w (codes "method:")) (Some (Opens (OfMethod false n)))
     (cond (same w (codes "unlock")) (Some (Orders (Unlock n))) None)))
     None)
 line_with (w ∷ m ∷ n ∷ []) =
-    cond (same w (codes "lock")) (cond (is_identifier n)
+    cond (same w (codes "lock")) (cond (is_name n)
     (cond (same m (codes "write")) (Some (Orders (Lock true n)))
     (cond (same m (codes "read")) (Some (Orders (Lock false n))) None)) None) None
 line_with (w ∷ m ∷ n ∷ o ∷ ws) = None
@@ -150,7 +150,7 @@ unfolding Decision
 session_words line w n is s true e = inr ((ap line_with is ∙ rw (s, e) refl))
 session_words line w n is s false e = inl (Session n, (is ∙ ap (λ v. v ∷ n ∷ []) (same-true w (codes "session") s), not_empty n e))
 
-name_words : (line w n : Bytes) → line_words line ≡ w ∷ n ∷ [] → same w (codes "session") ≡ false → (i c m u : Bool) → is_identifier n ≡ i
+name_words : (line w n : Bytes) → line_words line ≡ w ∷ n ∷ [] → same w (codes "session") ≡ false → (i c m u : Bool) → is_name n ≡ i
     → same w (codes "classmethod:") ≡ c → same w (codes "method:") ≡ m → same w (codes "unlock") ≡ u → Decision line
 unfolding Decision
 name_words line w n is s false c m u i p q r = inr ((ap line_with is ∙ rw (s, i) refl))
@@ -162,9 +162,9 @@ name_words line w n is s true false false false i p q r = inr ((ap line_with is 
 two_words : (line w n : Bytes) → line_words line ≡ w ∷ n ∷ [] → (s : Bool) → same w (codes "session") ≡ s → Decision line
 two_words line w n is true s = session_words line w n is s (same n []) refl
 two_words line w n is false s =
-    name_words line w n is s (is_identifier n) (same w (codes "classmethod:")) (same w (codes "method:")) (same w (codes "unlock")) refl refl refl refl
+    name_words line w n is s (is_name n) (same w (codes "classmethod:")) (same w (codes "method:")) (same w (codes "unlock")) refl refl refl refl
 
-three_words : (line w m n : Bytes) → line_words line ≡ w ∷ m ∷ n ∷ [] → (l i a b : Bool) → same w (codes "lock") ≡ l → is_identifier n ≡ i
+three_words : (line w m n : Bytes) → line_words line ≡ w ∷ m ∷ n ∷ [] → (l i a b : Bool) → same w (codes "lock") ≡ l → is_name n ≡ i
     → same m (codes "write") ≡ a → same m (codes "read") ≡ b → Decision line
 unfolding Decision
 three_words line w m n is false i a b l p q r = inr ((ap line_with is ∙ rw l refl))
@@ -269,13 +269,13 @@ pub data Outcome : Type 0 where
 abbrev pub chunk_outcome : List SessionCommands → Opening → Option (List Bytes × List Bytes) → Outcome
 chunk_outcome script opening None = broken 3
 chunk_outcome script opening (Some found) =
-    cond (nat_le (length (text_of_lines found.0)) CHUNK_LIMIT) (goes_on (with_command script (command_of opening (text_of_lines found.0))) found.1) (broken 4)
+    cond (nat_le (length (text_of_lines found.0)) CHUNK_LIMIT) (goes_on (with_next_command script (command_of opening (text_of_lines found.0))) found.1) (broken 4)
 
 abbrev pub line_outcome : List SessionCommands → Option ScriptLine → List Bytes → Outcome
 line_outcome script None rest = broken 1
 line_outcome script (Some (Session name)) rest =
     cond (is_user_name name) (cond (nat_lt (length script) SESSION_LIMIT) (goes_on (script ++ record { user = name; commands = [] } ∷ []) rest) (broken 5)) (broken 6)
-line_outcome script (Some (Orders command)) rest = cond (takes_commands script) (goes_on (with_command script command) rest) (broken 2)
+line_outcome script (Some (Orders command)) rest = cond (takes_commands script) (goes_on (with_next_command script command) rest) (broken 2)
 line_outcome script (Some (Opens opening)) rest = cond (takes_commands script) (chunk_outcome script opening (body_in rest)) (broken 2)
 
 abbrev pub outcome : List SessionCommands → List Bytes → Outcome
@@ -308,7 +308,7 @@ adds_outcome {script = script} {rest = rest} (command_line line command is says 
 adds_outcome {script = script} {rest = rest} (chunk_lines line command opened body is says takes found short longer) =
     let by = opening_of line (text_of_lines body) command says in
     let size = le_test (length (text_of_lines body)) CHUNK_LIMIT short in
-    let made = longer ∙ ap (with_command script) by.2 in
+    let made = longer ∙ ap (with_next_command script) by.2 in
     ap (outcome script) is ∙ (of_line script line opened (Opens by.0) by.1 ∙ rw (takes, is_body_in found, size, made) refl)
 
 pub breaks_outcome : {script : List SessionCommands} {line : Bytes} {rest : List Bytes} {rule : ℕ} → BreaksAt script line rest rule

@@ -7,9 +7,9 @@ use Rattle.texts.specs.NameBytes.{starts_name, is_name_byte}
 use Rattle.profile.specs.declared.limits.TheConstants.{USER_LIMIT}
 
 -- a letter or `_`, and then letters, digits and `_`
-abbrev pub is_identifier : Bytes → Bool
-is_identifier [] = false
-is_identifier (b ∷ bs) = starts_name b && list_all is_name_byte bs
+abbrev pub is_name : Bytes → Bool
+is_name [] = false
+is_name (b ∷ bs) = starts_name b && list_all is_name_byte bs
 
 -- a letter, and then letters and digits
 abbrev pub is_letters_and_digits : Bytes → Bool

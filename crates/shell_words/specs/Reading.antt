@@ -6,7 +6,7 @@ use Rattle.profile.specs.declared.limits.TheConstants.{SESSION_LIMIT}
 use Rattle.shell_words.specs.Names.{is_user_name}
 use Rattle.shell_words.specs.Rules.{script_rule_number}
 use Rattle.shell_words.specs.Script.{SessionCommands, HasShortText, logout_is_last, takes_commands}
-use Rattle.shell_words.specs.ScriptGrammar.{BeginsSession, SaysCommand, BeginsChunk, BreaksAt, StopsAt}
+use Rattle.shell_words.specs.ScriptGrammar.{BeginsSession, SaysCommand, BeginsChunk, BreaksAt, StopsAtLine}
 use Rattle.shell_words.specs.declared.script.Command.{Command}
 use Rattle.shell_words.specs.declared.script.Command.TheVariants.{Chunk, Method}
 use Rattle.shell_words.specs.declared.table.Opening.{Opening}
@@ -71,5 +71,5 @@ FaultAt number script line rest NoMemory = Unit {0}
 
 -- a fault of these lines
 abbrev pub FaultIn : List Bytes → ScriptFault → Type 0
-FaultIn lines (Rule line rule) = StopsAt lines line (script_rule_number rule)
+FaultIn lines (Rule line rule) = StopsAtLine lines line (script_rule_number rule)
 FaultIn lines NoMemory = Unit {0}

@@ -19,6 +19,6 @@ script_rule_number ScriptSize = 7
 script_rule_number ScriptBytes = 8
 
 -- a fault of the text: it breaks this rule first, at this line, or memory ran out
-abbrev pub IsFault : Bytes → ScriptFault → Type 0
-IsFault text (Rule line rule) = BreaksRule text line (script_rule_number rule)
-IsFault text NoMemory = Unit {0}
+abbrev pub IsScriptFault : Bytes → ScriptFault → Type 0
+IsScriptFault text (Rule line rule) = BreaksRule text line (script_rule_number rule)
+IsScriptFault text NoMemory = Unit {0}

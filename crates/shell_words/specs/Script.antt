@@ -47,8 +47,9 @@ takes_commands (session ∷ []) = list_all (λ command. not (is_logout command))
 takes_commands (session ∷ next ∷ sessions) = takes_commands (next ∷ sessions)
 
 -- the sessions with one more command of the last
-abbrev pub with_command : List SessionCommands → Command → List SessionCommands
-with_command [] command = []
-with_command (session ∷ []) command =
+abbrev pub with_next_command : List SessionCommands → Command → List SessionCommands
+with_next_command [] command = []
+with_next_command (session ∷ []) command =
     record { user = session.user; commands = session.commands ++ command ∷ [] } ∷ []
-with_command (session ∷ next ∷ sessions) command = session ∷ with_command (next ∷ sessions) command
+with_next_command (session ∷ next ∷ sessions) command =
+    session ∷ with_next_command (next ∷ sessions) command

@@ -5,8 +5,8 @@ use Rattle.texts.specs.Bytes.{Bytes}
 use Rattle.texts.specs.Lines.{text_of_lines}
 use Rattle.profile.specs.declared.limits.TheConstants.{SCRIPT_LIMIT, SESSION_LIMIT, CHUNK_LIMIT}
 use Rattle.shell_words.specs.Lines.{lines_of, line_words, IsInner, IsBody}
-use Rattle.shell_words.specs.Names.{is_identifier, is_user_name}
-use Rattle.shell_words.specs.Script.{SessionCommands, takes_commands, with_command}
+use Rattle.shell_words.specs.Names.{is_name, is_user_name}
+use Rattle.shell_words.specs.Script.{SessionCommands, takes_commands, with_next_command}
 use Rattle.shell_words.specs.declared.script.Command.{Command}
 use Rattle.shell_words.specs.declared.script.Command.TheVariants.{Chunk, Method, Commit, Abort, Logout, Lock, Unlock}
 
@@ -20,11 +20,11 @@ SaysCommand line Commit = line_words line ≡ codes "commit" ∷ []
 SaysCommand line Abort = line_words line ≡ codes "abort" ∷ []
 SaysCommand line Logout = line_words line ≡ codes "logout" ∷ []
 SaysCommand line (Lock true name) =
-    (line_words line ≡ codes "lock" ∷ codes "write" ∷ name ∷ []) × (is_identifier name ≡ true)
+    (line_words line ≡ codes "lock" ∷ codes "write" ∷ name ∷ []) × (is_name name ≡ true)
 SaysCommand line (Lock false name) =
-    (line_words line ≡ codes "lock" ∷ codes "read" ∷ name ∷ []) × (is_identifier name ≡ true)
+    (line_words line ≡ codes "lock" ∷ codes "read" ∷ name ∷ []) × (is_name name ≡ true)
 SaysCommand line (Unlock name) =
-    (line_words line ≡ codes "unlock" ∷ name ∷ []) × (is_identifier name ≡ true)
+    (line_words line ≡ codes "unlock" ∷ name ∷ []) × (is_name name ≡ true)
 SaysCommand line _ = ⊥
 
 -- The line begins a chunk or a method, and with this text that is this command. There is a case for
@@ -33,10 +33,10 @@ abbrev pub BeginsChunk : Bytes → Bytes → Command → Type 0
 BeginsChunk line text (Chunk true chunk) = (line_words line ≡ codes "printit" ∷ []) × (chunk ≡ text)
 BeginsChunk line text (Chunk false chunk) = (line_words line ≡ codes "run" ∷ []) × (chunk ≡ text)
 BeginsChunk line text (Method true class source) =
-    (line_words line ≡ codes "classmethod:" ∷ class ∷ []) × (is_identifier class ≡ true)
+    (line_words line ≡ codes "classmethod:" ∷ class ∷ []) × (is_name class ≡ true)
     × (source ≡ text)
 BeginsChunk line text (Method false class source) =
-    (line_words line ≡ codes "method:" ∷ class ∷ []) × (is_identifier class ≡ true)
+    (line_words line ≡ codes "method:" ∷ class ∷ []) × (is_name class ≡ true)
     × (source ≡ text)
 BeginsChunk line text _ = ⊥
 
@@ -56,15 +56,14 @@ pub data Adds (script : List SessionCommands) (lines : List Bytes) (longer : Lis
       → Adds script lines longer rest
   -- a command of the session that was begun and has no logout yet
   command_line : (line : Bytes) (command : Command) → lines ≡ line ∷ rest → SaysCommand line command
-      → takes_commands script ≡ true → longer ≡ with_command script command
+      → takes_commands script ≡ true → longer ≡ with_next_command script command
       → Adds script lines longer rest
-  -- a chunk of that session: its first line, the lines up to a line %, each with its LF, and that
-  -- line
+  -- a chunk of that session: its first line, the lines of its text, and a line %
   chunk_lines : (line : Bytes) (command : Command) (opened body : List Bytes)
       → lines ≡ line ∷ opened → BeginsChunk line (text_of_lines body) command
       → takes_commands script ≡ true
       → IsBody opened body rest → length (text_of_lines body) ≤ CHUNK_LIMIT
-      → longer ≡ with_command script command → Adds script lines longer rest
+      → longer ≡ with_next_command script command → Adds script lines longer rest
 
 -- Line by line one comes from the first two, sessions and lines, to the last two.
 pub data Leads : (script : List SessionCommands) (lines : List Bytes)
@@ -127,7 +126,7 @@ pub record HasOtherByte (lines : List Bytes) (number : ℕ) : Type 0 where
   pub other : list_all is_script_byte line ≡ false
 
 -- The lines before the one of this number are sessions, and that line breaks the rule.
-pub record StopsAt (lines : List Bytes) (number rule : ℕ) : Type 0 where
+pub record StopsAtLine (lines : List Bytes) (number rule : ℕ) : Type 0 where
   pub before : List Bytes
   pub line : Bytes
   pub rest : List Bytes
@@ -146,4 +145,4 @@ pub data BreaksRule (text : Bytes) (line rule : ℕ) : Type 0 where
       → BreaksRule text line rule
   -- S1 to S6, line by line
   at_line : length text ≤ SCRIPT_LIMIT → AllByRecursion IsPlain (lines_of text)
-      → StopsAt (lines_of text) line rule → BreaksRule text line rule
+      → StopsAtLine (lines_of text) line rule → BreaksRule text line rule

@@ -5,9 +5,9 @@ ghost use Rattle.texts.specs.Bytes.{Bytes};
 ghost use Rattle.profile.specs.declared.limits.TheConstants.{COMMAND_LIMIT};
 ghost use Rattle.shell_words.specs.Lines.{lines_of};
 ghost use Rattle.shell_words.specs.Names.{is_user_name};
-ghost use Rattle.shell_words.specs.Script.{HasShortText, is_logout, with_command};
+ghost use Rattle.shell_words.specs.Script.{HasShortText, is_logout, with_next_command};
 ghost use Rattle.shell_words.specs.ScriptGrammar.{BeginsSession, Adds, Leads, ReadsScript, HasOtherByte, IsPlain, is_script_byte};
-ghost use Rattle.shell_words.specs.Rules.{IsFault};
+ghost use Rattle.shell_words.specs.Rules.{IsScriptFault};
 ghost use Rattle.shell_words.specs.Reading.{command_of, LineSays, sessions_of, IsDraft, IsReading, FaultAt, FaultIn};
 
 use crate::fault::ScriptFault;
@@ -40,7 +40,7 @@ struct Reading {
 /// `Rule` exactly where the text is no script: the line and the rule that it breaks first.
 /// `NoMemory` where memory ran out.
 pub fn read_script(alloc: Global, text: &[u8]) -> Result<Script, ScriptFault>
-    ensures { MatchResult result (ReadsScript text.now) (IsFault text.now) }
+    ensures { MatchResult result (ReadsScript text.now) (IsScriptFault text.now) }
 {
     if text.len() > SCRIPT_LIMIT {
         return Err(ScriptFault::too_long());
@@ -206,7 +206,7 @@ impl Reading {
         requires some { 0 < lines }
         requires count { self.old.lines + lines ≤ SCRIPT_LIMIT }
         ensures sessions { OnOk result (sessions_of self.new
-            ≡ with_command (sessions_of self.old) command) }
+            ≡ with_next_command (sessions_of self.old) command) }
         ensures reading { OnOk result (IsReading self.new) }
         ensures lines { OnOk result (self.new.lines ≡ self.old.lines + lines) }
     {

@@ -4,7 +4,7 @@ ghost use Rattle.std.specs.List.{list_all};
 ghost use Rattle.std.specs.Char.{is_ascii_alphanumeric};
 ghost use Rattle.texts.specs.Bytes.{Bytes};
 ghost use Rattle.shell_words.specs.Lines.{line_words};
-ghost use Rattle.shell_words.specs.Names.{is_identifier, is_letters_and_digits, is_user_name};
+ghost use Rattle.shell_words.specs.Names.{is_name, is_letters_and_digits, is_user_name};
 ghost use Rattle.shell_words.specs.Reading.{SaysNothing, LineSays};
 
 use crate::pieces::split_word;
@@ -78,7 +78,7 @@ fn name_line(alloc: Global, word: &[u8], name: &[u8]) -> Result<Option<ScriptLin
     if word == b"session".as_slice() {
         return session_line(alloc, name);
     }
-    if !is_identifier(name) {
+    if !is_name(name) {
         return Ok(None);
     }
     let name = Text::copy_of(alloc, name)?;
@@ -118,7 +118,7 @@ fn lock_line(
     ensures { (line : Bytes) → line_words line ≡ word.now ∷ mode.now ∷ name.now ∷ []
         → IfOk result (λ found. MatchOption found (SaysNothing line) (LineSays line)) }
 {
-    if word != b"lock".as_slice() || !is_identifier(name) {
+    if word != b"lock".as_slice() || !is_name(name) {
         return Ok(None);
     }
     let name = Text::copy_of(alloc, name)?;
@@ -131,8 +131,8 @@ fn lock_line(
     }
 }
 
-fn is_identifier(name: &[u8]) -> bool
-    ensures { result ≡ is_identifier name.now }
+fn is_name(name: &[u8]) -> bool
+    ensures { result ≡ is_name name.now }
 {
     match name.split_first() {
         Some((first, rest)) => starts_name(*first) && are_name_bytes(rest),

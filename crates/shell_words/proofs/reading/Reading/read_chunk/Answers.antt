@@ -1,6 +1,6 @@
 use Rattle.std.proofs.Common.{rules, ◌≡◌, ◌<◌, ◌≤◌, true, false, length, is_some, refl, ap, ◌∙◌}
 use Rattle.profile.specs.declared.limits.TheConstants.{CHUNK_LIMIT}
-use Rattle.shell_words.specs.Script.{with_command}
+use Rattle.shell_words.specs.Script.{with_next_command}
 use Rattle.shell_words.specs.ScriptGrammar.{chunk_outside, chunk_without_end, long_chunk, chunk_lines}
 use Rattle.shell_words.specs.Reading.{command_of, sessions_of}
 use Rattle.shell_words.proofs.Outcomes.{of_any_text, is_chunk_line}
@@ -35,4 +35,4 @@ returns-clause-ok c line says =
     let command : c.command_of.result ≡ command_of c.args.opening (text_of_lines found.0) =
     c.command_of.ensures ∙ ap (λ t. command_of c.args.opening t) (c.of.ensures ∙ found.2) in
     chunk_lines line (command_of c.args.opening (text_of_lines found.0)) (lines_of c.args.after.now) found.0 refl (of_any_text line (text_of_lines found.0) c.args.opening says) (c.requires.reading.takes ∙ some) found.1 (rw found.2 at size)
-    (c.in_ok-order.ensures.sessions ∙ ap (λ k. with_command (sessions_of c.args.self.now) k) command)
+    (c.in_ok-order.ensures.sessions ∙ ap (λ k. with_next_command (sessions_of c.args.self.now) k) command)
