@@ -1,5 +1,4 @@
--- Counts of faults. A count stands still at the end of its type, where it counts as risen in each
--- call.
+-- Counts of faults. A count stays at the end of its type, and then counts as risen in each call.
 use Rattle.std.specs.Prelude.{◌≡◌, ℕ, ◌+◌, ◌-◌, ◌^◌, ◌≤◌, min, Result, OnOk, OnErr}
 
 -- the last value of a count

@@ -12,7 +12,7 @@ pub record Reading : Type 0 where
   pub failures : ℕ
 
 -- A sink: the bytes that it took, the calls so far, the numbers of the calls that are to fail, the
--- count of failures by these numbers, and the count of failures for want of memory.
+-- count of failures by these numbers, and the count of failures where memory ran out.
 pub record Writing : Type 0 where
   pub written : List ℕ
   pub calls : ℕ
@@ -20,7 +20,7 @@ pub record Writing : Type 0 where
   pub refused : ℕ
   pub starved : ℕ
 
--- whether the call after so many is one of those that are to fail
+-- whether the next call, after this number of calls, is one of those that are to fail
 abbrev pub is_to_fail : List ℕ → ℕ → Bool
 is_to_fail fails calls = list_any (λ number. number == next_count calls) fails
 
@@ -28,7 +28,7 @@ is_to_fail fails calls = list_any (λ number. number == next_count calls) fails
 abbrev pub failures_of : Writing → ℕ
 failures_of w = min (w.refused + w.starved) last_count
 
--- a source after a call that gave so many bytes
+-- a source after a call that gave n bytes
 abbrev pub after_pull : ℕ → Reading → Reading
 after_pull n old = record old { left = drop n old.left; calls = next_count old.calls }
 
@@ -37,8 +37,9 @@ abbrev pub after_failure : Reading → Reading
 after_failure old =
     record old { calls = next_count old.calls; failures = next_count old.failures }
 
--- The next call of a source with room for so many bytes: it fails exactly where it is to fail, and
--- then the bytes stay. Otherwise it moves as many bytes as there are and as there is room for.
+-- The next call of a source, with room for this number of bytes: it fails exactly where it is to
+-- fail, and then the bytes stay. Otherwise it moves as many bytes as there are and as there is room
+-- for.
 abbrev pub Pulls : {E : Type 0} → Reading → ℕ → Result ℕ E → Reading → Type 0
 Pulls old room result new = MatchBool (is_to_fail old.fails old.calls)
     (IsErr result × (new ≡ after_failure old))

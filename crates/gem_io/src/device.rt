@@ -29,8 +29,8 @@ pub trait Source {
     /// The bytes that are still to come, where the source tells them.
     ghost left: { Self → Option (List ℕ) };
 
-    /// How often the source has failed. At 2^64 - 1 the count stands still, and counts as risen
-    /// in each call.
+    /// How often the source has failed. The count stays at 2^64 - 1, and then counts as risen in
+    /// each call.
     ghost faults: { Self → ℕ };
 
     /// Moves the next bytes to the front of `out`, which isn't empty, and says how many: 0 only at
@@ -48,7 +48,7 @@ pub trait Sink {
     /// The bytes that the sink has taken, where it tells them.
     ghost written: { Self → Option (List ℕ) };
 
-    /// How often the sink has failed. At 2^64 - 1 the count stands still, and counts as risen in
+    /// How often the sink has failed. The count stays at 2^64 - 1, and then counts as risen in
     /// each call.
     ghost faults: { Self → ℕ };
 

@@ -116,7 +116,7 @@ impl MemSink {
         }
     }
 
-    /// How often a piece found no memory, up to 2^64 - 1.
+    /// How often a piece found no memory, 2^64 - 1 at most.
     pub fn starved(&self) -> u64
         ensures { result ≡ self.now.starved }
     {

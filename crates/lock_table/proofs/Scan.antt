@@ -22,7 +22,7 @@ module _ (session oid : ℕ) (kind : LockKind) where
   abbrev pub stands_in_the_way : Holding × LockKind → Bool
   stands_in_the_way entry = not (entry.0.session == session) && (is_write kind || is_write entry.1)
 
-  -- the first entry of the object whose session is in the way, up to the first entry of another object
+  -- the first entry of the object whose session is in the way, before the first entry of another object
   abbrev pub scan : Entries → Option (ℕ × LockKind)
   scan [] = None
   scan (entry ∷ entries) = if entry.0.oid == oid then (if stands_in_the_way entry then Some (holder_of entry) else scan entries) else None

@@ -1,7 +1,7 @@
 -- Locks that sessions were granted one after another.
 use Rattle.std.specs.Prelude.{◌≡◌, ◌≢◌, ℕ, List, [], ◌∷◌, Some}
 use Rattle.std.specs.FinMap.{empty}
-use Rattle.lock_table.specs.Locks.{LockSet, kind_held, LockEvent, Held, Dropped, Left, after_event, IsInTheWay}
+use Rattle.lock_table.specs.Locks.{LockSet, kind_held, LockEvent, Held, Dropped, Left, locks_after_event, IsInTheWay}
 use Rattle.lock_table.specs.declared.lock.LockKind.{LockKind}
 use Rattle.lock_table.specs.declared.lock.LockKind.TheVariants.{Read}
 
@@ -16,7 +16,7 @@ MayFollow locks (Left session) = Unit {0}
 abbrev pub AreGrantedFrom : LockSet → List LockEvent → Type 0
 AreGrantedFrom locks [] = Unit {0}
 AreGrantedFrom locks (event ∷ later) =
-    MayFollow locks event × AreGrantedFrom (after_event locks event) later
+    MayFollow locks event × AreGrantedFrom (locks_after_event locks event) later
 
 -- the same where there were no locks before
 abbrev pub AreGranted : List LockEvent → Type 0

@@ -47,14 +47,14 @@ pub data LockEvent : Type 0 where
   Left : (session : ℕ) → LockEvent
 
 -- the locks after one event
-abbrev pub after_event : LockSet → LockEvent → LockSet
-after_event locks (Held session oid kind) = after_held locks session oid kind
-after_event locks (Dropped session oid) = after_dropped locks session oid
-after_event locks (Left session) = after_left locks session
+abbrev pub locks_after_event : LockSet → LockEvent → LockSet
+locks_after_event locks (Held session oid kind) = after_held locks session oid kind
+locks_after_event locks (Dropped session oid) = after_dropped locks session oid
+locks_after_event locks (Left session) = after_left locks session
 
 -- the locks after events, where there were none before
 abbrev pub locks_after : List LockEvent → LockSet
-locks_after events = fold after_event empty events
+locks_after events = fold locks_after_event empty events
 
 -- ---- who is in the way
 

@@ -42,7 +42,7 @@ impl Locks {
 
     /// Asks for a lock on an object. The request is denied exactly where another session holds the
     /// object and one of the two kinds is `Write`. A session that holds the object already keeps
-    /// the greater of the two kinds, and then there is no want of memory. A refusal and `NoMemory`
+    /// the greater of the two kinds, and then needs no memory. A refusal and `NoMemory`
     /// change nothing.
     pub fn request(&mut self, session: u32, oid: u64, kind: LockKind) -> Asked
         ensures denied { (holder : ℕ) (held : LockKind) → (result ≡ Asked.Denied holder held)

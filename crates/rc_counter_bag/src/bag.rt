@@ -46,14 +46,14 @@ impl<T: Ord + Clone + Drop> Bag<T> {
         &self.pairs
     }
 
-    /// How often the item occurs. A count stands still at 2^64 - 1.
+    /// How often the item occurs. A count stays at 2^64 - 1 once it is there.
     pub fn count(&self, item: &T) -> u64
         ensures { result ≡ count T.cmp item.now self.now }
     {
         pairs::count(&self.pairs, item)
     }
 
-    /// All occurrences of all items. The sum stands still at 2^64 - 1.
+    /// All occurrences of all items. It is 2^64 - 1 at most.
     pub fn size(&self) -> u64
         ensures { result ≡ size self.now }
     {

@@ -6,13 +6,13 @@ use Rattle.rc_queue.specs.Contents.{Contents}
 use Rattle.rc_queue.specs.declared.update.QueueUpdate.{QueueUpdate}
 use Rattle.rc_queue.specs.declared.update.QueueUpdate.TheVariants.{Add, Remove}
 
--- where the count of removals stands still: at the end of its 64 bits
+-- the greatest count of removals: it stays there
 abbrev pub most_removals : ℕ
 most_removals = 2 ^ 64 - 1
 
 -- one removal more
-abbrev pub one_more : ℕ → ℕ
-one_more removed = min (removed + 1) most_removals
+abbrev pub one_removal_more : ℕ → ℕ
+one_removal_more removed = min (removed + 1) most_removals
 
 module _ {T : Type 0} where
   -- the update is a removal
@@ -61,7 +61,7 @@ module _ {T : Type 0} where
     without_front item removed [] = None
     without_front item removed (front ∷ rest) =
         if is_eq (cmp front item)
-        then Some (record { removed = one_more removed; items = rest })
+        then Some (record { removed = one_removal_more removed; items = rest })
         else None
 
     -- the queue after the update, or None where the update is refused

@@ -34,7 +34,7 @@ impl<T: Ord + Clone + Drop> Queue<T> {
         }
     }
 
-    /// How often the front was removed. The count stands still at 2^64 - 1.
+    /// How often the front was removed. The count stays at 2^64 - 1 once it is there.
     pub fn removed(&self) -> u64
         ensures { result ≡ self.now.removed }
     {
@@ -145,7 +145,7 @@ impl<T: Ord + Clone + Drop> Queue<T> {
         }
     }
 
-    // Applies the updates in order, up to the first that is refused.
+    // Applies the updates in order, until one is refused.
     fn replay(&mut self, updates: &[QueueUpdate<T>]) -> Result<(), QueueFault>
         requires { (x y : T) → T.is_clone x y → y ≡ x }
         ensures ok { OnOk result (replayed T.cmp 0 updates.now self.old ≡ Ok self.new) }
