@@ -15,7 +15,8 @@ use Rattle.gem_meaning.specs.declared.event.What.{What}
 use Rattle.gem_meaning.specs.declared.event.What.TheVariants.{Placed}
 use Rattle.gem_meaning.specs.Transaction.{Run, transaction, written_of}
 
--- What the Stone was opened with: an image, the number of commits in it, and the script that is served.
+-- What the Stone was opened with: an image, the number of commits in it, and the script that is
+-- served.
 pub record Opened : Type 0 where
   pub image : Image
   pub number : ℕ
@@ -58,7 +59,8 @@ commands_of script session = commands_or_none (slice_get script (session - 1))
 
 -- the commands of a transaction: from its first to its last one, whose numbers count from 1
 abbrev pub entry_commands : List SessionCommands → Entry → List Command
-entry_commands script e = drop (e.first_command - 1) (take e.last_command (commands_of script e.session))
+entry_commands script e =
+    drop (e.first_command - 1) (take e.last_command (commands_of script e.session))
 
 -- The image with so many commits, up to the number that stands. For a number without an image it is
 -- the one that stands.
@@ -129,4 +131,6 @@ globals = oid_number KERNEL_SERIAL GLOBALS_COUNTER
 -- C1: in this stage there is one, and only where a commit came after the view.
 abbrev pub conflicts_at : Opened → Standing → Entry → Run → List Conflict
 conflicts_at o s e run =
-    if nat_lt e.view s.number then record { oid = globals; kind = WriteWrite; shown = s.number } ∷ [] else []
+    if nat_lt e.view s.number
+    then record { oid = globals; kind = WriteWrite; shown = s.number } ∷ []
+    else []

@@ -1,5 +1,5 @@
--- The chunks that have a meaning in this stage: statements of whole numbers, global names, the messages + - * and
--- parentheses, and `Globals at: #NAME put:` with such an expression.
+-- The chunks that have a meaning in this stage: statements of whole numbers, global names, the
+-- messages + - * and parentheses, and `Globals at: #NAME put:` with such an expression.
 use Rattle.std.specs.Prelude.{Bool, true, false, not, ◌&&◌, codes, List, [], ◌∷◌, Option, Some, None, is_some, ℤ, pos, negsuc, ◌^◌, nat_lt}
 use Rattle.std.specs.List.{list_all}
 use Rattle.std.specs.Str.{bytes_eq}
@@ -23,13 +23,15 @@ abbrev pub symbol_of : Expression → Option Bytes
 symbol_of (expression [] (constant (sym n)) no_sends no_sends) = Some n
 symbol_of _ = None
 
--- the name and the expression of a put, where the head and the selector are those of a put, and the first argument is this symbol
+-- the name and the expression of a put, where the head and the selector are those of a put, and the
+-- first argument is this symbol
 abbrev pub put_with : Bool → Option Bytes → Expression → Option (Bytes × Expression)
 put_with true (Some n) value = Some (n, value)
 put_with true None value = None
 put_with false key value = None
 
--- the name and the expression of a message to a global, where it is `at: #NAME put: expression` to `Globals`
+-- the name and the expression of a message to a global, where it is `at: #NAME put: expression` to
+-- `Globals`
 abbrev pub put_message : Bytes → Send → Option (Bytes × Expression)
 put_message g (send s (an_expression key (an_expression value no_expressions))) =
     put_with (bytes_eq g (codes "Globals") && bytes_eq s (codes "at:put:")) (symbol_of key) value
@@ -62,10 +64,12 @@ abbrev mutual
   are_operations (a_send message messages) = is_operation message && are_operations messages
 
   pub is_operation : Send → Bool
-  is_operation (send selector (an_expression argument no_expressions)) = is_some (operation_with selector) && is_arithmetic argument
+  is_operation (send selector (an_expression argument no_expressions)) =
+      is_some (operation_with selector) && is_arithmetic argument
   is_operation _ = false
 
--- the expression of a statement is a put of such a name and such an expression, or itself such an expression
+-- the expression of a statement is a put of such a name and such an expression, or itself such an
+-- expression
 abbrev pub is_put : Option (Bytes × Expression) → Bool → Bool
 is_put (Some (n, value)) plain = is_global_name n && is_arithmetic value
 is_put None plain = plain
@@ -92,4 +96,6 @@ is_no_name (n ∷ ns) = false
 
 -- a chunk that has a meaning in this stage
 abbrev pub is_chunk : Program → Bool
-is_chunk tree = is_no_selector tree.selector && is_no_name tree.params && is_no_name tree.temps && is_some_statement tree.body && are_steps tree.body
+is_chunk tree =
+    is_no_selector tree.selector && is_no_name tree.params && is_no_name tree.temps
+    && is_some_statement tree.body && are_steps tree.body

@@ -6,12 +6,13 @@ use Rattle.gem_replies.specs.declared.reply.Line.TheVariants.{NoMemory}
 use Rattle.gem_replies.specs.declared.reply.Reply.{Reply}
 use Rattle.gem_replies.specs.declared.reply.Transcript.{Transcript}
 use Rattle.gem_replies.specs.declared.reply.RunBook.{RunBook}
-use Rattle.gem_meaning.specs.Events.{Event, Told, base_serial, after_events, entries_of, events_of}
+use Rattle.gem_meaning.specs.Events.{Event, Told, base_serial, entries_of, events_of, standing}
 use Rattle.gem_meaning.specs.Serial.{IsConsistent}
 use Rattle.gem_meaning.specs.Session.{Says, TellsLogin}
 
 -- the transcript is what the session with this number says
-pub record IsTranscript (t : Told) (number : ℕ) (session : SessionCommands) (transcript : Transcript) : Type 0 where
+pub record IsTranscript (t : Told) (number : ℕ) (session : SessionCommands)
+    (transcript : Transcript) : Type 0 where
   pub session_is : transcript.session ≡ number
   pub user_is : transcript.user ≡ session.user
   pub says : Says t number session transcript.replies
@@ -53,10 +54,11 @@ told_before session t = record t { events = events_before session t.events }
 
 -- A session's turn: its events follow those of the sessions before it, its login tells the number
 -- that stands after these, and what it says it says by these and its own alone.
-pub record IsTurn (t : Told) (session : ℕ) (script : SessionCommands) (transcript : Transcript) : Type 0 where
+pub record IsTurn (t : Told) (session : ℕ) (script : SessionCommands)
+    (transcript : Transcript) : Type 0 where
   pub order : events_before (session + 1) t.events
       ≡ events_before session t.events ++ events_of session t.events
-  pub login : TellsLogin (after_events t.opened (events_before session t.events)).number transcript.replies
+  pub login : TellsLogin (standing (told_before session t)).number transcript.replies
   pub says : Says (told_before (session + 1) t) session script transcript.replies
 
 -- The sessions, whose numbers go on from this one, took turns in the order of the script.

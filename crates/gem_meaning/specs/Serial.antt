@@ -12,7 +12,8 @@ use Rattle.gem_meaning.specs.declared.event.What.TheVariants.{Placed}
 use Rattle.gem_meaning.specs.Transaction.{written_of, result_of}
 use Rattle.gem_meaning.specs.Events.{Opened, Event, Told, commands_of, entry_commands, run_at_place, run_on_view, after_events, standing}
 
--- the command is there and may end a transaction: an abort, or a commit, which may also have been refused
+-- the command is there and may end a transaction: an abort, or a commit, which may also have been
+-- refused
 abbrev pub EndsTransaction : Option Command → Type 0
 EndsTransaction (Some Commit) = Unit {0}
 EndsTransaction (Some Abort) = Unit {0}
@@ -30,7 +31,8 @@ MayGoOn _ = Unit {0}
 pub record IsTransaction (script : List SessionCommands) (e : Entry) : Type 0 where
   pub session : (1 ≤ e.session) × (e.session ≤ length script)
   pub first : (e.first_command ≡ 1)
-      ⊎ ((2 ≤ e.first_command) × EndsTransaction (slice_get (commands_of script e.session) (e.first_command - 2)))
+      ⊎ ((2 ≤ e.first_command)
+      × EndsTransaction (slice_get (commands_of script e.session) (e.first_command - 2)))
   pub order : e.first_command ≤ e.last_command
   pub last : slice_get (commands_of script e.session) (e.last_command - 1) ≡ Some Commit
   pub whole : AllByRecursion MayGoOn (entry_commands script e)
@@ -40,8 +42,8 @@ abbrev pub EndedBefore : (session first : ℕ) → Event → Type 0
 EndedBefore session first (author, Placed e) = author ≡ session → e.last_command < first
 
 -- The entry is a transaction of this session, placed after these events: its view is one that there
--- was, no earlier entry of the session names one of its commands, and at its place it gives all that
--- it gives where all stands as at its view.
+-- was, no earlier entry of the session names one of its commands, and at its place it gives all
+-- that it gives where all stands as at its view.
 pub record IsPlaced (o : Opened) (before : List Event) (session : ℕ) (e : Entry) : Type 0 where
   pub of_session : e.session ≡ session
   pub of_script : IsTransaction o.script e

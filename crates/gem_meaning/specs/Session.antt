@@ -20,7 +20,10 @@ use Rattle.gem_meaning.specs.Events.{Opened, Event, Told, run_on_view, after_eve
 -- the object of the user with this name, who may log in where this image stands: in this stage one
 -- user, whose profile the kernel has
 abbrev pub user_in : Image → Bytes → Option ℕ
-user_in image user = if bytes_eq user (codes "DataCurator") then Some (oid_number KERNEL_SERIAL DATA_CURATOR_COUNTER) else None
+user_in image user =
+    if bytes_eq user (codes "DataCurator")
+    then Some (oid_number KERNEL_SERIAL DATA_CURATOR_COUNTER)
+    else None
 
 -- What a session carries from command to command.
 pub record SessionState : Type 0 where
@@ -87,6 +90,15 @@ pub record CommandPlace : Type 0 where
   pub before : List Event
   pub after : List Event
 
+-- the place of a command between two points of all events
+abbrev pub place_between : Told → (number p q : ℕ) → CommandPlace
+place_between t number p q = record {
+  opened = t.opened;
+  number = number;
+  before = take p t.events;
+  after = take q t.events;
+}
+
 -- only events of others came, and this is the number that stands
 abbrev pub SeesNumber : Opened → ℕ → (before after : List Event) → ℕ → Type 0
 SeesNumber o session before after number =
@@ -102,7 +114,8 @@ IsMeant true so_far meaning lines = (some : State) × (lines ≡ (meaning some).
 abbrev pub RunSays : CommandPlace → Command → SessionState → List Line → SessionState → Type 0
 RunSays at c s lines s' = (at.after ≡ at.before)
     × (((lines ≡ NoMemory ∷ []) × (s' ≡ record s { spoiled = true }))
-    ⊎ (IsMeant s.spoiled (run_so_far at.opened at.before at.number s).state (run_command c) lines × (s' ≡ s)))
+    ⊎ (IsMeant s.spoiled (run_so_far at.opened at.before at.number s).state (run_command c) lines
+    × (s' ≡ s)))
 
 -- The commit was placed, as the session's own event, after events of others. It had written
 -- something, and had no conflict there. More events of others came, and the next transaction sees
@@ -148,11 +161,13 @@ OneReply lines IsIt = (line : Line) × (lines ≡ line ∷ []) × IsIt line
 -- The replies to a command, and what the session carries then. Locks aren't built yet.
 abbrev pub CommandSays : CommandPlace → SessionState → Command → List Line → SessionState → Type 0
 CommandSays at s (Chunk prints text) lines s' = RunSays at (Chunk prints text) s lines s'
-CommandSays at s (Method class_side class text) lines s' = RunSays at (Method class_side class text) s lines s'
+CommandSays at s (Method class_side class text) lines s' =
+    RunSays at (Method class_side class text) s lines s'
 CommandSays at s Commit lines s' = OneReply lines (λ line. CommitReply at s line s')
 CommandSays at s Abort lines s' = OneReply lines (λ line. AbortReply at s line s')
 CommandSays at s Logout lines s' = OneReply lines (λ line. PlainReply LoggedOut at s line s')
-CommandSays at s (Lock write name) lines s' = OneReply lines (λ line. PlainReply NotBuilt at s line s')
+CommandSays at s (Lock write name) lines s' =
+    OneReply lines (λ line. PlainReply NotBuilt at s line s')
 CommandSays at s (Unlock name) lines s' = OneReply lines (λ line. PlainReply NotBuilt at s line s')
 
 -- a reply, with the number of its command
@@ -175,10 +190,11 @@ pub record SaysOne (t : Told) (number p : ℕ) (s : SessionState) (c : Command) 
   pub from : p ≤ point
   pub within : point ≤ length t.events
   pub replies : rs ≡ replies_with number lines ++ more
-  pub says : CommandSays (record { opened = t.opened; number = number; before = take p t.events; after = take point t.events }) s c lines next
+  pub says : CommandSays (place_between t number p point) s c lines next
   pub rest : Rest point next more
 
--- The replies to commands whose numbers go on from `number`, from point `p` of all events to point `q`.
+-- The replies to commands whose numbers go on from `number`, from point `p` of all events to point
+-- `q`.
 abbrev pub CommandsSay : Told → (number p q : ℕ) → SessionState → List Command → List Reply → Type 0
 CommandsSay t number p q s [] rs = (rs ≡ []) × (p ≡ q)
 CommandsSay t number p q s (c ∷ cs) rs =
@@ -196,7 +212,8 @@ not_logged_in number (suc count) = reply_with number NotLoggedIn ∷ not_logged_
 
 -- After the login, which saw the first `point` events, the user's session replies to each command.
 -- Its own events are those that its replies name: none comes after the last reply.
-pub record SaysOfUser (t : Told) (session user point view : ℕ) (commands : List Command) (rs : List Reply) : Type 0 where
+pub record SaysOfUser (t : Told) (session user point view : ℕ) (commands : List Command)
+    (rs : List Reply) : Type 0 where
   pub replies : List Reply
   pub end : ℕ
   pub login : rs ≡ reply_with 0 (Login view) ∷ replies
@@ -205,12 +222,14 @@ pub record SaysOfUser (t : Told) (session user point view : ℕ) (commands : Lis
   pub no_more : events_of session (drop end t.events) ≡ []
 
 -- Where the image has no such user, each command is refused, and the session makes no event.
-pub record SaysOfNobody (t : Told) (session point view : ℕ) (commands : List Command) (rs : List Reply) : Type 0 where
+pub record SaysOfNobody (t : Told) (session point view : ℕ) (commands : List Command)
+    (rs : List Reply) : Type 0 where
   pub refused : rs ≡ reply_with 0 (NoUser view) ∷ not_logged_in 1 (length commands)
   pub no_more : events_of session (drop point t.events) ≡ []
 
 abbrev pub SaysOf : Option ℕ → Told → (session point view : ℕ) → List Command → List Reply → Type 0
-SaysOf (Some user) t session point view commands rs = SaysOfUser t session user point view commands rs
+SaysOf (Some user) t session point view commands rs =
+    SaysOfUser t session user point view commands rs
 SaysOf None t session point view commands rs = SaysOfNobody t session point view commands rs
 
 -- What a session of the script replies, by all events: to its login, which saw the first `point`
@@ -230,7 +249,8 @@ TellsLogin view (r ∷ rs) = (r.line ≡ Login view) ⊎ (r.line ≡ NoUser view
 
 -- The login saw every event that had come before the session, and perhaps further ones of others.
 -- What came later, it didn't see.
-pub record LogsIn (o : Opened) (session : ℕ) (before after : List Event) (replies : List Reply) : Type 0 where
+pub record LogsIn (o : Opened) (session : ℕ) (before after : List Event)
+    (replies : List Reply) : Type 0 where
   pub others : List Event
   pub are_others : events_of session others ≡ []
   pub later : Extends (before ++ others) after

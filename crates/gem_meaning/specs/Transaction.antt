@@ -15,7 +15,7 @@ use Rattle.st_grammar.specs.Grammar.{chunk, method}
 use Rattle.st_grammar.specs.Fails.{rule_number}
 use Rattle.st_grammar_laws.specs.TreeOf.{TextFault, tree_of}
 use Rattle.gem_meaning.specs.Form.{is_chunk}
-use Rattle.gem_meaning.specs.State.{State, begun}
+use Rattle.gem_meaning.specs.State.{State, state_at_start}
 use Rattle.gem_meaning.specs.Meaning.{Ended, kind_of, detail_of, run}
 
 -- What a command does within a transaction: its replies, and the state that it leaves.
@@ -83,7 +83,7 @@ abbrev pub run_after : Run → Command → Run
 run_after r c = with_answer r (run_command c r.state)
 
 abbrev pub run_at_start : Image → Run
-run_at_start image = record { replies = []; state = begun image }
+run_at_start image = record { replies = []; state = state_at_start image }
 
 -- The commands of a transaction, run one after the other. Ordinary objects are those of `place`;
 -- reduced-conflict objects, which are yet to come, are read as of `view`.

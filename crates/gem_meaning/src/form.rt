@@ -26,9 +26,11 @@ fn is_numeral(value: i64) -> bool
     0 <= value && value < 1 << 60
 }
 
-/// The name and the expression of a statement `Globals at: #NAME put: expression`; `None` for another.
+/// The name and the expression of a statement `Globals at: #NAME put: expression`; `None` for
+/// another.
 pub(crate) fn put_of(expr: &Expr) -> Option<(&Text, &Expr)>
-    ensures { MatchOption result (put_of expr.now ≡ None) (λ put. put_of expr.now ≡ Some (put.0.now, put.1.now)) }
+    ensures { MatchOption result (put_of expr.now ≡ None)
+        (λ put. put_of expr.now ≡ Some (put.0.now, put.1.now)) }
 {
     if !expr.assigns.is_empty() {
         return None;
@@ -63,10 +65,9 @@ fn put_arguments<'a>(
     key: &'a Expr,
     value: &'a Expr,
 ) -> Option<(&'a Text, &'a Expr)>
-    ensures { MatchOption result
-        (put_with (bytes_eq global.now (codes "Globals") && bytes_eq selector.now (codes "at:put:")) (symbol_of key.now) value.now ≡ None)
-        (λ put. put_with (bytes_eq global.now (codes "Globals") && bytes_eq selector.now (codes "at:put:")) (symbol_of key.now) value.now
-        ≡ Some (put.0.now, put.1.now)) }
+    ensures { let is_put = bytes_eq global.now (codes "Globals") && bytes_eq selector.now (codes "at:put:") in
+        MatchOption result (put_with is_put (symbol_of key.now) value.now ≡ None)
+        (λ put. put_with is_put (symbol_of key.now) value.now ≡ Some (put.0.now, put.1.now)) }
 {
     if global != b"Globals".as_slice() || selector != b"at:put:".as_slice() {
         return None;
@@ -79,7 +80,8 @@ fn put_arguments<'a>(
 
 // The symbol that the expression is.
 fn symbol_of(expr: &Expr) -> Option<&Text>
-    ensures { MatchOption result (symbol_of expr.now ≡ None) (λ name. symbol_of expr.now ≡ Some name.now) }
+    ensures { MatchOption result (symbol_of expr.now ≡ None)
+        (λ name. symbol_of expr.now ≡ Some name.now) }
 {
     if !expr.assigns.is_empty() {
         return None;
@@ -154,9 +156,10 @@ fn is_step(statement: &Stat) -> bool
     }
 }
 
-/// Whether a chunk has a meaning here: one statement at least, each `Globals at: #NAME put: expression` or an
-/// expression, of whole numbers from 0 to 2^60 - 1, names of globals, `+`, `-`, `*` and parentheses. The name of a
-/// global begins with a capital and is none of those that every image has, nor `UserGlobals`.
+/// Whether a chunk has a meaning here: one statement at least, each `Globals at: #NAME put:
+/// expression` or an expression, of whole numbers from 0 to 2^60 - 1, names of globals, `+`, `-`,
+/// `*` and parentheses. The name of a global begins with a capital and is none of those that every
+/// image has, nor `UserGlobals`.
 pub fn is_chunk(tree: &Tree) -> bool
     ensures { result ≡ is_chunk tree.now }
 {

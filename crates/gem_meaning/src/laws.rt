@@ -1,4 +1,5 @@
-//! What follows from the definitions alone. Each law is the contract of a function that does nothing.
+//! What follows from the definitions alone. Each law is the contract of a function that does
+//! nothing.
 ghost use Rattle.std.specs.Prelude.{◌≡◌, ◌≢◌, ℕ, ℤ, Bool, Some, Ok, Err, List, [], ◌-◌, ◌≤◌, ◌<◌, true, ◌∷◌, ◌++◌, get_or};
 ghost use Rattle.texts.specs.Bytes.{Bytes};
 ghost use Rattle.texts.specs.Bytes.{Bytes};
@@ -18,7 +19,7 @@ ghost use Rattle.gem_meaning.specs.Transaction.{is_run};
 ghost use Rattle.gem_meaning.specs.Claims.{claims_of, lines_of};
 ghost use Rattle.gem_meaning.specs.declared.evaluator.EvaluationError.{EvaluationError};
 ghost use Rattle.gem_meaning.specs.Form.{put_of};
-ghost use Rattle.gem_meaning.specs.State.{State, shown, set};
+ghost use Rattle.gem_meaning.specs.State.{State, global_shown, with_global};
 ghost use Rattle.gem_meaning.specs.Meaning.{value_of, statement_run, run};
 
 /// A run never changes the globals of the view.
@@ -26,8 +27,8 @@ pub fn view_stays()
     ensures { (s : State) (ss : Statements) → (run s ss).1.base ≡ s.base }
 {}
 
-/// After an error no statement is run: whatever follows, the outcome is the error, and what was written is what
-/// the statements up to it wrote.
+/// After an error no statement is run: whatever follows, the outcome is the error, and what was
+/// written is what the statements up to it wrote.
 pub fn error_ends()
     ensures { (s : State) (ss ts : Statements) (e : EvaluationError) → (run s ss).0 ≡ Some (Err e) →
         run s (append_statements ss ts) ≡ run s ss }
@@ -35,20 +36,25 @@ pub fn error_ends()
 
 /// A put leaves the global set to the value that its expression had in the state before.
 pub fn put_sets()
-    ensures { (s : State) (returns : Bool) (e : Expression) (n : Bytes) (value : Expression) (z : ℤ) →
-        put_of e ≡ Some (n, value) → value_of s value ≡ Some (Ok z) → (statement_run s (statement returns e)).1 ≡ set n z s }
+    ensures { (s : State) (returns : Bool) (e : Expression) (n : Bytes) (value : Expression)
+        (z : ℤ) →
+        put_of e ≡ Some (n, value) → value_of s value ≡ Some (Ok z) →
+        (statement_run s (statement returns e)).1 ≡ with_global n z s }
 {}
 
-/// A global that is set is shown with its new value to all that follows, whatever the view has, and other
-/// globals are shown as before.
+/// A global that is set is shown with its new value to all that follows, whatever the view has, and
+/// other globals are shown as before.
 pub fn set_is_shown()
-    ensures same_name { (s : State) (n : Bytes) (z : ℤ) → shown (set n z s) n ≡ Some z }
-    ensures other_name { (s : State) (n other : Bytes) (z : ℤ) → other ≢ n → shown (set n z s) other ≡ shown s other }
+    ensures same_name { (s : State) (n : Bytes) (z : ℤ) →
+        global_shown (with_global n z s) n ≡ Some z }
+    ensures other_name { (s : State) (n other : Bytes) (z : ℤ) → other ≢ n →
+        global_shown (with_global n z s) other ≡ global_shown s other }
 {}
 
 /// What a session says by some events it says by them with later events of other sessions, too.
 pub fn says_stay()
-    ensures { (t : Told) (more : List Event) (session : ℕ) (script : SessionCommands) (replies : List Reply) →
+    ensures { (t : Told) (more : List Event) (session : ℕ) (script : SessionCommands)
+        (replies : List Reply) →
         events_of session more ≡ [] → Says t session script replies →
         Says (told_more t more) session script replies }
 {}
@@ -63,8 +69,8 @@ pub fn one_report()
         NeverShort book → NeverShort book' → (t ≡ t') × (book ≡ book') }
 {}
 
-/// The events of a session are those that its replies claim, in their order: each is that of exactly
-/// one `committed`.
+/// The events of a session are those that its replies claim, in their order: each is that of
+/// exactly one `committed`.
 pub fn claimed_once()
     ensures { (t : Told) (session : ℕ) (script : SessionCommands) (replies : List Reply) →
         Says t session script replies → events_of session t.events ≡ claims_of session replies }

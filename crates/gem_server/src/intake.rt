@@ -43,8 +43,10 @@ pub(crate) fn read_text<S: Source>(alloc: Global, source: &mut S) -> Result<Vec<
         × IfOk result (λ text. text.items ≡ given) }
     ensures end { IfOk result (λ _. IsAtEnd (S.left source.new)) }
     ensures later { S.faults source.old ≤ S.faults source.new }
-    ensures failed { IsErrOf result IntakeError.Failed → HasRisen (S.faults source.old) (S.faults source.new) }
-    ensures quiet { (IsErrOf result IntakeError.Failed → ⊥) → S.faults source.new ≡ S.faults source.old }
+    ensures failed { IsErrOf result IntakeError.Failed →
+        HasRisen (S.faults source.old) (S.faults source.new) }
+    ensures quiet { (IsErrOf result IntakeError.Failed → ⊥) →
+        S.faults source.new ≡ S.faults source.old }
 {
     let mut text = Vec::new(alloc);
     let mut piece = [0u8; 4096];

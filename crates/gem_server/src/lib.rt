@@ -1,5 +1,5 @@
-//! Room: sessions and server. Takes the words of the command line and the bytes of a script; gives the
-//! bytes of its report.
+//! Room: sessions and server. Takes the words of the command line and the bytes of a script; gives
+//! the bytes of its report.
 #![tactic(auto)]
 
 mod intake;

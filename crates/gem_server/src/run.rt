@@ -18,7 +18,8 @@ use stone_core::Stone;
 // The book of a run of the script, and the events of its Stone.
 pub(crate) fn run(alloc: Global, script: Script) -> Result<(RunBook, Events), AllocError>
     ensures legal { IfOk result (λ run. IsLegal (told_from_empty script run.1) run.0) }
-    ensures in_turn { IfOk result (λ run. AreInTurn (told_from_empty script run.1) 1 script run.0.transcripts) }
+    ensures in_turn { IfOk result
+        (λ run. AreInTurn (told_from_empty script run.1) 1 script run.0.transcripts) }
 {
     let script = Arc::new(alloc, script)?;
     let mut stone = Stone::start(alloc, Image::empty(alloc)?, 0, script.clone()?)?;
@@ -42,8 +43,10 @@ fn run_sessions(
     requires script { stone.old.opened.script ≡ sessions.now }
     requires begun { stone.old.events ≡ [] }
     requires count { length sessions.now ≤ SESSION_LIMIT }
-    ensures transcripts { IfOk result (λ transcripts. AreTranscripts stone.new 1 sessions.now transcripts.items) }
-    ensures in_turn { IfOk result (λ transcripts. AreInTurn stone.new 1 sessions.now transcripts.items) }
+    ensures transcripts { IfOk result
+        (λ transcripts. AreTranscripts stone.new 1 sessions.now transcripts.items) }
+    ensures in_turn { IfOk result
+        (λ transcripts. AreInTurn stone.new 1 sessions.now transcripts.items) }
     ensures opened { stone.new.opened ≡ stone.old.opened }
 {
     let mut transcripts = Vec::new(alloc);

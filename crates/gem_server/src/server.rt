@@ -17,13 +17,13 @@ use gem_replies::report_text;
 use shell_words::{ScriptFault, read_script};
 use std::alloc::Global;
 
-/// Serves the script that this text is, and gives the report. The sessions run one after another, over
-/// an image of their own that begins without globals. No device is used.
+/// Serves the script that this text is, and gives the report. The sessions run one after another,
+/// over an image of their own that begins without globals. No device is used.
 ///
 /// # Errors
 ///
-/// `Rule` exactly where the text is no script, with the first line that breaks a rule, and that rule;
-/// `NoMemory`, which may also stand in place of the other answers, where memory ran out.
+/// `Rule` exactly where the text is no script, with the first line that breaks a rule, and that
+/// rule; `NoMemory`, which may also stand in place of the other answers, where memory ran out.
 pub fn serve_text(alloc: Global, text: &[u8]) -> Result<Served, ScriptFault>
     ensures legal_run { IfOk result (λ served. IsRunOf text.now served.events served.book) }
     ensures report_written { IfOk result (λ served. served.report.items ≡ report_of served.book) }
@@ -42,22 +42,22 @@ pub fn serve_text(alloc: Global, text: &[u8]) -> Result<Served, ScriptFault>
 /// Serves the script that the source gives, and writes its report to the sink.
 ///
 /// The words are those of the command line without the program's own name. The source is read only
-/// where they are the one word `serve`, and the sink is written to only where the text is a script. The
-/// status says how it ended:
+/// where they are the one word `serve`, and the sink is written to only where the text is a script.
+/// The status says how it ended:
 ///
 /// - `Done`: the script's whole report was written.
 /// - `Usage`: the words aren't the one word `serve`.
-/// - `Script`: the text is no script. `line` is the first line that breaks a rule, counted from 1 (0:
-///   the text as a whole); `rule` is that rule.
+/// - `Script`: the text is no script. `line` is the first line that breaks a rule, counted from 1
+///   (0: the text as a whole); `rule` is that rule.
 /// - `ReadFault`: the source failed.
 /// - `WriteFault`: the sink failed, after a part of the report from the front.
 /// - `NoMemory`: memory ran out, before the first byte was written.
 ///
-/// With `Done` and `WriteFault` the book has the sessions' transcripts and the commits, and the events
-/// are what happened to the Stone. With any other status both are blank.
+/// With `Done` and `WriteFault` the book has the sessions' transcripts and the commits, and the
+/// events are what happened to the Stone. With any other status both are blank.
 ///
-/// Clauses on contents hold where source and sink tell their contents to contracts; standard input and
-/// output don't. What is done between them is `serve_text`, whose clauses hold of the bytes.
+/// Clauses on contents hold where source and sink tell their contents to contracts; standard input
+/// and output don't. What is done between them is `serve_text`, whose clauses hold of the bytes.
 pub fn gemstone<S: Source, K: Sink>(
     alloc: Global,
     words: &[String],
@@ -69,14 +69,16 @@ pub fn gemstone<S: Source, K: Sink>(
     ensures served { result.status ≢ Status.Usage → IsServe (map string_bytes words.now) }
     ensures unread { result.status ≡ Status.Usage → source.new ≡ source.old }
 
-    // The script: it is read to its end or past its limit, and a rule is named exactly where the text
-    // that was given breaks it.
+    // The script: it is read to its end or past its limit, and a rule is named exactly where the
+    // text that was given breaks it.
     ensures script { (given : List ℕ) × Consumes (S.left source.old) (S.left source.new) given
         × (WasRead result.status → IsWhole (S.left source.new) given)
         × ((line rule : ℕ) → (result.status ≡ Status.Script line rule)
         ↔ (WasRead result.status × BreaksRule given line rule)) }
-    ensures read_fault { result.status ≡ Status.ReadFault → HasRisen (S.faults source.old) (S.faults source.new) }
-    ensures read_fault_told { S.faults source.old < S.faults source.new → result.status ≡ Status.ReadFault }
+    ensures read_fault { result.status ≡ Status.ReadFault →
+        HasRisen (S.faults source.old) (S.faults source.new) }
+    ensures read_fault_told { S.faults source.old < S.faults source.new →
+        result.status ≡ Status.ReadFault }
 
     // The run, and its report.
     ensures legal_run { HasRun result.status →
@@ -85,10 +87,13 @@ pub fn gemstone<S: Source, K: Sink>(
     ensures report_written { result.status ≡ Status.Done →
         Appends (K.written sink.old) (K.written sink.new) (report_of result.book) }
     ensures part_written { result.status ≡ Status.WriteFault →
-        (n : ℕ) × Appends (K.written sink.old) (K.written sink.new) (take n (report_of result.book)) }
+        (n : ℕ) × Appends (K.written sink.old) (K.written sink.new)
+        (take n (report_of result.book)) }
     ensures nothing_written { (HasRun result.status → ⊥) → sink.new ≡ sink.old }
-    ensures write_fault { result.status ≡ Status.WriteFault → HasRisen (K.faults sink.old) (K.faults sink.new) }
-    ensures write_fault_told { K.faults sink.old < K.faults sink.new → result.status ≡ Status.WriteFault }
+    ensures write_fault { result.status ≡ Status.WriteFault →
+        HasRisen (K.faults sink.old) (K.faults sink.new) }
+    ensures write_fault_told { K.faults sink.old < K.faults sink.new →
+        result.status ≡ Status.WriteFault }
 
     // Nothing else keeps a script from its report.
     ensures completes { IsServe (map string_bytes words.now) → IfSome (S.left source.old) (λ text.
@@ -96,7 +101,8 @@ pub fn gemstone<S: Source, K: Sink>(
         → (HasRisen (S.faults source.old) (S.faults source.new) → ⊥)
         → (HasRisen (K.faults sink.old) (K.faults sink.new) → ⊥)
         → (result.status ≡ Status.Done) ⊎ (result.status ≡ Status.NoMemory)) }
-    ensures later { (S.faults source.old ≤ S.faults source.new) × (K.faults sink.old ≤ K.faults sink.new) }
+    ensures later { (S.faults source.old ≤ S.faults source.new)
+        × (K.faults sink.old ≤ K.faults sink.new) }
 {
     if !is_serve(words) {
         return Ended::blank(alloc, Status::Usage);

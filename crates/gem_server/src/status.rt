@@ -15,8 +15,8 @@ pub enum Status {
     Done,
     /// The words are none that the program knows.
     Usage,
-    /// The script breaks a rule of its form, first at this line. Line 0 is the script as a whole. The
-    /// rule is printed with an `S` before it.
+    /// The script breaks a rule of its form, first at this line. Line 0 is the script as a whole.
+    /// The rule is printed with an `S` before it.
     Script { line: u32, rule: u8 },
     /// The source failed.
     ReadFault,

@@ -8,7 +8,7 @@ use Rattle.std.proofs.lemmas.Option.{get_or_from_slice_get, slice_get_within}
 use Rattle.gem_value.specs.Image.{Image}
 use Rattle.shell_words.specs.declared.script.Command.{Command}
 use Rattle.shell_words.specs.declared.script.Command.TheVariants.{Commit}
-use Rattle.gem_meaning.specs.State.{State, begun}
+use Rattle.gem_meaning.specs.State.{State, state_at_start}
 use Rattle.gem_meaning.specs.Transaction.{Run, run_command, run_after, run_at_start, transaction, written_of}
 use Rattle.gem_meaning.specs.Events.{Opened, Event, commands_of, entry_commands, image_at, run_on_view, after_events}
 use Rattle.gem_meaning.specs.Serial.{MayGoOn}
@@ -88,7 +88,7 @@ unfolding written_of
 written_to_commit o es number s is low le = ap (λ (r : Run). map.entries r.state.written) (sym (run_to o es number s Commit is low le))
 
 -- nothing is done yet
-pub state_none : (o : Opened) (es : List Event) (s : SessionState) → (run_so_far o es s.first_command s).state ≡ begun (image_at (after_events o es) s.view)
+pub state_none : (o : Opened) (es : List Event) (s : SessionState) → (run_so_far o es s.first_command s).state ≡ state_at_start (image_at (after_events o es) s.view)
 unfolding run_on_view transaction
 state_none o es s =
     let image = image_at (after_events o es) s.view in

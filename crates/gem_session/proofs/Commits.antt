@@ -11,7 +11,7 @@ use Rattle.gem_value.specs.Entry.{entry_of}
 use Rattle.gem_replies.specs.declared.reply.Line.TheVariants.{NoMemory, Spoiled, Unchanged, Refused, Committed, Aborted}
 use Rattle.shell_words.specs.declared.script.Command.TheVariants.{Commit, Abort}
 use Rattle.gem_meaning.specs.declared.event.What.TheVariants.{Placed}
-use Rattle.gem_meaning.specs.State.{begun}
+use Rattle.gem_meaning.specs.State.{state_at_start}
 use Rattle.gem_meaning.specs.Transaction.{Run, written_of, IsUnchanged}
 use Rattle.gem_meaning.specs.Events.{Opened, Event, Told, after_events, standing, commands_of, OthersCame, run_on_view}
 use Rattle.gem_meaning.specs.Serial.{IsRecorded, EndedBefore, EndsTransaction}
@@ -21,7 +21,7 @@ use Rattle.stone_core.specs.declared.port.CommitAnswer.TheVariants.{ReadOnly, Co
 use Rattle.stone_core.proofs.Apart.{apart_both, apart_later, apart_of_others}
 use Rattle.stone_core.proofs.Later.{run_stays}
 use Rattle.gem_session.specs.declared.session.Session.{Session}
-use Rattle.gem_session.specs.Running.{ends_transaction, commit_line, carried, MayBegin, StandsBefore, Begins, Replied}
+use Rattle.gem_session.specs.Running.{ends_transaction, commit_line, session_state, MayBegin, StandsBefore, Begins, Replied}
 use Rattle.gem_session.proofs.Others.{nobody_came, came_and_came, extends_by}
 use Rattle.gem_session.proofs.Between.{entry_whole, written_to_commit}
 use Rattle.gem_session.proofs.Steps.{apart_when, stands_kept, begins_session, begins_stands}
@@ -42,10 +42,10 @@ record_with number s written = record {
 -- what the session's state has written is what the transaction wrote
 wrote_so : (o : Opened) (es : List Event) (number : ℕ) (s : Session) (written : List (Bytes × ℤ)) → StandsBefore (At o es) number s → s.spoiled ≡ false →
     written ≡ map.entries s.state.written → slice_get (commands_of o.script s.session) (number - 1) ≡ Some Commit →
-    written ≡ written_of (run_to_commit o es number (carried s))
+    written ≡ written_of (run_to_commit o es number (session_state s))
 wrote_so o es number s written stands calm wrote is =
     wrote ∙ ap (λ x. map.entries x.written) (stands.state calm)
-    ∙ written_to_commit o es number (carried s) is stands.first.0 stands.first.1
+    ∙ written_to_commit o es number (session_state s) is stands.first.0 stands.first.1
 
 pub recorded : (o : Opened) (es : List Event) (number : ℕ) (s : Session) (written : List (Bytes × ℤ)) → StandsBefore (At o es) number s → s.spoiled ≡ false →
     written ≡ map.entries s.state.written → slice_get (commands_of o.script s.session) (number - 1) ≡ Some Commit →
@@ -56,7 +56,7 @@ recorded o es number s written stands calm wrote is = record {
     first = stands.begins;
     order = stands.first.1;
     last = is;
-    whole = entry_whole o number (carried s) Commit is stands.first.0 stands.first.1 tt stands.whole;
+    whole = entry_whole o number (session_state s) Commit is stands.first.0 stands.first.1 tt stands.whole;
   };
   from = stands.from;
   to = stands.to;
@@ -67,10 +67,10 @@ recorded o es number s written stands calm wrote is = record {
 -- what it wrote is the same when others' events have come
 wrote_when : (o : Opened) (es others : List Event) (number : ℕ) (s : Session) (written : List (Bytes × ℤ)) → StandsBefore (At o es) number s → s.spoiled ≡ false →
     written ≡ map.entries s.state.written → slice_get (commands_of o.script s.session) (number - 1) ≡ Some Commit →
-    written ≡ written_of (run_to_commit o (es ++ others) number (carried s))
+    written ≡ written_of (run_to_commit o (es ++ others) number (session_state s))
 wrote_when o es others number s written stands calm wrote is =
     wrote_so o es number s written stands calm wrote is
-    ∙ ap written_of (sym (run_stays o es others (entry_to number (carried s)) stands.from stands.to))
+    ∙ ap written_of (sym (run_stays o es others (entry_to number (session_state s)) stands.from stands.to))
 
 pub commit_spoiled : (o : Opened) (es : List Event) (number : ℕ) (s : Session) → StandsBefore (At o es) number s → s.spoiled ≡ true →
     slice_get (commands_of o.script s.session) (number - 1) ≡ Some Commit → Replied o number es es s Commit (Spoiled ∷ []) s
@@ -114,7 +114,7 @@ commit_starved o es es' number s written stands calm is wrote says =
           calm,
           came,
           λ none. says.fits (wrote_when o es says.others number s written stands calm wrote is
-              ∙ ap (λ x. written_of (run_to_commit o x number (carried s))) (sym end) ∙ none),
+              ∙ ap (λ x. written_of (run_to_commit o x number (session_state s))) (sym end) ∙ none),
           refl,
         ),
       );
@@ -137,9 +137,9 @@ commit_refused o es es' number s written found stands calm is wrote says =
           calm,
           came,
           λ none. says.fits.0 (wrote_when o es says.others number s written stands calm wrote is
-              ∙ ap (λ x. written_of (run_to_commit o x number (carried s))) (sym end) ∙ none),
+              ∙ ap (λ x. written_of (run_to_commit o x number (session_state s))) (sym end) ∙ none),
           says.fits.1,
-          says.fits.2 ∙ ap (λ x. conflicts_found o x number (carried s)) (sym end),
+          says.fits.2 ∙ ap (λ x. conflicts_found o x number (session_state s)) (sym end),
           refl,
         ),
       );
@@ -148,7 +148,7 @@ commit_refused o es es' number s written found stands calm is wrote says =
 
 pub commit_unchanged : (o : Opened) (es es' es'' : List Event) (number : ℕ) (s : Session) (written : List (Bytes × ℤ)) (at : ℕ) (s' : Session) →
     StandsBefore (At o es) number s → s.spoiled ≡ false → slice_get (commands_of o.script s.session) (number - 1) ≡ Some Commit → written ≡ map.entries s.state.written →
-    CommitSays o es es' (record_with number s written) (ReadOnly at) → Begins o es' es'' (λ view. next_transaction (carried s) view number) s' →
+    CommitSays o es es' (record_with number s written) (ReadOnly at) → Begins o es' es'' (λ view. next_transaction (session_state s) view number) s' →
     Replied o number es es'' s Commit (Unchanged at s'.view ∷ []) s'
 commit_unchanged o es es' es'' number s written at s' stands calm is wrote says begins =
     let same = begins_session o es' es'' number s s' begins in
@@ -165,7 +165,7 @@ commit_unchanged o es es' es'' number s written at s' stands calm is wrote says 
           says.fits.1,
           (all, sees.1),
           sym (wrote_when o es all.0 number s written stands calm wrote is
-              ∙ ap (λ x. written_of (run_to_commit o x number (carried s))) (sym all.2)) ∙ says.fits.0,
+              ∙ ap (λ x. written_of (run_to_commit o x number (session_state s))) (sym all.2)) ∙ says.fits.0,
           begins.carries,
         ),
       );
@@ -174,7 +174,7 @@ commit_unchanged o es es' es'' number s written at s' stands calm is wrote says 
 
 pub commit_placed : (o : Opened) (es es' es'' : List Event) (number : ℕ) (s : Session) (written : List (Bytes × ℤ)) (at : ℕ) (s' : Session) →
     StandsBefore (At o es) number s → s.spoiled ≡ false → slice_get (commands_of o.script s.session) (number - 1) ≡ Some Commit → written ≡ map.entries s.state.written →
-    CommitSays o es es' (record_with number s written) (PlacedAt at) → Begins o es' es'' (λ view. next_transaction (carried s) view number) s' →
+    CommitSays o es es' (record_with number s written) (PlacedAt at) → Begins o es' es'' (λ view. next_transaction (session_state s) view number) s' →
     Replied o number es es'' s Commit (Committed at s'.view ∷ []) s'
 commit_placed o es es' es'' number s written at s' stands calm is wrote says begins =
     let same = begins_session o es' es'' number s s' begins in record {
@@ -199,7 +199,7 @@ commit_placed o es es' es'' number s written at s' stands calm is wrote says beg
       stands = begins_stands o es' es'' number s s' begins;
     }
 
-pub aborted : (o : Opened) (es es' : List Event) (number : ℕ) (s s' : Session) → Begins o es es' (λ view. next_transaction (carried s) view number) s' →
+pub aborted : (o : Opened) (es es' : List Event) (number : ℕ) (s s' : Session) → Begins o es es' (λ view. next_transaction (session_state s) view number) s' →
     Replied o number es es' s Abort (Aborted s'.view ∷ []) s'
 aborted o es es' number s s' begins =
     let same = begins_session o es es' number s s' begins in record {
@@ -247,7 +247,7 @@ apart_ended o es es' number s written ShortOfMemory ends stands says = absurd (t
 -- a commit that ended its transaction
 pub commit_ended : (o : Opened) (es es' es'' : List Event) (number : ℕ) (s : Session) (written : List (Bytes × ℤ)) (answer : CommitAnswer) (s' : Session) → ends_transaction answer ≡ true →
     StandsBefore (At o es) number s → s.spoiled ≡ false → slice_get (commands_of o.script s.session) (number - 1) ≡ Some Commit → written ≡ map.entries s.state.written →
-    CommitSays o es es' (record_with number s written) answer → Begins o es' es'' (λ view. next_transaction (carried s) view number) s' →
+    CommitSays o es es' (record_with number s written) answer → Begins o es' es'' (λ view. next_transaction (session_state s) view number) s' →
     Replied o number es es'' s Commit (commit_line answer s'.view ∷ []) s'
 commit_ended o es es' es'' number s written (ReadOnly at) s' ends stands calm is wrote says begins = commit_unchanged o es es' es'' number s written at s' stands calm is wrote says begins
 commit_ended o es es' es'' number s written (Conflicts found) s' ends stands calm is wrote says begins = absurd (true≢false (sym ends))

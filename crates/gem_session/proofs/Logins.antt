@@ -5,14 +5,14 @@ use Rattle.gem_value.specs.Image.{Image}
 use Rattle.gem_replies.specs.declared.reply.Reply.{Reply}
 use Rattle.gem_replies.specs.declared.reply.Line.TheVariants.{NoUser}
 use Rattle.shell_words.specs.Script.{SessionCommands}
-use Rattle.gem_meaning.specs.State.{begun}
+use Rattle.gem_meaning.specs.State.{state_at_start}
 use Rattle.gem_meaning.specs.Events.{Opened, Event, Told, after_events, standing, events_of, Extends, OthersCame}
 use Rattle.gem_meaning.specs.Session.{user_in, first_transaction, until_logout, reply_with, not_logged_in, Says, TellsLogin, LogsIn}
 use Rattle.gem_meaning.proofs.Stays.{none_of}
 use Rattle.stone_core.specs.Port.{PortState, BeginSays, GoesOn}
 use Rattle.stone_core.proofs.Apart.{apart_of_others}
 use Rattle.gem_session.specs.declared.session.Session.{Session}
-use Rattle.gem_session.specs.Running.{carried, HasLoggedIn}
+use Rattle.gem_session.specs.Running.{session_state, HasLoggedIn}
 use Rattle.gem_session.proofs.Steps.{stands_at_first}
 use Rattle.gem_session.proofs.Refusals.{refused}
 
@@ -36,7 +36,7 @@ logs_in o session before middle after image number rs says later tells = record 
 pub has_logged_in : (p q : PortState) (image : Image) (number : ℕ) (script : SessionCommands) (s : Session) → GoesOn s.session p q
     → BeginSays p.told.opened s.session p.told.events q.told.events image number → events_of s.session p.told.events ≡ []
     → (1 ≤ s.session) × (s.session ≤ length p.told.opened.script) → slice_get p.told.opened.script (s.session - 1) ≡ Some script
-    → user_in image script.user ≡ Some s.user → carried s ≡ first_transaction s.session s.user number → s.state ≡ begun image
+    → user_in image script.user ≡ Some s.user → session_state s ≡ first_transaction s.session s.user number → s.state ≡ state_at_start image
     → HasLoggedIn q.told script s
 has_logged_in p q image number script s goes says fresh range is user carries state =
     let o = q.told.opened in

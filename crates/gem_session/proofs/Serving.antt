@@ -15,7 +15,7 @@ use Rattle.shell_words.specs.declared.script.Command.TheVariants.{Chunk, Method,
 use Rattle.gem_meaning.specs.Events.{Opened, Event, Told, after_events, standing, commands_or_none, commands_of, events_of, Extends, OthersCame}
 use Rattle.gem_meaning.specs.Session.{SessionState, user_in, first_transaction, CommandSays, SeesNumber, CommandsSay, SaysOf, Says, until_logout, reply_with, replies_with, TellsLogin}
 use Rattle.gem_session.specs.declared.session.Session.{Session}
-use Rattle.gem_session.specs.Running.{carried, StandsBefore, HasLoggedIn, goes_on, Replied}
+use Rattle.gem_session.specs.Running.{session_state, StandsBefore, HasLoggedIn, goes_on, Replied}
 use Rattle.gem_session.proofs.Others.{extends_twice, nothing_later}
 
 one_more : (n : ℕ) (c : Command) (cs : List Command) → take (1 + n) (c ∷ cs) ≡ c ∷ take n cs
@@ -60,7 +60,7 @@ pub record HasServed (o : Opened) (start events : List Event) (body : List Comma
   pub login : rs ≡ reply_with 0 (Login first.view) ∷ said
   pub of_session : s.session ≡ first.session
   pub stands : StandsBefore (record { opened = o; events = events }) (i + 1) s
-  pub leads : Leads o start events body i (carried first) (carried s) said
+  pub leads : Leads o start events body i (session_state first) (session_state s) said
 
 seen_so_far : (events all : List Event) → Extends events all → take (length events) all ≡ events
 seen_so_far events all more = ap (take (length events)) more.1 ∙ take-append_seam events more.0
@@ -89,14 +89,14 @@ one_served o start events events' body i first s s' rs c line is lt served grew 
   leads = λ all q rest more says.
       let whole : Extends events all = extends_twice events events' all grew more in
       let here : drop i body ≡ c ∷ drop (i + 1) body = drop_more body i c lt ∙ ap (λ x. x ∷ drop (i + 1) body) (get_or_from_slice_get body i c c is) in
-      let said : CommandSays (record { opened = o; number = i + 1; before = take (length events) all; after = take (length events') all }) (carried s) c (line ∷ []) (carried s') =
-      subst (λ x. CommandSays (record { opened = o; number = i + 1; before = x; after = take (length events') all }) (carried s) c (line ∷ []) (carried s')) (sym (seen_so_far events all whole))
-      (subst (λ x. CommandSays (record { opened = o; number = i + 1; before = events; after = x }) (carried s) c (line ∷ []) (carried s')) (sym (seen_so_far events' all more)) replied.says) in
-      let these : CommandsSay (record { opened = o; events = all }) (i + 1) (length events) q (carried s) (drop i body ++ Logout ∷ []) (reply_with (i + 1) line ∷ rest) =
-      subst (λ x. CommandsSay (record { opened = o; events = all }) (i + 1) (length events) q (carried s) (x ++ Logout ∷ []) (reply_with (i + 1) line ∷ rest)) (sym here)
+      let said : CommandSays (record { opened = o; number = i + 1; before = take (length events) all; after = take (length events') all }) (session_state s) c (line ∷ []) (session_state s') =
+      subst (λ x. CommandSays (record { opened = o; number = i + 1; before = x; after = take (length events') all }) (session_state s) c (line ∷ []) (session_state s')) (sym (seen_so_far events all whole))
+      (subst (λ x. CommandSays (record { opened = o; number = i + 1; before = events; after = x }) (session_state s) c (line ∷ []) (session_state s')) (sym (seen_so_far events' all more)) replied.says) in
+      let these : CommandsSay (record { opened = o; events = all }) (i + 1) (length events) q (session_state s) (drop i body ++ Logout ∷ []) (reply_with (i + 1) line ∷ rest) =
+      subst (λ x. CommandsSay (record { opened = o; events = all }) (i + 1) (length events) q (session_state s) (x ++ Logout ∷ []) (reply_with (i + 1) line ∷ rest)) (sym here)
       (record {
         point = length events';
-        next = carried s';
+        next = session_state s';
         lines = line ∷ [];
         more = rest;
         from = longer events events' grew;
@@ -105,7 +105,7 @@ one_served o start events events' body i first s s' rs c line is lt served grew 
         says = said;
         rest = says;
       }) in
-      subst (λ x. CommandsSay (record { opened = o; events = all }) 1 (length start) q (carried first) (body ++ Logout ∷ []) x)
+      subst (λ x. CommandsSay (record { opened = o; events = all }) 1 (length start) q (session_state first) (body ++ Logout ∷ []) x)
       (sym (append_assoc served.said (reply_with (i + 1) line ∷ []) rest))
       (served.leads all q (reply_with (i + 1) line ∷ rest) whole these);
 }
@@ -118,9 +118,9 @@ pub all_served : (t : Told) (events : List Event) (script : SessionCommands) (bo
 all_served t events script body i first s rs now logged_in until over grew now_is served =
     let o = t.opened in
     let out : Reply = reply_with (i + 1) LoggedOut in
-    let at_end : CommandsSay (record { opened = o; events = events }) (i + 1) (length events) (length events) (carried s) (Logout ∷ []) (out ∷ []) = record {
+    let at_end : CommandsSay (record { opened = o; events = events }) (i + 1) (length events) (length events) (session_state s) (Logout ∷ []) (out ∷ []) = record {
       point = length events;
-      next = carried s;
+      next = session_state s;
       lines = LoggedOut ∷ [];
       more = [];
       from = omega arith;
@@ -131,7 +131,7 @@ all_served t events script body i first s rs now logged_in until over grew now_i
     } in
     let front : take (length t.events) events ≡ t.events = seen_so_far t.events events grew in
     let says = served.leads events (length events) (out ∷ []) (nothing_later events)
-    (subst (λ x. CommandsSay (record { opened = o; events = events }) (i + 1) (length events) (length events) (carried s) (x ++ Logout ∷ []) (out ∷ [])) (sym (drop_all i body over)) at_end) in
+    (subst (λ x. CommandsSay (record { opened = o; events = events }) (i + 1) (length events) (length events) (session_state s) (x ++ Logout ∷ []) (out ∷ [])) (sym (drop_all i body over)) at_end) in
     subst (λ (x : Told). Says x first.session script (rs ++ out ∷ [])) (sym now_is) (record {
       point = length t.events;
       view = first.view;

@@ -8,7 +8,7 @@ use Rattle.gem_replies.specs.declared.reply.Line.{Line}
 use Rattle.gem_replies.specs.declared.reply.Line.TheVariants.{NotBuilt}
 use Rattle.shell_words.specs.declared.script.Command.{Command}
 use Rattle.shell_words.specs.declared.script.Command.TheVariants.{Chunk, Method, Commit, Abort, Logout, Lock, Unlock}
-use Rattle.gem_meaning.specs.State.{State, begun}
+use Rattle.gem_meaning.specs.State.{State, state_at_start}
 use Rattle.gem_meaning.specs.Transaction.{Answer, Run, run_command, is_run}
 use Rattle.gem_meaning.specs.Events.{Opened, Event, Told, image_at, after_events, standing, commands_of, events_of, OthersCame}
 use Rattle.gem_meaning.specs.Serial.{MayGoOn, EndedBefore, EndsTransaction}
@@ -17,7 +17,7 @@ use Rattle.stone_core.specs.Port.{BeginSays}
 use Rattle.stone_core.proofs.Apart.{apart_of_others, apart_both, apart_later}
 use Rattle.stone_core.proofs.Later.{run_stays}
 use Rattle.gem_session.specs.declared.session.Session.{Session}
-use Rattle.gem_session.specs.Running.{carried, commands_before, MayBegin, StandsBefore, Begins, RanShort, RanWhole, Ran, Replied}
+use Rattle.gem_session.specs.Running.{session_state, commands_before, MayBegin, StandsBefore, Begins, RanShort, RanWhole, Ran, Replied}
 use Rattle.gem_session.proofs.Others.{nobody_came, extends_by, number_on}
 use Rattle.gem_session.proofs.Between.{before_none, whole_more, state_more, state_none}
 use Rattle.gem_session.proofs.Newest.{number_from, newest}
@@ -46,12 +46,12 @@ stands_kept o es es' number s c is one keeps stands came = record {
   begins = stands.begins;
   first = (stands.first.0, omega (arith, stands.first.1));
   transaction = omega (arith, stands.transaction);
-  whole = whole_more o number (carried s) c is stands.first.0 stands.first.1 one stands.whole;
+  whole = whole_more o number (session_state s) c is stands.first.0 stands.first.1 one stands.whole;
   apart = apart_when o es es' s.session s.first_command stands.apart came;
   state = λ calm. stands.state calm
-      ∙ sym (keeps (run_so_far o es number (carried s)).state)
-      ∙ ap (λ (r : Run). (run_command c r.state).1) (sym (run_stays_so o es es' number (carried s) came stands.from stands.to))
-      ∙ sym (state_more o es' number (carried s) c is stands.first.0 stands.first.1);
+      ∙ sym (keeps (run_so_far o es number (session_state s)).state)
+      ∙ ap (λ (r : Run). (run_command c r.state).1) (sym (run_stays_so o es es' number (session_state s) came stands.from stands.to))
+      ∙ sym (state_more o es' number (session_state s) c is stands.first.0 stands.first.1);
 }
 
 meant : (spoiled : Bool) (so_far actual : State) (meaning : State → Answer) (lines : List Line) → (spoiled ≡ false → actual ≡ so_far) →
@@ -82,7 +82,7 @@ short_at : (o : Opened) (es : List Event) (number : ℕ) (s : Session) (c : Comm
     RanShort s line (record s { spoiled = true; state = state }) → Replied o number es es s c (line ∷ []) (record s { spoiled = true; state = state })
 short_at o es number s c line state runs is stands ran = record {
   of_session = refl;
-  says = run_says (record { opened = o; number = number; before = es; after = es }) c (carried s) (line ∷ []) (record (carried s) { spoiled = true }) runs
+  says = run_says (record { opened = o; number = number; before = es; after = es }) c (session_state s) (line ∷ []) (record (session_state s) { spoiled = true }) runs
       (refl, inl (ap (λ (l : Line). l ∷ []) ran.0, refl));
   stands = record {
     session = stands.session;
@@ -91,7 +91,7 @@ short_at o es number s c line state runs is stands ran = record {
     begins = stands.begins;
     first = (stands.first.0, omega (arith, stands.first.1));
     transaction = omega (arith, stands.transaction);
-    whole = whole_more o number (carried s) c is stands.first.0 stands.first.1 (run_goes_on c runs) stands.whole;
+    whole = whole_more o number (session_state s) c is stands.first.0 stands.first.1 (run_goes_on c runs) stands.whole;
     apart = stands.apart;
     state = λ calm. absurd (true≢false calm);
   };
@@ -101,10 +101,10 @@ whole_at : (o : Opened) (es : List Event) (number : ℕ) (s : Session) (c : Comm
     slice_get (commands_of o.script s.session) (number - 1) ≡ Some c → StandsBefore (record { opened = o; events = es }) number s →
     (line ∷ [], state) ≡ run_command c s.state → Replied o number es es s c (line ∷ []) (record s { state = state })
 whole_at o es number s c line state runs is stands ran =
-    let so_far = (run_so_far o es number (carried s)).state in
+    let so_far = (run_so_far o es number (session_state s)).state in
     record {
       of_session = refl;
-      says = run_says (record { opened = o; number = number; before = es; after = es }) c (carried s) (line ∷ []) (carried s) runs
+      says = run_says (record { opened = o; number = number; before = es; after = es }) c (session_state s) (line ∷ []) (session_state s) runs
           (refl, inr (meant s.spoiled so_far s.state (run_command c) (line ∷ []) stands.state (ap (λ p. p.0) ran), refl));
       stands = record {
         session = stands.session;
@@ -113,10 +113,10 @@ whole_at o es number s c line state runs is stands ran =
         begins = stands.begins;
         first = (stands.first.0, omega (arith, stands.first.1));
         transaction = omega (arith, stands.transaction);
-        whole = whole_more o number (carried s) c is stands.first.0 stands.first.1 (run_goes_on c runs) stands.whole;
+        whole = whole_more o number (session_state s) c is stands.first.0 stands.first.1 (run_goes_on c runs) stands.whole;
         apart = stands.apart;
         state = λ calm. ap (λ p. p.1) ran ∙ ap (λ x. (run_command c x).1) (stands.state calm)
-            ∙ sym (state_more o es number (carried s) c is stands.first.0 stands.first.1);
+            ∙ sym (state_more o es number (session_state s) c is stands.first.0 stands.first.1);
       };
     }
 
@@ -150,7 +150,7 @@ unlock_not_built o es number s name is stands = record {
 
 -- A transaction that begins at what stands now.
 pub stands_at_first : (o : Opened) (es es' : List Event) (image : Image) (number first : ℕ) (s : Session) →
-    BeginSays o s.session es es' image number → s.view ≡ number → s.first_command ≡ first → s.state ≡ begun image →
+    BeginSays o s.session es es' image number → s.view ≡ number → s.first_command ≡ first → s.state ≡ state_at_start image →
     (1 ≤ s.session) × (s.session ≤ length o.script) → MayBegin o s.session first → 1 ≤ first → s.transaction ≤ first →
     AllByRecursion (EndedBefore s.session first) es → StandsBefore (record { opened = o; events = es' }) first s
 stands_at_first o es es' image number first s says view first_is fresh range may low le apart =
@@ -164,20 +164,20 @@ stands_at_first o es es' image number first s says view first_is fresh range may
       begins = subst (MayBegin o s.session) (sym first_is) may;
       first = (omega (arith, low, first_is), omega (arith, first_is));
       transaction = le;
-      whole = subst (λ (n : ℕ). AllByRecursion MayGoOn (commands_before o n (carried s))) first_is
-          (subst (AllByRecursion MayGoOn) (sym (before_none o (carried s))) tt);
+      whole = subst (λ (n : ℕ). AllByRecursion MayGoOn (commands_before o n (session_state s))) first_is
+          (subst (AllByRecursion MayGoOn) (sym (before_none o (session_state s))) tt);
       apart = subst (λ (n : ℕ). AllByRecursion (EndedBefore s.session n) es') (sym first_is)
           (apart_when o es es' s.session first apart says.others_came);
-      state = λ calm. fresh ∙ ap begun same ∙ sym (state_none o es' (carried s))
-          ∙ ap (λ (n : ℕ). (run_so_far o es' n (carried s)).state) first_is;
+      state = λ calm. fresh ∙ ap state_at_start same ∙ sym (state_none o es' (session_state s))
+          ∙ ap (λ (n : ℕ). (run_so_far o es' n (session_state s)).state) first_is;
     }
 
 -- The session's next transaction begins after the command with this number.
 pub begins_next : (o : Opened) (es es' : List Event) (image : Image) (view number : ℕ) (s s' : Session) →
-    BeginSays o s.session es es' image view → carried s' ≡ next_transaction (carried s) view number → s'.state ≡ begun image →
+    BeginSays o s.session es es' image view → session_state s' ≡ next_transaction (session_state s) view number → s'.state ≡ state_at_start image →
     (1 ≤ s.session) × (s.session ≤ length o.script) → EndsTransaction (slice_get (commands_of o.script s.session) (number - 1)) →
     1 ≤ number → s.transaction ≤ number → AllByRecursion (EndedBefore s.session (number + 1)) es →
-    Begins o es es' (λ v. next_transaction (carried s) v number) s'
+    Begins o es es' (λ v. next_transaction (session_state s) v number) s'
 begins_next o es es' image view number s s' says carries state range ended low le apart =
     let same : s'.session ≡ s.session = ap (λ x. x.session) carries in
     let view_is : s'.view ≡ view = ap (λ x. x.view) carries in
@@ -193,15 +193,15 @@ begins_next o es es' image view number s s' says carries state range ended low l
     (subst (λ (n : ℕ). AllByRecursion (EndedBefore n (number + 1)) es) (sym same) apart) in
     record {
       sees = (here.others_came, view_is ∙ here.number_is);
-      carries = carries ∙ ap (λ v. next_transaction (carried s) v number) (sym view_is);
+      carries = carries ∙ ap (λ v. next_transaction (session_state s) v number) (sym view_is);
       stands = subst (λ (n : ℕ). StandsBefore (record { opened = o; events = es' }) n s') (sym first) stands;
     }
 
-pub begins_session : (o : Opened) (es es' : List Event) (number : ℕ) (s s' : Session) → Begins o es es' (λ v. next_transaction (carried s) v number) s' →
+pub begins_session : (o : Opened) (es es' : List Event) (number : ℕ) (s s' : Session) → Begins o es es' (λ v. next_transaction (session_state s) v number) s' →
     s'.session ≡ s.session
 begins_session o es es' number s s' begins = ap (λ x. x.session) begins.carries
 
-pub begins_stands : (o : Opened) (es es' : List Event) (number : ℕ) (s s' : Session) → Begins o es es' (λ v. next_transaction (carried s) v number) s' →
+pub begins_stands : (o : Opened) (es es' : List Event) (number : ℕ) (s s' : Session) → Begins o es es' (λ v. next_transaction (session_state s) v number) s' →
     StandsBefore (record { opened = o; events = es' }) (number + 1) s'
 begins_stands o es es' number s s' begins =
     subst (λ (n : ℕ). StandsBefore (record { opened = o; events = es' }) n s') (ap (λ x. x.first_command) begins.carries) begins.stands

@@ -36,8 +36,8 @@ commit_line (Placed number) view = Committed number view
 commit_line ShortOfMemory view = NoMemory
 
 -- what the session carries from command to command
-abbrev pub carried : Session → SessionState
-carried s = record {
+abbrev pub session_state : Session → SessionState
+session_state s = record {
   session = s.session;
   user = s.user;
   view = s.view;
@@ -65,15 +65,17 @@ pub record StandsBefore (t : Told) (number : ℕ) (s : Session) : Type 0 where
   pub begins : MayBegin t.opened s.session s.first_command
   pub first : (1 ≤ s.first_command) × (s.first_command ≤ number)
   pub transaction : s.transaction ≤ number
-  pub whole : AllByRecursion MayGoOn (commands_before t.opened number (carried s))
+  pub whole : AllByRecursion MayGoOn (commands_before t.opened number (session_state s))
   pub apart : AllByRecursion (EndedBefore s.session s.first_command) t.events
-  pub state : s.spoiled ≡ false → s.state ≡ (run_so_far t.opened t.events number (carried s)).state
+  pub state : s.spoiled ≡ false
+      → s.state ≡ (run_so_far t.opened t.events number (session_state s)).state
 
 -- A transaction of the session began at the view that stands then. What the session carries is
 -- `next` of that view.
-pub record Begins (o : Opened) (before after : List Event) (next : ℕ → SessionState) (s : Session) : Type 0 where
+pub record Begins (o : Opened) (before after : List Event) (next : ℕ → SessionState)
+    (s : Session) : Type 0 where
   pub sees : SeesNumber o s.session before after s.view
-  pub carries : carried s ≡ next s.view
+  pub carries : session_state s ≡ next s.view
   pub stands : StandsBefore (record { opened = o; events = after }) s.first_command s
 
 -- A chunk or a method found no memory: the transaction is spoiled.
@@ -82,7 +84,8 @@ RanShort s line s' = (line ≡ NoMemory) × (s' ≡ record s { spoiled = true; s
 
 -- It ran: it replied and left the state as it means.
 abbrev pub RanWhole : Command → Session → Line → Session → Type 0
-RanWhole c s line s' = ((line ∷ [], s'.state) ≡ run_command c s.state) × (s' ≡ record s { state = s'.state })
+RanWhole c s line s' =
+    ((line ∷ [], s'.state) ≡ run_command c s.state) × (s' ≡ record s { state = s'.state })
 
 -- what a chunk or a method does to a session, with this reply
 abbrev pub Ran : Command → Session → Line → Session → Type 0
@@ -93,7 +96,7 @@ pub record Replied (o : Opened) (number : ℕ) (before after : List Event) (s : 
     (lines : List Line) (s' : Session) : Type 0 where
   pub of_session : s'.session ≡ s.session
   pub says : CommandSays (record { opened = o; number = number; before = before; after = after })
-      (carried s) c lines (carried s')
+      (session_state s) c lines (session_state s')
   pub stands : StandsBefore (record { opened = o; events = after }) (number + 1) s'
 
 -- The session of the script's user has just logged in: it has made no event, and its first
@@ -103,5 +106,5 @@ pub record HasLoggedIn (t : Told) (script : SessionCommands) (s : Session) : Typ
   pub user : user_in (standing t).image script.user ≡ Some s.user
   pub fresh : events_of s.session t.events ≡ []
   pub view : s.view ≡ (standing t).number
-  pub carries : carried s ≡ first_transaction s.session s.user s.view
+  pub carries : session_state s ≡ first_transaction s.session s.user s.view
   pub stands : StandsBefore t 1 s

@@ -1,4 +1,5 @@
-//! Room: sessions and server. Takes a session's commands and a port of the Stone; gives its transcript.
+//! Room: sessions and server. Takes a session's commands and a port of the Stone; gives its
+//! transcript.
 //!
 //! Runs one session's commands against a Stone and says what it replies.
 #![tactic(auto)]

@@ -19,17 +19,17 @@ use std::alloc::{AllocError, Global};
 use stone_core::StonePort;
 use texts::Text;
 
-/// Runs the session with this number to its end: a login, its commands up to the first logout, and a
-/// logout, also where the script has none. The transcript has its replies. Where the image has no
+/// Runs the session with this number to its end: a login, its commands up to the first logout, and
+/// a logout, also where the script has none. The transcript has its replies. Where the image has no
 /// such user, each command is refused.
 ///
-/// The session has no event yet, and the script is the one that the port has for it. `serial` is that
-/// of the objects that the session makes.
+/// The session has no event yet, and the script is the one that the port has for it. `serial` is
+/// that of the objects that the session makes.
 ///
 /// # Errors
 ///
-/// `AllocError` where memory ran out for the replies, or where a transaction could not be begun. What
-/// the session has committed by then stays.
+/// `AllocError` where memory ran out for the replies, or where a transaction could not be begun.
+/// What the session has committed by then stays.
 pub fn run_session<P: StonePort>(
     alloc: Global,
     port: &mut P,
@@ -41,7 +41,8 @@ pub fn run_session<P: StonePort>(
     requires fresh { events_of session (P.state port.old).told.events ≡ [] }
     requires session { (1 ≤ session) × (session ≤ length (P.state port.old).told.opened.script) }
     requires serial { serial ≡ base_serial (P.state port.old).told.opened + session - 1 }
-    requires script { slice_get (P.state port.old).told.opened.script (session - 1) ≡ Some script.now }
+    requires script { slice_get (P.state port.old).told.opened.script (session - 1)
+        ≡ Some script.now }
     ensures transcript { IfOk result (λ transcript.
         IsTranscript (P.state port.new).told session script.now transcript) }
     ensures login { IfOk result (λ transcript. LogsIn (P.state port.old).told.opened session
@@ -66,8 +67,10 @@ fn all_replies<P: StonePort>(
     requires serves { (P.state port.old).serves session ≡ true }
     requires fresh { events_of session (P.state port.old).told.events ≡ [] }
     requires session { (1 ≤ session) × (session ≤ length (P.state port.old).told.opened.script) }
-    requires script { slice_get (P.state port.old).told.opened.script (session - 1) ≡ Some script.now }
-    ensures says { IfOk result (λ replies. Says (P.state port.new).told session script.now replies.items) }
+    requires script { slice_get (P.state port.old).told.opened.script (session - 1)
+        ≡ Some script.now }
+    ensures says { IfOk result
+        (λ replies. Says (P.state port.new).told session script.now replies.items) }
     ensures login { IfOk result (λ replies. LogsIn (P.state port.old).told.opened session
         (P.state port.old).told.events (P.state port.new).told.events replies.items) }
     ensures port { GoesOn session (P.state port.old) (P.state port.new) }
@@ -139,7 +142,8 @@ fn serve<P: StonePort>(
 // The replies of a session whose user isn't there: to the login, and to each command.
 fn refuse(alloc: Global, view: u64, script: &SessionScript) -> Result<Vec<Reply>, AllocError>
     ensures { IfOk result (λ replies. replies.items
-        ≡ reply_with 0 (NoUser view) ∷ not_logged_in 1 (length (until_logout script.now.commands))) }
+        ≡ reply_with 0 (NoUser view)
+        ∷ not_logged_in 1 (length (until_logout script.now.commands))) }
 {
     let count = before_logout(script.commands()).len() as u32 + 1;
     let mut replies = Vec::new(alloc);

@@ -3,13 +3,13 @@ ghost use Rattle.std.specs.Prelude.{◌≡◌, ◌+◌, ◌-◌, ◌≤◌, [], 
 ghost use Rattle.std.specs.List.{AllByRecursion, slice_get};
 ghost use Rattle.shell_words.specs.declared.script.Command.TheVariants.{Commit, Abort};
 ghost use Rattle.shell_words.specs.Script.{HasShortText};
-ghost use Rattle.gem_meaning.specs.State.{begun as state_at_start};
+ghost use Rattle.gem_meaning.specs.State.{state_at_start};
 ghost use Rattle.gem_meaning.specs.Transaction.{is_run};
 ghost use Rattle.gem_meaning.specs.Events.{commands_of};
 ghost use Rattle.gem_meaning.specs.Serial.{EndsTransaction, EndedBefore, IsConsistent};
 ghost use Rattle.gem_meaning.specs.Session.{next_transaction};
 ghost use Rattle.stone_core.specs.Port.{GoesOn};
-ghost use Rattle.gem_session.specs.Running.{IsCommandNumber, goes_on, ends_transaction, commit_line, carried, StandsBefore, Begins, Ran, Replied};
+ghost use Rattle.gem_session.specs.Running.{IsCommandNumber, goes_on, ends_transaction, commit_line, session_state, StandsBefore, Begins, Ran, Replied};
 
 use crate::running::run_command;
 use gem_meaning::PlainState;
@@ -78,12 +78,14 @@ impl Session {
         requires consistent { IsConsistent (P.state port.old).told }
         requires stands { StandsBefore (P.state port.old).told number self.old }
         requires number { IsCommandNumber number }
-        requires command { slice_get (commands_of (P.state port.old).told.opened.script self.old.session) (number - 1)
+        requires command { slice_get
+            (commands_of (P.state port.old).told.opened.script self.old.session) (number - 1)
             ≡ Some command.now }
         requires short { HasShortText command.now }
         requires goes_on { goes_on command.now ≡ true }
         ensures replied { IfOk result (λ line. Replied (P.state port.old).told.opened number
-            (P.state port.old).told.events (P.state port.new).told.events self.old command.now (line ∷ []) self.new) }
+            (P.state port.old).told.events (P.state port.new).told.events self.old command.now
+            (line ∷ []) self.new) }
         ensures port { GoesOn self.old.session (P.state port.old) (P.state port.new) }
     {
         match command {
@@ -122,10 +124,12 @@ impl Session {
         requires consistent { IsConsistent (P.state port.old).told }
         requires stands { StandsBefore (P.state port.old).told number self.old }
         requires number { IsCommandNumber number }
-        requires command { slice_get (commands_of (P.state port.old).told.opened.script self.old.session) (number - 1)
+        requires command { slice_get
+            (commands_of (P.state port.old).told.opened.script self.old.session) (number - 1)
             ≡ Some Commit }
         ensures replied { IfOk result (λ line. Replied (P.state port.old).told.opened number
-            (P.state port.old).told.events (P.state port.new).told.events self.old Commit (line ∷ []) self.new) }
+            (P.state port.old).told.events (P.state port.new).told.events self.old Commit
+            (line ∷ []) self.new) }
         ensures port { GoesOn self.old.session (P.state port.old) (P.state port.new) }
     {
         if self.spoiled {
@@ -159,10 +163,12 @@ impl Session {
         requires serves { (P.state port.old).serves self.old.session ≡ true }
         requires stands { StandsBefore (P.state port.old).told number self.old }
         requires number { IsCommandNumber number }
-        requires command { slice_get (commands_of (P.state port.old).told.opened.script self.old.session) (number - 1)
+        requires command { slice_get
+            (commands_of (P.state port.old).told.opened.script self.old.session) (number - 1)
             ≡ Some Abort }
         ensures replied { IfOk result (λ line. Replied (P.state port.old).told.opened number
-            (P.state port.old).told.events (P.state port.new).told.events self.old Abort (line ∷ []) self.new) }
+            (P.state port.old).told.events (P.state port.new).told.events self.old Abort
+            (line ∷ []) self.new) }
         ensures port { GoesOn self.old.session (P.state port.old) (P.state port.new) }
     {
         self.begin_next(alloc, port, number)?;
@@ -177,14 +183,19 @@ impl Session {
         number: u32,
     ) -> Result<(), AllocError>
         requires serves { (P.state port.old).serves self.old.session ≡ true }
-        requires session { (1 ≤ self.old.session) × (self.old.session ≤ length (P.state port.old).told.opened.script) }
+        requires session { (1 ≤ self.old.session)
+            × (self.old.session ≤ length (P.state port.old).told.opened.script) }
         requires number { IsCommandNumber number }
         requires transaction { self.old.transaction ≤ number }
         requires ended { EndsTransaction
-            (slice_get (commands_of (P.state port.old).told.opened.script self.old.session) (number - 1)) }
-        requires apart { AllByRecursion (EndedBefore self.old.session (number + 1)) (P.state port.old).told.events }
-        ensures begins { OnOk result (Begins (P.state port.old).told.opened (P.state port.old).told.events
-            (P.state port.new).told.events (λ view. next_transaction (carried self.old) view number) self.new) }
+            (slice_get (commands_of (P.state port.old).told.opened.script self.old.session)
+            (number - 1)) }
+        requires apart { AllByRecursion (EndedBefore self.old.session (number + 1))
+            (P.state port.old).told.events }
+        ensures begins { OnOk result
+            (Begins (P.state port.old).told.opened (P.state port.old).told.events
+            (P.state port.new).told.events
+            (λ view. next_transaction (session_state self.old) view number) self.new) }
         ensures port { GoesOn self.old.session (P.state port.old) (P.state port.new) }
     {
         let begun = port.begin(self.session)?;

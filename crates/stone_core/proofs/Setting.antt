@@ -14,7 +14,7 @@ use Rattle.gem_value.specs.Writes.{IsInNameOrder}
 use Rattle.gem_value.specs.declared.record.TxnRecord.{TxnRecord}
 use Rattle.shell_words.specs.Script.{SessionCommands}
 use Rattle.shell_words.specs.declared.script.Command.TheVariants.{Chunk, Commit}
-use Rattle.gem_meaning.specs.State.{State, begun, set}
+use Rattle.gem_meaning.specs.State.{State, state_at_start, with_global}
 use Rattle.gem_meaning.specs.Transaction.{run_chunk, transaction, written_of}
 use Rattle.gem_meaning.specs.Events.{Event, Told, run_on_view, after_events, standing, events_of}
 use Rattle.gem_meaning.specs.Serial.{IsRecorded}
@@ -51,7 +51,7 @@ with_script image script = record { opened = record { image = image; number = 0;
 
 -- the chunk sets the global to this value, and nothing else
 abbrev Sets : Bytes → ℤ → Type 0
-Sets text value = (s : State) → (run_chunk false text s).1 ≡ set global value s
+Sets text value = (s : State) → (run_chunk false text s).1 ≡ with_global global value s
 
 five_is_set : Sets puts_five (pos 5)
 unfolding run_chunk tree_of tokens_of
@@ -65,7 +65,7 @@ written_once : (text : Bytes) (value : ℤ) (image : Image) → Sets text value
     → written_of (transaction (Chunk false text ∷ Commit ∷ []) image image) ≡ (global, value) ∷ []
 unfolding transaction written_of
 written_once text value image sets =
-    ap (λ (s : State). entries s.written) (sets (begun image))
+    ap (λ (s : State). entries s.written) (sets (state_at_start image))
     ∙ (entries-insert nat_list_cmp_total empty global value
     ∙ ap (put (slice_cmp nat_cmp) global value) (nil_from_length (entries empty) (sym (len-entries empty) ∙ len-empty (slice_cmp nat_cmp) ℤ)))
 

@@ -5,7 +5,11 @@ use Rattle.stone_core.specs.declared.stone.Stone.TheInside.{Inside}
 
 abbrev pub told_by : Inside → Told
 told_by stone = record {
-  opened = record { image = stone.opened_image; number = stone.opened_number; script = stone.script.value };
+  opened = record {
+    image = stone.opened_image;
+    number = stone.opened_number;
+    script = stone.script.value;
+  };
   events = stone.events.items;
 }
 

@@ -1,5 +1,5 @@
--- What each call of a Stone answers, by the events before and after it. Events of other sessions may
--- come first; then the call's own one. Each answer is judged when the others' events have come.
+-- What each call of a Stone answers, by the events before and after it. Events of other sessions
+-- may come first; then the call's own one. Each answer is judged when the others' events have come.
 use Rattle.std.specs.Prelude.{◌≡◌, ◌≢◌, ℕ, ◌+◌, Bool, true, List, [], ◌∷◌, ◌++◌}
 use Rattle.gem_value.specs.Image.{Image}
 use Rattle.gem_value.specs.declared.conflict.Conflict.{Conflict}
@@ -25,8 +25,8 @@ abbrev pub event_of_answer : Standing → (session : ℕ) → Entry → CommitAn
 event_of_answer s session e (PlacedAt number) = (session, Placed e) ∷ []
 event_of_answer s session e _ = []
 
--- Where nothing was written, the commit is read only. Otherwise it is refused where it has conflicts
--- at this point, and else placed, with the next number; only then memory may be wanting.
+-- Where nothing was written, the commit is read only. Otherwise it is refused where it has
+-- conflicts at this point, and else placed, with the next number; only then memory may be wanting.
 abbrev pub AnswerFits : Opened → Standing → TxnRecord → CommitAnswer → Type 0
 AnswerFits o s r (ReadOnly number) = IsUnchangedRecord r × (number ≡ r.view)
 AnswerFits o s r (Conflicts found) =
@@ -36,7 +36,8 @@ AnswerFits o s r (PlacedAt number) =
 AnswerFits o s r NoMemory = IsUnchangedRecord r → ⊥
 
 -- What a commit says: others' events came, then the one that its answer makes.
-pub record CommitSays (o : Opened) (before after : List Event) (r : TxnRecord) (answer : CommitAnswer) : Type 0 where
+pub record CommitSays (o : Opened) (before after : List Event) (r : TxnRecord)
+    (answer : CommitAnswer) : Type 0 where
   pub others : List Event
   pub are_others : events_of r.session others ≡ []
   pub events : after ≡ (before ++ others)
@@ -45,7 +46,8 @@ pub record CommitSays (o : Opened) (before after : List Event) (r : TxnRecord) (
 
 -- What the beginning of a transaction says: others' events came, and the image and the number are
 -- those that stand then.
-pub record BeginSays (o : Opened) (session : ℕ) (before after : List Event) (image : Image) (number : ℕ) : Type 0 where
+pub record BeginSays (o : Opened) (session : ℕ) (before after : List Event) (image : Image)
+    (number : ℕ) : Type 0 where
   pub others_came : OthersCame session before after
   pub image_is : image ≡ (after_events o after).image
   pub number_is : number ≡ (after_events o after).number
@@ -57,13 +59,15 @@ pub record PortState : Type 0 where
   pub serves : ℕ → Bool
   pub alone : Bool
 
--- A port that is alone stays so, and in a call for this session no other session has a further event.
+-- A port that is alone stays so, and in a call for this session no other session has a further
+-- event.
 abbrev pub IsAloneStill : ℕ → PortState → PortState → Type 0
 IsAloneStill session before after = before.alone ≡ true → (after.alone ≡ true)
-    × ((other : ℕ) → other ≢ session → events_of other after.told.events ≡ events_of other before.told.events)
+    × ((other : ℕ) → other ≢ session
+    → events_of other after.told.events ≡ events_of other before.told.events)
 
--- What every call for a session keeps: the port is on the same Stone and has seen more events, which
--- are consistent; it serves whom it served; and a port that is alone stays so.
+-- What every call for a session keeps: the port is on the same Stone and has seen more events,
+-- which are consistent; it serves whom it served; and a port that is alone stays so.
 pub record GoesOn (session : ℕ) (before after : PortState) : Type 0 where
   pub opened : after.told.opened ≡ before.told.opened
   pub extends : Extends before.told.events after.told.events

@@ -5,7 +5,8 @@ use Rattle.gem_value.specs.declared.record.Entry.{Entry}
 use Rattle.gem_meaning.specs.Events.{Told, standing, entries_of}
 use Rattle.gem_meaning.specs.Serial.{IsConsistent}
 
--- the most commits in an image that a Stone is opened with: more than a Stone can add are left below 2^64
+-- the most commits in an image that a Stone is opened with: more than a Stone can add are left
+-- below 2^64
 abbrev pub most_at_opening : ℕ
 most_at_opening = 2 ^ 62
 

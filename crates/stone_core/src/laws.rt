@@ -1,4 +1,5 @@
-//! What follows from the definitions alone. Each law is the contract of a function that does nothing.
+//! What follows from the definitions alone. Each law is the contract of a function that does
+//! nothing.
 ghost use Rattle.std.specs.Prelude.{◌≡◌, ◌≢◌, ◌≤◌, ◌<◌, [], ◌∷◌, ◌++◌, ℕ, List};
 ghost use Rattle.std.specs.List.{AllByRecursion};
 ghost use Rattle.gem_value.specs.declared.record.TxnRecord.{TxnRecord};
@@ -12,7 +13,8 @@ ghost use Rattle.stone_core.specs.declared.port.CommitAnswer.{CommitAnswer};
 ghost use Rattle.stone_core.specs.declared.port.CommitAnswer.TheVariants.{Placed as PlacedAt};
 ghost use Rattle.stone_core.specs.Port.{CommitSays};
 
-/// What a view shows stays the same, whatever is committed later, and the number of commits never falls.
+/// What a view shows stays the same, whatever is committed later, and the number of commits never
+/// falls.
 pub fn views_stay()
     ensures image { (t : Told) (more : List Event) (number : ℕ) →
         t.opened.number ≤ number → number ≤ (standing t).number →
@@ -27,12 +29,14 @@ pub fn records_stay()
         IsRecorded t r → IsRecorded (told_more t more) r }
 {}
 
-/// The first committer wins: a transaction that wrote something conflicts with each commit made after
-/// its view began. What is shown with a conflict is the number of a commit after the view.
+/// The first committer wins: a transaction that wrote something conflicts with each commit made
+/// after its view began. What is shown with a conflict is the number of a commit after the view.
 pub fn first_committer_wins()
-    ensures conflict { (o : Opened) (before more : List Event) (session : ℕ) (placed e : Entry) (run : Run) →
+    ensures conflict { (o : Opened) (before more : List Event) (session : ℕ) (placed e : Entry)
+        (run : Run) →
         e.view ≤ (after_events o before).number →
-        conflicts_at o (after_events o ((before ++ (session, Placed placed) ∷ []) ++ more)) e run ≢ [] }
+        conflicts_at o (after_events o
+        ((before ++ (session, Placed placed) ∷ []) ++ more)) e run ≢ [] }
     ensures shown { (o : Opened) (s : Standing) (e : Entry) (run : Run) →
         AllByRecursion (λ conflict. e.view < conflict.shown) (conflicts_at o s e run) }
 {}

@@ -53,9 +53,9 @@ pub trait StonePort {
     /// Commits what a transaction wrote. The record has to be what running its commands gives where
     /// all stands as at its view.
     ///
-    /// It is read only exactly where nothing was written. Otherwise it is refused exactly where there
-    /// are conflicts, and else placed, with the next number. Only where it is placed something has
-    /// changed.
+    /// It is read only exactly where nothing was written. Otherwise it is refused exactly where
+    /// there are conflicts, and else placed, with the next number. Only where it is placed
+    /// something has changed.
     fn commit(&mut self, alloc: Global, done: &TxnRecord) -> CommitAnswer
         requires serves { (state self.old).serves done.now.session ≡ true }
         requires recorded { IsRecorded (state self.old).told done.now }

@@ -19,12 +19,12 @@ use std::alloc::{AllocError, Global};
 use std::marker::Model;
 use std::sync::Arc;
 
-/// The one place where transactions of a script are committed, one after the other. Each is judged by
-/// what has been committed since its view.
+/// The one place where transactions of a script are committed, one after the other. Each is judged
+/// by what has been committed since its view.
 ///
 /// A contract sees it as a `Told`: what it was opened with, and its events since. The image and the
-/// number of commits are those that stand after the events, which are consistent: each is of a session
-/// of the script, and the commits have a serial order.
+/// number of commits are those that stand after the events, which are consistent: each is of a
+/// session of the script, and the commits have a serial order.
 #[derive(Debug, Drop)]
 pub struct Stone {
     opened_image: Image,
@@ -106,12 +106,12 @@ impl Stone {
         })
     }
 
-    /// Commits what a transaction wrote. The record has to be what running its commands gives where all
-    /// stands as at its view.
+    /// Commits what a transaction wrote. The record has to be what running its commands gives where
+    /// all stands as at its view.
     ///
-    /// It is read only exactly where nothing was written. Otherwise it is refused exactly where there
-    /// are conflicts, and else placed, with the next number. Every other answer, also that memory ran
-    /// out, leaves the Stone as it was.
+    /// It is read only exactly where nothing was written. Otherwise it is refused exactly where
+    /// there are conflicts, and else placed, with the next number. Every other answer, also that
+    /// memory ran out, leaves the Stone as it was.
     pub fn commit(&mut self, alloc: Global, done: &TxnRecord) -> CommitAnswer
         requires recorded { IsRecorded self.old done.now }
         ensures events { self.new ≡ record self.old {
@@ -141,8 +141,8 @@ impl Stone {
         }
     }
 
-    // Whether the number hasn't fallen since the opening, which is always so. What else the type says
-    // of every Stone is told with it.
+    // Whether the number hasn't fallen since the opening, which is always so. What else the type
+    // says of every Stone is told with it.
     fn keeps_order(&self) -> bool
         ensures { IsConsistent self.now }
     {
@@ -191,7 +191,8 @@ impl Stone {
     // Places the commit of a transaction that has no conflict, and gives its number.
     fn place(&mut self, alloc: Global, done: &TxnRecord) -> Result<u64, AllocError>
         requires recorded { IsRecorded self.old done.now }
-        requires no_conflict { conflicts_of_record self.old.opened (standing self.old) done.now ≡ [] }
+        requires no_conflict { conflicts_of_record self.old.opened (standing self.old) done.now
+            ≡ [] }
         ensures number { IfOk result (λ number. number ≡ (standing self.old).number + 1) }
         ensures placed { IfOk result (λ _. self.new ≡ record self.old {
           events = self.old.events

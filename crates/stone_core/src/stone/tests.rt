@@ -9,7 +9,8 @@ use std::test::Fail;
 use texts::Text;
 
 fn one_commit(alloc: Global) -> Result<Arc<Script>, AllocError>
-    ensures { IfOk result (λ script. script.value ≡ record { user = 65 ∷ []; commands = Commit ∷ [] } ∷ []) }
+    ensures { IfOk result (λ script. script.value
+        ≡ record { user = 65 ∷ []; commands = Commit ∷ [] } ∷ []) }
 {
     let user = Text::of(Vec::from_slice(alloc, b"A")?);
     let session = SessionScript::of(user, vec![in alloc; Command::Commit]?);
@@ -44,7 +45,8 @@ fn nothing_to_commit(rt: HostRuntime) -> Result<(), Fail> {
 
 fn session_that_runs(alloc: Global, chunk: &[u8]) -> Result<SessionScript, AllocError>
     requires { length chunk.now ≤ CHUNK_LIMIT }
-    ensures { IfOk result (λ session. session ≡ record { user = codes "A"; commands = Chunk false chunk.now ∷ Commit ∷ [] }) }
+    ensures { IfOk result (λ session. session
+        ≡ record { user = codes "A"; commands = Chunk false chunk.now ∷ Commit ∷ [] }) }
 {
     let user = Text::of(Vec::from_slice(alloc, b"A")?);
     let text = Text::of(Vec::from_slice(alloc, chunk)?);
@@ -56,8 +58,16 @@ fn session_that_runs(alloc: Global, chunk: &[u8]) -> Result<SessionScript, Alloc
 }
 
 fn two_sessions(alloc: Global) -> Result<Arc<Script>, AllocError>
-    ensures { IfOk result (λ script. script.value ≡ record { user = codes "A"; commands = Chunk false (codes "Globals at: #T put: 5") ∷ Commit ∷ [] }
-        ∷ record { user = codes "A"; commands = Chunk false (codes "Globals at: #T put: 6") ∷ Commit ∷ [] } ∷ []) }
+    ensures { IfOk result (λ script. script.value
+        ≡ record {
+          user = codes "A";
+          commands = Chunk false (codes "Globals at: #T put: 5") ∷ Commit ∷ [];
+        }
+        ∷ record {
+          user = codes "A";
+          commands = Chunk false (codes "Globals at: #T put: 6") ∷ Commit ∷ [];
+        }
+        ∷ []) }
 {
     let first = session_that_runs(alloc, b"Globals at: #T put: 5")?;
     let second = session_that_runs(alloc, b"Globals at: #T put: 6")?;
@@ -65,7 +75,14 @@ fn two_sessions(alloc: Global) -> Result<Arc<Script>, AllocError>
 }
 
 fn record_of_put(alloc: Global, session: u32, value: i64) -> Result<TxnRecord, AllocError>
-    ensures { IfOk result (λ done. done ≡ record { session = session; transaction = 1; first_command = 1; last_command = 2; view = 0; written = (codes "T", value) ∷ [] }) }
+    ensures { IfOk result (λ done. done ≡ record {
+      session = session;
+      transaction = 1;
+      first_command = 1;
+      last_command = 2;
+      view = 0;
+      written = (codes "T", value) ∷ [];
+    }) }
 {
     let name = Text::of(Vec::from_slice(alloc, b"T")?);
     Ok(TxnRecord {

@@ -1,6 +1,6 @@
 use Rattle.std.proofs.Common.{◌+◌, ◌∙◌, sym, subst}
 use Rattle.gem_meaning.specs.Session.{next_transaction}
-use Rattle.gem_session.specs.Running.{carried, Begins}
+use Rattle.gem_session.specs.Running.{session_state, Begins}
 use Rattle.gem_session.proofs.Others.{goes_on_none, goes_on_twice}
 use Rattle.gem_session.proofs.Commits.{recorded, commit_spoiled, commit_short, commit_ended, commit_goes_on, apart_ended}
 use Rattle.gem_session.proofs.session.Session.commit.Goals as goal
@@ -42,7 +42,7 @@ returns-then-ends_transaction-clause-replied g c =
     let middle = (g.P.StonePort.state c.commit-answer.new.self).told.events in
     let after = (g.P.StonePort.state c.begin_next.new.port).told.events in
     let ends = sym c.ends_transaction.ensures ∙ c.if-ends_transaction.true in
-    let begins = subst (λ o. Begins o middle after (λ view. next_transaction (carried c.args.self.now) view c.args.number) c.begin_next.new.self)
+    let begins = subst (λ o. Begins o middle after (λ view. next_transaction (session_state c.args.self.now) view c.args.number) c.begin_next.new.self)
     c.commit-answer.ensures.port.opened c.in_ok-begin_next.ensures.begins in
     rw c.commit_line.ensures
     (commit_ended t.opened t.events middle after c.args.number c.args.self.now c.in-Ok.written c.commit-answer.result c.begin_next.new.self ends
