@@ -25,11 +25,11 @@ detail_of IntegerRange = codes "integer range"
 abbrev pub Outcome : Type 0
 Outcome = Option (Result ℤ EvaluationError)
 
--- an exact result, where it is an integer of the language
+-- an exact result, where it is an integer of the language, and else E6
 abbrev pub small_or_error : ℤ → Result ℤ EvaluationError
 small_or_error z = if is_small_integer z then Ok z else Err IntegerRange
 
--- a global that may not be there
+-- a global that may not be there: then E2
 abbrev pub global_or_error : Bytes → Option ℤ → Result ℤ EvaluationError
 global_or_error n (Some z) = Ok z
 global_or_error n None = Err (UndefinedVariable n)

@@ -17,9 +17,9 @@ use texts::Text;
 /// Why a chunk ended with an error: `kind` is its number, and `detail` says in words what is wrong.
 #[derive(Debug, Drop)]
 pub enum EvaluationError {
-    /// A global with this name isn't there.
+    /// E2: a global with this name isn't there.
     UndefinedVariable(Text),
-    /// A result outside the integers from -2^60 to 2^60 - 1.
+    /// E6: a result outside the integers from -2^60 to 2^60 - 1.
     IntegerRange,
 }
 
