@@ -1,8 +1,9 @@
-//! Where a script's bytes come from and where a report's bytes go: the traits `Source` and `Sink`, both in memory, and
-//! standard input and output.
+//! Room: shelves. Moves bytes in and out, in pieces, or says that a device failed. Knows nothing of
+//! scripts and reports.
 //!
-//! Each device has a count of faults that never falls, and a call fails only where that count rises. A device may tell
-//! its contents: what a source has left, and what a sink has taken.
+//! The traits are `Source` and `Sink`, with devices in memory and over the readers and writers of
+//! std. Each device has a count of faults, which rises in a call that fails, and in no other. A
+//! device may tell its contents: what a source has left, and what a sink has taken.
 #![tactic(auto)]
 
 mod device;

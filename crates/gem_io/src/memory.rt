@@ -1,3 +1,4 @@
+//! Devices in memory, which fail in the calls that one chooses.
 ghost use Rattle.std.specs.Prelude.{◌≡◌, ◌<◌, [], length, Some, IfOk};
 ghost use Rattle.std.specs.Io.{ReadsAtMost, WritesAtMost};
 ghost use Rattle.std.specs.Io.KnownBytes.{ReadConsumes, WriteAppends};
@@ -8,8 +9,8 @@ use crate::sure::fill;
 use crate::{Failed, Sink, Source};
 use std::marker::Model;
 
-/// A source that gives bytes of memory, and fails in chosen calls. A call gives as many bytes as there are and as there is
-/// room for.
+/// A source that gives bytes of memory, and fails in chosen calls. A call gives as many bytes as
+/// there are and as there is room for.
 #[derive(Debug, Drop)]
 pub struct MemSource {
     bytes: Vec<u8>,
@@ -25,7 +26,12 @@ impl Model for MemSource {
 
     ghost Value = { Reading };
 
-    ghost view = { λ s. record { left = drop s.at s.bytes.items; calls = s.calls; fails = s.fails.items; failures = s.failures } };
+    ghost view = { λ s. record {
+      left = drop s.at s.bytes.items;
+      calls = s.calls;
+      fails = s.fails.items;
+      failures = s.failures;
+    } };
 
     ghost invariant = { λ s. s.at ≤ length s.bytes.items };
 }
@@ -33,7 +39,8 @@ impl Model for MemSource {
 impl MemSource {
     /// A source of these bytes whose calls with these numbers fail. The first call is number 1.
     pub fn new(bytes: Vec<u8>, fails: Vec<u64>) -> MemSource
-        ensures { result ≡ record { left = bytes.items; calls = 0; fails = fails.items; failures = 0 } }
+        ensures { result
+            ≡ record { left = bytes.items; calls = 0; fails = fails.items; failures = 0 } }
     {
         MemSource {
             bytes,
@@ -68,7 +75,8 @@ impl Source for MemSource {
     }
 }
 
-/// A sink that keeps the bytes that it takes in memory, and fails in chosen calls. It takes a piece whole.
+/// A sink that keeps the bytes that it takes in memory, and fails in chosen calls. It takes a piece
+/// whole.
 #[derive(Debug, Drop)]
 pub struct MemSink {
     written: Vec<u8>,
@@ -83,14 +91,21 @@ impl Model for MemSink {
 
     ghost Value = { Writing };
 
-    ghost view = { λ s. record { written = s.written.items; calls = s.calls; fails = s.fails.items; refused = s.refused; starved = s.starved } };
+    ghost view = { λ s. record {
+      written = s.written.items;
+      calls = s.calls;
+      fails = s.fails.items;
+      refused = s.refused;
+      starved = s.starved;
+    } };
 }
 
 impl MemSink {
-    /// A sink that has taken nothing, whose calls with these numbers fail. The first call is number 1. The bytes that it
-    /// takes will stand in the allocator of `fails`.
+    /// A sink that has taken nothing, whose calls with these numbers fail. The first call is number
+    /// 1. The bytes that it takes will stand in the allocator of `fails`.
     pub fn new(fails: Vec<u64>) -> MemSink
-        ensures { result ≡ record { written = []; calls = 0; fails = fails.items; refused = 0; starved = 0 } }
+        ensures { result
+            ≡ record { written = []; calls = 0; fails = fails.items; refused = 0; starved = 0 } }
     {
         MemSink {
             written: Vec::new(*fails.allocator()),
@@ -101,7 +116,7 @@ impl MemSink {
         }
     }
 
-    /// How often a piece found no memory, up to 2^64 - 1.
+    /// How often a piece found no memory, 2^64 - 1 at most.
     pub fn starved(&self) -> u64
         ensures { result ≡ self.now.starved }
     {
@@ -125,7 +140,8 @@ impl Sink for MemSink {
         requires { 0 < length piece.now }
         ensures bound { WritesAtMost result piece.now }
         ensures some { IfOk result (λ n. 0 < n) }
-        ensures bytes { WriteAppends (Some self.old.written) (Some self.new.written) result piece.now }
+        ensures bytes { WriteAppends (Some self.old.written) (Some self.new.written) result
+            piece.now }
         ensures faults { HasCause (failures_of self.old) (failures_of self.new) result }
         ensures puts { Puts self.old piece.now result self.new }
     {

@@ -1,9 +1,11 @@
+//! Readers and writers of std as devices, for standard input and output.
 ghost use Rattle.std.specs.Prelude.{◌≡◌};
 
 use crate::{Failed, Sink, Source};
 use std::io::{Read, Write};
 
-/// A reader of std as a source, for standard input. It tells the contents that the reader tells, so none of standard input.
+/// A reader of std as a source. It tells the contents that the reader tells, so none of standard
+/// input.
 #[derive(Drop)]
 pub struct StdSource<R> {
     reader: R,
@@ -11,7 +13,8 @@ pub struct StdSource<R> {
 }
 
 impl<R: Read> StdSource<R> {
-    /// A source of what the reader gives. An error of the reader is a failure, also one that asks for another try.
+    /// A source of what the reader gives. An error of the reader is a failure, also one that asks
+    /// for another try.
     pub fn new(reader: R) -> StdSource<R>
         ensures left { ⟦<StdSource<R> as Source>⟧.left result ≡ R.remaining reader }
         ensures faults { ⟦<StdSource<R> as Source>⟧.faults result ≡ 0 }
@@ -36,7 +39,8 @@ impl<R: Read> Source for StdSource<R> {
     }
 }
 
-/// A writer of std as a sink, for standard output. It tells the contents that the writer tells, so none of standard output.
+/// A writer of std as a sink. It tells the contents that the writer tells, so none of standard
+/// output.
 #[derive(Drop)]
 pub struct StdSink<W> {
     writer: W,
@@ -44,8 +48,8 @@ pub struct StdSink<W> {
 }
 
 impl<W: Write> StdSink<W> {
-    /// A sink over the writer. An error of the writer, or a write that takes nothing, is a failure. The writer isn't flushed,
-    /// so it should hold nothing back, as standard output doesn't.
+    /// A sink over the writer. An error of the writer, or a write that takes nothing, is a failure.
+    /// The writer isn't flushed, so it should hold nothing back, as standard output doesn't.
     pub fn new(writer: W) -> StdSink<W>
         ensures written { ⟦<StdSink<W> as Sink>⟧.written result ≡ W.contents writer }
         ensures faults { ⟦<StdSink<W> as Sink>⟧.faults result ≡ 0 }

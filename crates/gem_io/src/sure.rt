@@ -1,3 +1,4 @@
+//! Devices that never fail.
 ghost use Rattle.std.specs.Prelude.{◌≡◌, ◌<◌, length, min, take, Some, None, IfOk, Ok};
 ghost use Rattle.std.specs.Io.{ReadsAtMost, WritesAtMost};
 ghost use Rattle.std.specs.Io.KnownBytes.{ReadConsumes, WriteAppends};
@@ -6,7 +7,8 @@ ghost use Rattle.gem_io.specs.Faults.{HasCause};
 use crate::{Failed, Sink, Source};
 use std::marker::Model;
 
-// Copies as many bytes to the front of `out` as there are and as there is room for, and says how many.
+// Copies as many bytes to the front of `out` as there are and as there is room for, and says how
+// many.
 pub(crate) fn fill(out: &mut [u8], bytes: &[u8]) -> usize
     ensures count { result ≡ min (length out.old) (length bytes.now) }
     ensures moved { take result out.new ≡ take result bytes.now }

@@ -1,3 +1,4 @@
+// The devices, one by one.
 use super::*;
 use std::io::{Error, ErrorKind, Read, Write};
 use std::test::Fail;

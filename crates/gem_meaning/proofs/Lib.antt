@@ -1,6 +1,15 @@
+pub mod Claims
 pub mod Evaluation
+pub mod Lines
+pub mod OneReport
+pub mod Printed
+pub mod Replay
+pub mod ReplayCommands
 pub mod Running
 pub mod Shapes
+pub mod SoFar
 pub mod Stays
 pub mod Steps
+pub mod Turns
+pub mod Views
 pub mod Written

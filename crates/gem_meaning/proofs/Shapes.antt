@@ -1,7 +1,8 @@
 -- The trees that are of a form, and those that are not.
 use Rattle.std.proofs.Common.{◌≡◌, true≢false, ◌∙◌, ℕ, zero, suc, ◌<◌, ◌≤◌, Bool, false, List, [], ◌∷◌, length, None, refl, sym as turned, arith}
 use Rattle.std.specs.Bool.{◌==◌}
-use Rattle.st_tree.specs.Trees.{Bytes, sym, Head, name, constant, Expression, expression, Send, send, Sends, no_sends, a_send, sends, expressions}
+use Rattle.texts.specs.Bytes.{Bytes}
+use Rattle.st_tree.specs.Trees.{sym, Head, name, constant, Expression, expression, Send, send, Sends, no_sends, a_send, sends, expressions}
 use Rattle.gem_meaning.specs.Form.{symbol_of, put_message, put_of, is_arithmetic, is_operand, is_operation}
 
 pub assigned : (ns : List Bytes) (h : Head) (ms cs : Sends) → 0 < length ns → false ≡ is_arithmetic (expression ns h ms cs)

@@ -1,6 +1,7 @@
 -- How a list of messages or statements goes on from one to the next.
 use Rattle.std.proofs.Common.{◌≡◌, ℕ, ◌+◌, ◌<◌, ◌&&◌, true, false, true≢false, Option, Some, None, is_some, List, [], ◌∷◌, length, get_or, drop, refl, ap, add-one, drop-cons, arith}
-use Rattle.st_tree.specs.Trees.{Bytes, Head, expression, Send, Sends, a_send, sends, Statement, a_statement, statements}
+use Rattle.texts.specs.Bytes.{Bytes}
+use Rattle.st_tree.specs.Trees.{Head, expression, Send, Sends, a_send, sends, Statement, a_statement, statements}
 use Rattle.gem_meaning.specs.Form.{is_arithmetic, is_operand, is_operation, are_operations, is_step, are_steps, is_chunk}
 
 -- the messages from one on are this one and those after it

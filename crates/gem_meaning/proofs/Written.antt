@@ -1,14 +1,15 @@
 -- The entries of the map that a state wrote.
-use Rattle.std.proofs.Common.{◌≡◌, ◌≢◌, ℕ, ℤ, Bool, true, false, true≢false, not, List, [], ◌∷◌, length, map, is_some, Vec, Global, Bor, MatchBool, refl, sym, ap, ◌∙◌, arith}
+use Rattle.std.proofs.Common.{Result, Ok, Err, ◌≡◌, ◌≢◌, ℕ, ℤ, Bool, true, false, true≢false, not, List, [], ◌∷◌, length, map, is_some, Vec, Global, Bor, MatchBool, refl, sym, ap, ◌∙◌, arith, subst}
 use Rattle.std.specs.declared.cmp.Ordering.TheVariants.{Less}
 use Rattle.std.specs.List.{AllByRecursion}
+use Rattle.std.specs.Result.{IfErr}
 use Rattle.std.specs.List.Sorted.{IsStrictlySortedBy}
 use Rattle.std.specs.Cmp.Lexicographic.{nat_list_cmp_total}
 use Rattle.std.specs.Map.{keys_of}
 use Rattle.std.specs.Map.Iter.{deref_pair}
 use Rattle.std.specs.FinMap.{empty, insert, entries, from_entries, get, get-empty, entries-insert, len-empty, len-entries}
 use Rattle.std.specs.FinMap.Entries.{put}
-use Rattle.st_tree.specs.Trees.{Bytes}
+use Rattle.texts.specs.Bytes.{Bytes}
 use Rattle.gem_value.specs.Image.{Image, entries_by_name}
 use Rattle.gem_value.specs.Writes.{IsInNameOrder}
 use Rattle.gem_meaning.specs.State.{State}
@@ -50,16 +51,30 @@ entries_back (e ∷ es) sorted =
     entries-insert nat_list_cmp_total (from_entries {R = name_cmp} es) e.0 e.1
     ∙ (ap (put name_cmp e.0 e.1) (entries_back es sorted.1) ∙ put_first e.0 e.1 es sorted.0)
 
-some_entry : (e : Bytes × ℤ) (rest : Image) → insert rest e.0 e.1 ≡ empty → ⊥
-some_entry e rest is = true≢false (ap is_some (sym (get-set_same rest e.0 e.1) ∙ (ap (λ m. get m e.0) is ∙ get-empty name_cmp e.0)))
-
--- a map is empty if it has no entries
-pub wrote : (es : Entries) (b : Bool) → (b ≡ true → length es ≡ 0) → (length es ≡ 0 → b ≡ true)
-    → MatchBool (not b) (from_entries {R = name_cmp} (entries_by_name es) ≢ empty) (from_entries {R = name_cmp} (entries_by_name es) ≡ empty)
-wrote [] true forth back = refl
-wrote [] false forth back = absurd (true≢false (sym (back refl)))
-wrote (e ∷ es) true forth back = absurd (omega (arith, forth refl))
-wrote (e ∷ es) false forth back = some_entry (e.0.items, e.1) (from_entries (entries_by_name es))
-
 abbrev pub written_entries : State → List (Bytes × ℤ)
 written_entries s = entries s.written
+
+-- no entries are in order
+pub none_in_order : (es : List (Bytes × ℤ)) → es ≡ [] → IsInNameOrder es
+unfolding IsStrictlySortedBy
+none_in_order es none = subst IsInNameOrder (sym none) tt
+
+named_length : (es : Entries) → length (entries_by_name es) ≡ length es
+named_length [] = refl
+named_length (e ∷ es) = omega (arith, named_length es)
+
+-- the map that they make has entries where there are some
+pub some_written : (es : Entries) → IsStrictlySortedBy vec_cmp (keys_of es) → (length es ≡ 0 → ⊥)
+    → entries (from_entries {R = name_cmp} (entries_by_name es)) ≢ []
+some_written es sorted some none =
+    some (sym (named_length es) ∙ ap length (sym (entries_back (entries_by_name es) (names_in_order es sorted)) ∙ none))
+
+pub none_written : (es : Entries) → IsStrictlySortedBy vec_cmp (keys_of es) → length es ≡ 0
+    → [] ≡ entries (from_entries {R = name_cmp} (entries_by_name es))
+none_written es sorted none =
+    sym (entries_back (entries_by_name es) (names_in_order es sorted) ∙ no_items (entries_by_name es) (named_length es ∙ none))
+
+-- what holds in any case holds of an error
+pub of_any_error : {A E : Type 0} (r : Result A E) (B : Type 0) → B → IfErr r (λ _. B)
+of_any_error (Ok x) B holds = tt
+of_any_error (Err e) B holds = holds

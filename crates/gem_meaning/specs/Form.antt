@@ -1,25 +1,14 @@
--- The chunks that have a meaning in this stage: statements of whole numbers, global names, the messages + - * and
--- parentheses, and `Globals at: #NAME put:` with such an expression.
+-- The chunks that have a meaning in this stage: statements of whole numbers, global names, the
+-- messages + - * and parentheses, and `Globals at: #NAME put:` with such an expression.
 use Rattle.std.specs.Prelude.{Bool, true, false, not, ◌&&◌, codes, List, [], ◌∷◌, Option, Some, None, is_some, ℤ, pos, negsuc, ◌^◌, nat_lt}
-use Rattle.std.specs.List.{list_any, list_all}
+use Rattle.std.specs.List.{list_all}
 use Rattle.std.specs.Str.{bytes_eq}
 use Rattle.std.specs.Char.{is_ascii_uppercase}
-use Rattle.st_tree.specs.Trees.{Bytes, int, sym, Head, name, constant, paren, Expression, expression, Send, send, Sends, no_sends, a_send, no_expressions, an_expression, Statement, statement, Statements, no_statements, a_statement, Program}
-use Rattle.st_tree.specs.Tokens.{is_name_byte}
+use Rattle.texts.specs.Bytes.{Bytes}
+use Rattle.st_tree.specs.Trees.{int, sym, Head, name, constant, paren, Expression, expression, Send, send, Sends, no_sends, a_send, no_expressions, an_expression, Statement, statement, Statements, no_statements, a_statement, Program}
+use Rattle.texts.specs.NameBytes.{is_name_byte}
+use Rattle.profile.specs.Kernel.{is_kernel_name}
 use Rattle.gem_meaning.specs.Operation.{operation_with}
-
--- The names that every image has, and UserGlobals: no chunk may name them in this stage.
-abbrev pub kernel_names : List Bytes
-kernel_names =
-    codes "Object" ∷ codes "Class" ∷ codes "UndefinedObject" ∷ codes "Boolean" ∷ codes "True" ∷ codes "False"
-    ∷ codes "Magnitude" ∷ codes "Character" ∷ codes "SmallInteger" ∷ codes "Block"
-    ∷ codes "Collection" ∷ codes "SequenceableCollection" ∷ codes "Array" ∷ codes "OrderedCollection" ∷ codes "String" ∷ codes "Symbol"
-    ∷ codes "IdentityDictionary" ∷ codes "SymbolDictionary" ∷ codes "RcCounter" ∷ codes "RcIdentityBag" ∷ codes "RcKeyValueDictionary" ∷ codes "RcQueue"
-    ∷ codes "Segment" ∷ codes "UserProfile" ∷ codes "System" ∷ codes "TranscriptStream"
-    ∷ codes "Globals" ∷ codes "AllUsers" ∷ codes "SystemSegment" ∷ codes "DataCuratorSegment" ∷ codes "Transcript" ∷ codes "UserGlobals" ∷ []
-
-abbrev pub is_kernel_name : Bytes → Bool
-is_kernel_name n = list_any (bytes_eq n) kernel_names
 
 abbrev pub begins_with_capital : Bytes → Bool
 begins_with_capital [] = false
@@ -34,13 +23,15 @@ abbrev pub symbol_of : Expression → Option Bytes
 symbol_of (expression [] (constant (sym n)) no_sends no_sends) = Some n
 symbol_of _ = None
 
--- the name and the expression of a put, where the head and the selector are those of a put, and the first argument is this symbol
+-- the name and the expression of a put, where the head and the selector are those of a put, and the
+-- first argument is this symbol
 abbrev pub put_with : Bool → Option Bytes → Expression → Option (Bytes × Expression)
 put_with true (Some n) value = Some (n, value)
 put_with true None value = None
 put_with false key value = None
 
--- the name and the expression of a message to a global, where it is `at: #NAME put: expression` to `Globals`
+-- the name and the expression of a message to a global, where it is `at: #NAME put: expression` to
+-- `Globals`
 abbrev pub put_message : Bytes → Send → Option (Bytes × Expression)
 put_message g (send s (an_expression key (an_expression value no_expressions))) =
     put_with (bytes_eq g (codes "Globals") && bytes_eq s (codes "at:put:")) (symbol_of key) value
@@ -73,10 +64,12 @@ abbrev mutual
   are_operations (a_send message messages) = is_operation message && are_operations messages
 
   pub is_operation : Send → Bool
-  is_operation (send selector (an_expression argument no_expressions)) = is_some (operation_with selector) && is_arithmetic argument
+  is_operation (send selector (an_expression argument no_expressions)) =
+      is_some (operation_with selector) && is_arithmetic argument
   is_operation _ = false
 
--- the expression of a statement is a put of such a name and such an expression, or itself such an expression
+-- the expression of a statement is a put of such a name and such an expression, or itself such an
+-- expression
 abbrev pub is_put : Option (Bytes × Expression) → Bool → Bool
 is_put (Some (n, value)) plain = is_global_name n && is_arithmetic value
 is_put None plain = plain
@@ -103,4 +96,6 @@ is_no_name (n ∷ ns) = false
 
 -- a chunk that has a meaning in this stage
 abbrev pub is_chunk : Program → Bool
-is_chunk tree = is_no_selector tree.selector && is_no_name tree.params && is_no_name tree.temps && is_some_statement tree.body && are_steps tree.body
+is_chunk tree =
+    is_no_selector tree.selector && is_no_name tree.params && is_no_name tree.temps
+    && is_some_statement tree.body && are_steps tree.body

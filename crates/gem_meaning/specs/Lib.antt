@@ -1,4 +1,3 @@
-pub mod SmallInteger
 pub mod Operation
 pub mod Form
 pub mod State
@@ -7,5 +6,6 @@ pub mod Transaction
 pub mod Events
 pub mod Serial
 pub mod Session
+pub mod Claims
 pub mod Legal
 pub use Rattle.st_tree.specs.Trees

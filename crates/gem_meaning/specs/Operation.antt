@@ -1,7 +1,7 @@
 -- The binary messages that have a meaning, with their selectors and their exact results.
 use Rattle.std.specs.Prelude.{ℤ, ◌+ℤ◌, ◌-ℤ◌, ◌*ℤ◌, codes, Option, Some, None, if◌then◌else◌}
 use Rattle.std.specs.Str.{bytes_eq}
-use Rattle.st_tree.specs.Trees.{Bytes}
+use Rattle.texts.specs.Bytes.{Bytes}
 use Rattle.gem_meaning.specs.declared.operation.Operation.{Operation}
 use Rattle.gem_meaning.specs.declared.operation.Operation.TheVariants.{Addition, Subtraction, Multiplication}
 

@@ -1,7 +1,11 @@
--- What a session says: each of its replies, by the events that had come before it.
-use Rattle.std.specs.Prelude.{◌≡◌, ◌≢◌, ℕ, ◌+◌, ◌≤◌, Bool, true, false, List, [], ◌∷◌, ◌++◌, length, take, drop, codes, bytes_eq, if◌then◌else◌}
-use Rattle.st_tree.specs.Trees.{Bytes}
+-- What a session says: its replies to each command, by the events that had come before them.
+use Rattle.std.specs.Prelude.{◌≡◌, ◌≢◌, ◌⊎◌, ℕ, zero, suc, ◌+◌, ◌-◌, ◌≤◌, Bool, true, false, List, [], ◌∷◌, ◌++◌, length, map, take, drop, codes, bytes_eq, Option, Some, None, if◌then◌else◌}
+use Rattle.texts.specs.Bytes.{Bytes}
+use Rattle.gem_value.specs.Image.{Image}
+use Rattle.gem_value.specs.Oid.{oid_number}
+use Rattle.profile.specs.declared.kernel.TheConstants.{KERNEL_SERIAL, DATA_CURATOR_COUNTER}
 use Rattle.gem_value.specs.declared.record.Entry.{Entry}
+use Rattle.gem_value.specs.declared.conflict.Conflict.{Conflict}
 use Rattle.gem_replies.specs.declared.reply.Line.{Line}
 use Rattle.gem_replies.specs.declared.reply.Line.TheVariants.{NoUser, NotLoggedIn, Login, NoMemory, NotBuilt, Spoiled, Unchanged, Refused, Committed, Aborted, Logout as LoggedOut}
 use Rattle.gem_replies.specs.declared.reply.Reply.{Reply}
@@ -9,146 +13,245 @@ use Rattle.shell_words.specs.Script.{SessionCommands, is_logout}
 use Rattle.shell_words.specs.declared.script.Command.{Command}
 use Rattle.shell_words.specs.declared.script.Command.TheVariants.{Chunk, Method, Commit, Abort, Logout, Lock, Unlock}
 use Rattle.gem_meaning.specs.declared.event.What.TheVariants.{Placed}
-use Rattle.gem_meaning.specs.Transaction.{Run, run_chunk, method_line, transaction, written_of}
-use Rattle.gem_meaning.specs.Events.{Opened, Event, image_at, after_events, own, OthersCame, conflicts_at}
+use Rattle.gem_meaning.specs.State.{State}
+use Rattle.gem_meaning.specs.Transaction.{Answer, Run, run_command, IsUnchanged}
+use Rattle.gem_meaning.specs.Events.{Opened, Event, Told, run_on_view, after_events, events_of, Extends, OthersCame, conflicts_at}
+
+-- the object of the user with this name, who may log in where this image stands: in this stage one
+-- user, whose profile the kernel has
+abbrev pub user_in : Image → Bytes → Option ℕ
+user_in image user =
+    if bytes_eq user (codes "DataCurator")
+    then Some (oid_number KERNEL_SERIAL DATA_CURATOR_COUNTER)
+    else None
 
 -- What a session carries from command to command.
 pub record SessionState : Type 0 where
+  -- the number of the session
+  pub session : ℕ
+  -- the object of its user
+  pub user : ℕ
   -- the number of its view
   pub view : ℕ
   -- the number of its transaction, from 1
   pub transaction : ℕ
   -- the number of the transaction's first command
   pub first_command : ℕ
-  -- the commands of the transaction so far
-  pub ran : List Command
-  -- whether one of them found no memory
+  -- whether one of the transaction's commands found no memory
   pub spoiled : Bool
 
--- a new transaction, with this view
-abbrev pub begun_at : (view transaction first_command : ℕ) → SessionState
-begun_at view transaction first_command = record { view = view; transaction = transaction; first_command = first_command; ran = []; spoiled = false }
+-- a session with its first transaction, at this view
+abbrev pub first_transaction : (session user view : ℕ) → SessionState
+first_transaction session user view = record {
+  session = session;
+  user = user;
+  view = view;
+  transaction = 1;
+  first_command = 1;
+  spoiled = false;
+}
 
--- what the transaction so far does, where all stands as at its view
-abbrev pub run_so_far : Opened → List Event → SessionState → Run
-run_so_far o events s = transaction s.ran (image_at (after_events o events) s.view) (image_at (after_events o events) s.view)
+-- the session's next transaction, at this view, which begins after the command with this number
+abbrev pub next_transaction : SessionState → (view number : ℕ) → SessionState
+next_transaction s view number = record s {
+  view = view;
+  transaction = s.transaction + 1;
+  first_command = number + 1;
+  spoiled = false;
+}
 
--- a further command of the transaction
-abbrev pub with_command : Command → SessionState → SessionState
-with_command c s = record s { ran = s.ran ++ c ∷ [] }
+-- the entry of the transaction, with this command as its last one
+abbrev pub entry_to : ℕ → SessionState → Entry
+entry_to number s = record {
+  session = s.session;
+  transaction = s.transaction;
+  first_command = s.first_command;
+  last_command = number;
+  view = s.view;
+}
 
--- the entry of the transaction, committed by the command with this number
-abbrev pub entry_by : (session command : ℕ) → SessionState → Entry
-entry_by session command s = record { session = session; transaction = s.transaction; first_command = s.first_command; last_command = command; view = s.view }
+-- What the transaction has done when it comes to this command, where all stands as at its view.
+abbrev pub run_so_far : Opened → List Event → ℕ → SessionState → Run
+run_so_far o events number s = run_on_view o (after_events o events) (entry_to (number - 1) s)
+
+-- the transaction with the commit that has this number, where all stands as at its view
+abbrev pub run_to_commit : Opened → List Event → ℕ → SessionState → Run
+run_to_commit o events number s = run_on_view o (after_events o events) (entry_to number s)
+
+-- its conflicts after these events
+abbrev pub conflicts_found : Opened → List Event → ℕ → SessionState → List Conflict
+conflicts_found o events number s =
+    conflicts_at o (after_events o events) (entry_to number s) (run_to_commit o events number s)
+
+-- Where a command is replied to: its number, and the events before and after it.
+pub record CommandPlace : Type 0 where
+  pub opened : Opened
+  pub number : ℕ
+  pub before : List Event
+  pub after : List Event
+
+-- the place of a command between two points of all events
+abbrev pub place_between : Told → (number p q : ℕ) → CommandPlace
+place_between t number p q = record {
+  opened = t.opened;
+  number = number;
+  before = take p t.events;
+  after = take q t.events;
+}
 
 -- only events of others came, and this is the number that stands
-abbrev pub SeesNumber : Opened → ℕ → List Event → List Event → ℕ → Type 0
-SeesNumber o session before after number = OthersCame session before after × (number ≡ (after_events o after).number)
+abbrev pub SeesNumber : Opened → ℕ → (before after : List Event) → ℕ → Type 0
+SeesNumber o session before after number =
+    OthersCame session before after × (number ≡ (after_events o after).number)
 
--- a chunk's reply, unless it found no memory; in a spoiled transaction it may be any
-abbrev pub IsChunkReply : Bool → Line → Line → Type 0
-IsChunkReply true line reply = Unit {0}
-IsChunkReply false line reply = line ≡ reply
+-- The replies of a chunk or a method are what it means on the transaction's state so far. Where the
+-- transaction is spoiled nobody knows that state: they are what it means on some state.
+abbrev pub IsMeant : Bool → State → (State → Answer) → List Line → Type 0
+IsMeant false so_far meaning lines = lines ≡ (meaning so_far).0
+IsMeant true so_far meaning lines = (some : State) × (lines ≡ (meaning some).0)
 
--- The reply to a chunk, and what the session carries then. A chunk doesn't look at the Stone.
-abbrev pub ChunkSays : Opened → List Event → Bool → Bytes → SessionState → Line → SessionState → Type 0
-ChunkSays o events prints text s NoMemory s' = s' ≡ record (with_command (Chunk prints text) s) { spoiled = true }
-ChunkSays o events prints text s line s' = IsChunkReply s.spoiled line (run_chunk prints text (run_so_far o events s).state).0
-    × (s' ≡ with_command (Chunk prints text) s)
+-- A chunk or a method, which doesn't look at the Stone. Without memory the transaction is spoiled.
+abbrev pub RunSays : CommandPlace → Command → SessionState → List Line → SessionState → Type 0
+RunSays at c s lines s' = (at.after ≡ at.before)
+    × (((lines ≡ NoMemory ∷ []) × (s' ≡ record s { spoiled = true }))
+    ⊎ (IsMeant s.spoiled (run_so_far at.opened at.before at.number s).state (run_command c) lines
+    × (s' ≡ s)))
 
--- The reply to a method, and what the session carries then. It doesn't look at the Stone either.
-abbrev pub MethodSays : Command → Bytes → SessionState → Line → SessionState → Type 0
-MethodSays c text s NoMemory s' = s' ≡ record (with_command c s) { spoiled = true }
-MethodSays c text s line s' = (line ≡ method_line text) × (s' ≡ with_command c s)
-
--- The transaction isn't spoiled, and nothing is written in it.
-abbrev pub IsUnwritten : Opened → List Event → SessionState → Type 0
-IsUnwritten o events s = (s.spoiled ≡ false) × (written_of (run_so_far o events s) ≡ [])
-
--- The transaction isn't spoiled, and something is written in it.
-abbrev pub IsWritten : Opened → List Event → SessionState → Type 0
-IsWritten o events s = (s.spoiled ≡ false) × (written_of (run_so_far o events s) ≢ [])
-
--- The session's commit was placed, as its own event, behind events of others: it had no conflict there. More events of others came, and the
--- next transaction sees the number that stands then.
-pub record CommitPlaced (o : Opened) (session command : ℕ) (before after : List Event) (s : SessionState) (number view : ℕ) : Type 0 where
+-- The commit was placed, as the session's own event, after events of others. It had written
+-- something, and had no conflict there. More events of others came, and the next transaction sees
+-- the number that stands then.
+pub record CommitPlaced (at : CommandPlace) (s : SessionState) (number view : ℕ) : Type 0 where
   pub others : List Event
-  pub are_others : own session others ≡ []
-  pub no_conflict : conflicts_at (after_events o (before ++ others)) s.view ≡ []
-  pub number_is : number ≡ (after_events o (before ++ others)).number + 1
-  pub sees : SeesNumber o session ((before ++ others) ++ (session, Placed (entry_by session command s)) ∷ []) after view
+  pub are_others : events_of s.session others ≡ []
+  pub written : IsUnchanged (run_to_commit at.opened (at.before ++ others) at.number s) → ⊥
+  pub no_conflict : conflicts_found at.opened (at.before ++ others) at.number s ≡ []
+  pub number_is : number ≡ (after_events at.opened (at.before ++ others)).number + 1
+  pub sees : SeesNumber at.opened s.session
+      ((at.before ++ others) ++ (s.session, Placed (entry_to at.number s)) ∷ []) at.after view
 
 -- the reply to a commit
-abbrev pub CommitReply : Opened → (session command : ℕ) → (before after : List Event) → SessionState → Line → SessionState → Type 0
-CommitReply o session command before after s Spoiled s' = (s.spoiled ≡ true) × (after ≡ before) × (s' ≡ s)
-CommitReply o session command before after s NoMemory s' = (s.spoiled ≡ false) × OthersCame session before after × (s' ≡ s)
-CommitReply o session command before after s (Unchanged number view) s' = IsUnwritten o before s × (number ≡ s.view)
-    × SeesNumber o session before after view × (s' ≡ begun_at view (s.transaction + 1) (command + 1))
-CommitReply o session command before after s (Refused found) s' = IsWritten o before s × OthersCame session before after
-    × (found ≢ []) × (found ≡ conflicts_at (after_events o after) s.view) × (s' ≡ s)
-CommitReply o session command before after s (Committed number view) s' = IsWritten o before s
-    × CommitPlaced o session command before after s number view × (s' ≡ begun_at view (s.transaction + 1) (command + 1))
-CommitReply o session command before after s _ s' = ⊥
+abbrev pub CommitReply : CommandPlace → SessionState → Line → SessionState → Type 0
+CommitReply at s Spoiled s' = (s.spoiled ≡ true) × (at.after ≡ at.before) × (s' ≡ s)
+CommitReply at s NoMemory s' = (s.spoiled ≡ false) × OthersCame s.session at.before at.after
+    × (IsUnchanged (run_to_commit at.opened at.after at.number s) → ⊥) × (s' ≡ s)
+CommitReply at s (Unchanged number view) s' = (s.spoiled ≡ false) × (number ≡ s.view)
+    × SeesNumber at.opened s.session at.before at.after view
+    × IsUnchanged (run_to_commit at.opened at.after at.number s)
+    × (s' ≡ next_transaction s view at.number)
+CommitReply at s (Refused found) s' = (s.spoiled ≡ false) × OthersCame s.session at.before at.after
+    × (IsUnchanged (run_to_commit at.opened at.after at.number s) → ⊥)
+    × (found ≢ []) × (found ≡ conflicts_found at.opened at.after at.number s) × (s' ≡ s)
+CommitReply at s (Committed number view) s' = (s.spoiled ≡ false)
+    × CommitPlaced at s number view × (s' ≡ next_transaction s view at.number)
+CommitReply at s _ s' = ⊥
 
-abbrev pub AbortReply : Opened → (session command : ℕ) → (before after : List Event) → SessionState → Line → SessionState → Type 0
-AbortReply o session command before after s (Aborted view) s' = SeesNumber o session before after view
-    × (s' ≡ begun_at view (s.transaction + 1) (command + 1))
-AbortReply o session command before after s _ s' = ⊥
+abbrev pub AbortReply : CommandPlace → SessionState → Line → SessionState → Type 0
+AbortReply at s (Aborted view) s' = SeesNumber at.opened s.session at.before at.after view
+    × (s' ≡ next_transaction s view at.number)
+AbortReply at s _ s' = ⊥
 
-abbrev pub LogoutReply : (before after : List Event) → SessionState → Line → SessionState → Type 0
-LogoutReply before after s LoggedOut s' = (after ≡ before) × (s' ≡ s)
-LogoutReply before after s _ s' = ⊥
+-- a reply that looks at nothing and changes nothing
+abbrev pub PlainReply : Line → CommandPlace → SessionState → Line → SessionState → Type 0
+PlainReply reply at s line s' = (line ≡ reply) × (at.after ≡ at.before) × (s' ≡ s)
 
--- what isn't built yet changes nothing
-abbrev pub NotBuiltReply : (before after : List Event) → SessionState → Line → SessionState → Type 0
-NotBuiltReply before after s NotBuilt s' = (after ≡ before) × (s' ≡ s)
-NotBuiltReply before after s _ s' = ⊥
+-- there is one reply
+abbrev pub OneReply : List Line → (Line → Type 0) → Type 0
+OneReply lines IsIt = (line : Line) × (lines ≡ line ∷ []) × IsIt line
 
--- The reply to a command, with its number, between the events before it and those after it, and what the session carries then.
-abbrev pub CommandSays : Opened → (session number : ℕ) → (before after : List Event) → SessionState → Command → Line → SessionState → Type 0
-CommandSays o session number before after s (Chunk prints text) line s' = (after ≡ before) × ChunkSays o before prints text s line s'
-CommandSays o session number before after s (Method class_side class text) line s' = (after ≡ before) × MethodSays (Method class_side class text) text s line s'
-CommandSays o session number before after s Commit line s' = CommitReply o session number before after s line s'
-CommandSays o session number before after s Abort line s' = AbortReply o session number before after s line s'
-CommandSays o session number before after s Logout line s' = LogoutReply before after s line s'
-CommandSays o session number before after s (Lock write name) line s' = NotBuiltReply before after s line s'
-CommandSays o session number before after s (Unlock name) line s' = NotBuiltReply before after s line s'
+-- The replies to a command, and what the session carries then. Locks aren't built yet.
+abbrev pub CommandSays : CommandPlace → SessionState → Command → List Line → SessionState → Type 0
+CommandSays at s (Chunk prints text) lines s' = RunSays at (Chunk prints text) s lines s'
+CommandSays at s (Method class_side class text) lines s' =
+    RunSays at (Method class_side class text) s lines s'
+CommandSays at s Commit lines s' = OneReply lines (λ line. CommitReply at s line s')
+CommandSays at s Abort lines s' = OneReply lines (λ line. AbortReply at s line s')
+CommandSays at s Logout lines s' = OneReply lines (λ line. PlainReply LoggedOut at s line s')
+CommandSays at s (Lock write name) lines s' =
+    OneReply lines (λ line. PlainReply NotBuilt at s line s')
+CommandSays at s (Unlock name) lines s' = OneReply lines (λ line. PlainReply NotBuilt at s line s')
 
--- The replies to commands whose numbers go on from `number`, from point `p` of all events to point `q`.
-abbrev pub CommandsSay : Opened → List Event → (session number : ℕ) → (p q : ℕ) → SessionState → List Command → List Reply → Type 0
-CommandsSay o events session number p q s [] [] = p ≡ q
-CommandsSay o events session number p q s (c ∷ cs) (r ∷ rs) = (m : ℕ) × (s' : SessionState) × (p ≤ m) × (m ≤ length events)
-    × (r.command ≡ number) × CommandSays o session number (take p events) (take m events) s c r.line s'
-    × CommandsSay o events session (number + 1) m q s' cs rs
-CommandsSay o events session number p q s [] (r ∷ rs) = ⊥
-CommandsSay o events session number p q s (c ∷ cs) [] = ⊥
+-- a reply, with the number of its command
+abbrev pub reply_with : ℕ → Line → Reply
+reply_with number line = record { command = number; line = line }
+
+-- the replies to one command
+abbrev pub replies_with : ℕ → List Line → List Reply
+replies_with number lines = map (reply_with number) lines
+
+-- The replies to the command with this number, which begin at point `p` of all events, and those to
+-- the commands after it: what these say, from a point on and with what the session carries then, is
+-- `Rest`.
+pub record SaysOne (t : Told) (number p : ℕ) (s : SessionState) (c : Command) (rs : List Reply)
+    (Rest : ℕ → SessionState → List Reply → Type 0) : Type 0 where
+  pub point : ℕ
+  pub next : SessionState
+  pub lines : List Line
+  pub more : List Reply
+  pub from : p ≤ point
+  pub within : point ≤ length t.events
+  pub replies : rs ≡ replies_with number lines ++ more
+  pub says : CommandSays (place_between t number p point) s c lines next
+  pub rest : Rest point next more
+
+-- The replies to commands whose numbers go on from `number`, from point `p` of all events to point
+-- `q`.
+abbrev pub CommandsSay : Told → (number p q : ℕ) → SessionState → List Command → List Reply → Type 0
+CommandsSay t number p q s [] rs = (rs ≡ []) × (p ≡ q)
+CommandsSay t number p q s (c ∷ cs) rs =
+    SaysOne t number p s c rs (λ point next more. CommandsSay t (number + 1) point q next cs more)
 
 -- the commands up to the first logout, with a logout at the end in any case
 abbrev pub until_logout : List Command → List Command
 until_logout [] = Logout ∷ []
 until_logout (c ∷ cs) = if is_logout c then c ∷ [] else c ∷ until_logout cs
 
--- the users who may log in: in this stage one
-abbrev pub is_user : Bytes → Bool
-is_user user = bytes_eq user (codes "DataCurator")
+-- the replies to so many commands, whose numbers go on from this one, where nobody is logged in
+abbrev pub not_logged_in : (number count : ℕ) → List Reply
+not_logged_in number zero = []
+not_logged_in number (suc count) = reply_with number NotLoggedIn ∷ not_logged_in (number + 1) count
 
--- each command, whose numbers go on from `number`, is refused, since nobody is logged in
-abbrev pub NotLoggedInReplies : (number : ℕ) → List Command → List Reply → Type 0
-NotLoggedInReplies number [] [] = Unit {0}
-NotLoggedInReplies number (c ∷ cs) (r ∷ rs) = (r.command ≡ number) × (r.line ≡ NotLoggedIn) × NotLoggedInReplies (number + 1) cs rs
-NotLoggedInReplies number [] (r ∷ rs) = ⊥
-NotLoggedInReplies number (c ∷ cs) [] = ⊥
+-- After the login, which saw the first `point` events, the user's session replies to each command.
+-- Its own events are those that its replies name: none comes after the last reply.
+pub record SaysOfUser (t : Told) (session user point view : ℕ) (commands : List Command)
+    (rs : List Reply) : Type 0 where
+  pub replies : List Reply
+  pub end : ℕ
+  pub login : rs ≡ reply_with 0 (Login view) ∷ replies
+  pub within : end ≤ length t.events
+  pub says : CommandsSay t 1 point end (first_transaction session user view) commands replies
+  pub no_more : events_of session (drop end t.events) ≡ []
 
--- What follows the login, which saw the first m events. A user who may log in replies to each command, and the session's own events are those
--- that its replies name: none comes behind the last reply. For another user there are none.
-abbrev pub SaysBehind : Opened → List Event → ℕ → (is_user : Bool) → (m view : ℕ) → Line → List Command → List Reply → Type 0
-SaysBehind o events session true m view line commands rs = (line ≡ Login view) × (q : ℕ) × (q ≤ length events)
-    × CommandsSay o events session 1 m q (begun_at view 1 1) commands rs × (own session (drop q events) ≡ [])
-SaysBehind o events session false m view line commands rs = (line ≡ NoUser view) × NotLoggedInReplies 1 commands rs × (own session (drop m events) ≡ [])
+-- Where the image has no such user, each command is refused, and the session makes no event.
+pub record SaysOfNobody (t : Told) (session point view : ℕ) (commands : List Command)
+    (rs : List Reply) : Type 0 where
+  pub refused : rs ≡ reply_with 0 (NoUser view) ∷ not_logged_in 1 (length commands)
+  pub no_more : events_of session (drop point t.events) ≡ []
 
--- What a session of this user with these commands replies, by all events: the login, and then each command.
-abbrev pub Says : Opened → List Event → ℕ → SessionCommands → List Reply → Type 0
-Says o events session script [] = ⊥
-Says o events session script (r ∷ rs) = (m : ℕ) × (view : ℕ) × (m ≤ length events) × (r.command ≡ 0)
-    × SeesNumber o session [] (take m events) view
-    × SaysBehind o events session (is_user script.user) m view r.line (until_logout script.commands) rs
+abbrev pub SaysOf : Option ℕ → Told → (session point view : ℕ) → List Command → List Reply → Type 0
+SaysOf (Some user) t session point view commands rs =
+    SaysOfUser t session user point view commands rs
+SaysOf None t session point view commands rs = SaysOfNobody t session point view commands rs
+
+-- What a session of the script replies, by all events: to its login, which saw the first `point`
+-- events, all of other sessions, and then to each command.
+pub record Says (t : Told) (session : ℕ) (script : SessionCommands) (rs : List Reply) : Type 0 where
+  pub point : ℕ
+  pub view : ℕ
+  pub within : point ≤ length t.events
+  pub sees : SeesNumber t.opened session [] (take point t.events) view
+  pub says : SaysOf (user_in (after_events t.opened (take point t.events)).image script.user)
+      t session point view (until_logout script.commands) rs
+
+-- the first reply is to the login, and tells this number, whether the user may log in or not
+abbrev pub TellsLogin : ℕ → List Reply → Type 0
+TellsLogin view [] = ⊥
+TellsLogin view (r ∷ rs) = (r.line ≡ Login view) ⊎ (r.line ≡ NoUser view)
+
+-- The login saw every event that had come before the session, and perhaps further ones of others.
+-- What came later, it didn't see.
+pub record LogsIn (o : Opened) (session : ℕ) (before after : List Event)
+    (replies : List Reply) : Type 0 where
+  pub others : List Event
+  pub are_others : events_of session others ≡ []
+  pub later : Extends (before ++ others) after
+  pub tells : TellsLogin (after_events o (before ++ others)).number replies

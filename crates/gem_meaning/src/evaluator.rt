@@ -3,21 +3,23 @@ ghost use Rattle.std.specs.Prelude.{◌≡◌, true, Some, Ok, IfOk, OnErr};
 ghost use Rattle.st_tree.specs.Views.{head_of};
 ghost use Rattle.gem_meaning.specs.Form.{is_arithmetic, is_operand, is_operation, is_step, is_chunk};
 ghost use Rattle.gem_meaning.specs.Operation.{exact_result};
-ghost use Rattle.gem_meaning.specs.State.{shown};
-ghost use Rattle.gem_meaning.specs.Meaning.{kind_of, detail_of, ranged, global, value_of, head_value, answer, stored, statement_run, run};
+ghost use Rattle.gem_meaning.specs.State.{global_shown};
+ghost use Rattle.gem_meaning.specs.Meaning.{kind_of, detail_of, small_or_error, global_or_error, value_of, head_value, after_message, after_put, statement_run, run};
 
-use crate::form::{is_small_integer, put_of};
+use crate::form::put_of;
 use crate::operation::Operation;
 use crate::state::PlainState;
-use st_tree::{Expr, Literal, Message, Primary, Stat, Text, Tree};
+use profile::is_small_integer;
+use st_tree::{Expr, Literal, Message, Primary, Stat, Tree};
 use std::alloc::{AllocError, Global};
+use texts::Text;
 
 /// Why a chunk ended with an error: `kind` is its number, and `detail` says in words what is wrong.
 #[derive(Debug, Drop)]
 pub enum EvaluationError {
-    /// A global with this name isn't there.
+    /// E2: a global with this name isn't there.
     UndefinedVariable(Text),
-    /// A result outside the integers from -2^60 to 2^60 - 1.
+    /// E6: a result outside the integers from -2^60 to 2^60 - 1.
     IntegerRange,
 }
 
@@ -52,12 +54,14 @@ impl EvaluationError {
     }
 }
 
-/// Runs the statements of a chunk one after the other, up to the first error. What the statements before an error
-/// set stays set. The value is that of the last statement. The tree has to be one that `is_chunk` takes.
+/// Runs the statements of a chunk one after the other, up to the first error. What the statements
+/// before an error set stays set. The value is that of the last statement. The tree has to be one
+/// that `is_chunk` takes.
 ///
 /// # Errors
 ///
-/// `AllocError` where memory ran out. Some of the statements may have run then; the image of the view is as it was.
+/// `AllocError` where memory ran out. Some of the statements may have run then; the image of the
+/// view is as it was.
 pub fn plain_run(
     alloc: Global,
     state: &mut PlainState,
@@ -89,7 +93,8 @@ fn run_statement(
     statement: &Stat,
 ) -> Result<Result<i64, EvaluationError>, AllocError>
     requires { is_step statement.now ≡ true }
-    ensures ok { IfOk result (λ outcome. (Some outcome, state.new) ≡ statement_run state.old statement.now) }
+    ensures ok { IfOk result (λ outcome.
+        (Some outcome, state.new) ≡ statement_run state.old statement.now) }
     ensures err { OnErr result (state.new.base ≡ state.old.base) }
 {
     match put_of(&statement.expr) {
@@ -106,7 +111,8 @@ fn put(
     expr: &Expr,
 ) -> Result<Result<i64, EvaluationError>, AllocError>
     requires { is_arithmetic expr.now ≡ true }
-    ensures ok { IfOk result (λ outcome. (Some outcome, state.new) ≡ stored state.old name.now (value_of state.old expr.now)) }
+    ensures ok { IfOk result (λ outcome.
+        (Some outcome, state.new) ≡ after_put state.old name.now (value_of state.old expr.now)) }
     ensures err { OnErr result (state.new.base ≡ state.old.base) }
 {
     match evaluate(state, expr)? {
@@ -118,8 +124,8 @@ fn put(
     }
 }
 
-// The value of an expression of whole numbers, names of globals, `+`, `-`, `*` and parentheses, whose messages are
-// sent from left to right. It evaluates no message after an error.
+// The value of an expression of whole numbers, names of globals, `+`, `-`, `*` and parentheses,
+// whose messages are sent from left to right. It evaluates no message after an error.
 #[cycle(evaluate)]
 fn evaluate(state: &PlainState, expr: &Expr) -> Result<Result<i64, EvaluationError>, AllocError>
     requires { is_arithmetic expr.now ≡ true }
@@ -160,7 +166,8 @@ fn send(
     message: &Message,
 ) -> Result<Result<i64, EvaluationError>, AllocError>
     requires { is_operation message.now ≡ true }
-    ensures { IfOk result (λ outcome. Some outcome ≡ answer state.now (Some (Ok receiver)) message.now) }
+    ensures { IfOk result (λ outcome.
+        Some outcome ≡ after_message state.now (Some (Ok receiver)) message.now) }
 {
     let Some(operation) = Operation::of(message.selector.bytes()) else {
         unreachable!()
@@ -175,7 +182,8 @@ fn send(
 }
 
 fn look_up(state: &PlainState, name: &Text) -> Result<Result<i64, EvaluationError>, AllocError>
-    ensures { IfOk result (λ outcome. outcome ≡ global name.now (shown state.now name.now)) }
+    ensures { IfOk result (λ outcome.
+        outcome ≡ global_or_error name.now (global_shown state.now name.now)) }
 {
     Ok(match state.look(name.bytes()) {
         Some(value) => Ok(value),
@@ -184,7 +192,7 @@ fn look_up(state: &PlainState, name: &Text) -> Result<Result<i64, EvaluationErro
 }
 
 fn compute(operation: Operation, receiver: i64, argument: i64) -> Result<i64, EvaluationError>
-    ensures { result ≡ ranged (exact_result operation receiver argument) }
+    ensures { result ≡ small_or_error (exact_result operation receiver argument) }
 {
     match operation.exact(receiver, argument) {
         Some(value) if is_small_integer(value) => Ok(value),

@@ -2,74 +2,19 @@
 ghost use Rattle.std.specs.Prelude.{◌≡◌, codes, ◌&&◌, None, Some, MatchOption};
 ghost use Rattle.std.specs.Str.{bytes_eq};
 ghost use Rattle.st_tree.specs.Views.{head_of};
-ghost use Rattle.gem_meaning.specs.Form.{is_kernel_name, is_global_name, symbol_of, put_with, put_message, put_of, is_numeral, is_arithmetic, is_operand, is_operation, is_step, is_chunk};
-ghost use Rattle.std.specs.List.{list_all};
-ghost use Rattle.st_tree.specs.Tokens.{is_name_byte};
-ghost use Rattle.gem_meaning.specs.SmallInteger.{is_small_integer};
+ghost use Rattle.gem_meaning.specs.Form.{is_global_name, symbol_of, put_with, put_message, put_of, is_numeral, is_arithmetic, is_operand, is_operation, is_step, is_chunk};
 
 use crate::operation::Operation;
-use st_tree::{Expr, Literal, Message, Primary, Stat, Text, Tree};
-
-// The names that every image has, and `UserGlobals`: no chunk may name them.
-static KERNEL_NAMES: [&[u8]; 32] = [
-    b"Object",
-    b"Class",
-    b"UndefinedObject",
-    b"Boolean",
-    b"True",
-    b"False",
-    b"Magnitude",
-    b"Character",
-    b"SmallInteger",
-    b"Block",
-    b"Collection",
-    b"SequenceableCollection",
-    b"Array",
-    b"OrderedCollection",
-    b"String",
-    b"Symbol",
-    b"IdentityDictionary",
-    b"SymbolDictionary",
-    b"RcCounter",
-    b"RcIdentityBag",
-    b"RcKeyValueDictionary",
-    b"RcQueue",
-    b"Segment",
-    b"UserProfile",
-    b"System",
-    b"TranscriptStream",
-    b"Globals",
-    b"AllUsers",
-    b"SystemSegment",
-    b"DataCuratorSegment",
-    b"Transcript",
-    b"UserGlobals",
-];
-
-fn is_kernel_name(name: &[u8]) -> bool
-    ensures { result ≡ is_kernel_name name.now }
-{
-    KERNEL_NAMES.iter().any(|kernel| name == *kernel)
-}
-
-fn is_name_byte(byte: u8) -> bool
-    ensures { result ≡ is_name_byte byte }
-{
-    byte.is_ascii_alphabetic() || byte == b'_' || byte.is_ascii_digit()
-}
-
-fn has_name_bytes(name: &[u8]) -> bool
-    ensures { result ≡ list_all is_name_byte name.now }
-{
-    name.iter().all(|byte| is_name_byte(*byte))
-}
+use profile::is_kernel_name;
+use st_tree::{Expr, Literal, Message, Primary, Stat, Tree};
+use texts::{Text, are_name_bytes};
 
 // Whether a chunk may use this name for a global of its own.
 fn is_global_name(name: &[u8]) -> bool
     ensures { result ≡ is_global_name name.now }
 {
     match name.first() {
-        Some(first) => first.is_ascii_uppercase() && has_name_bytes(name) && !is_kernel_name(name),
+        Some(first) => first.is_ascii_uppercase() && are_name_bytes(name) && !is_kernel_name(name),
         None => false,
     }
 }
@@ -81,15 +26,11 @@ fn is_numeral(value: i64) -> bool
     0 <= value && value < 1 << 60
 }
 
-pub(crate) fn is_small_integer(value: i64) -> bool
-    ensures { result ≡ is_small_integer value }
-{
-    -(1 << 60) <= value && value < 1 << 60
-}
-
-/// The name and the expression of a statement `Globals at: #NAME put: expression`; `None` for another.
+/// The name and the expression of a statement `Globals at: #NAME put: expression`; `None` for
+/// another.
 pub(crate) fn put_of(expr: &Expr) -> Option<(&Text, &Expr)>
-    ensures { MatchOption result (put_of expr.now ≡ None) (λ put. put_of expr.now ≡ Some (put.0.now, put.1.now)) }
+    ensures { MatchOption result (put_of expr.now ≡ None)
+        (λ put. put_of expr.now ≡ Some (put.0.now, put.1.now)) }
 {
     if !expr.assigns.is_empty() {
         return None;
@@ -124,10 +65,9 @@ fn put_arguments<'a>(
     key: &'a Expr,
     value: &'a Expr,
 ) -> Option<(&'a Text, &'a Expr)>
-    ensures { MatchOption result
-        (put_with (bytes_eq global.now (codes "Globals") && bytes_eq selector.now (codes "at:put:")) (symbol_of key.now) value.now ≡ None)
-        (λ put. put_with (bytes_eq global.now (codes "Globals") && bytes_eq selector.now (codes "at:put:")) (symbol_of key.now) value.now
-        ≡ Some (put.0.now, put.1.now)) }
+    ensures { let is_put = bytes_eq global.now (codes "Globals") && bytes_eq selector.now (codes "at:put:") in
+        MatchOption result (put_with is_put (symbol_of key.now) value.now ≡ None)
+        (λ put. put_with is_put (symbol_of key.now) value.now ≡ Some (put.0.now, put.1.now)) }
 {
     if global != b"Globals".as_slice() || selector != b"at:put:".as_slice() {
         return None;
@@ -140,7 +80,8 @@ fn put_arguments<'a>(
 
 // The symbol that the expression is.
 fn symbol_of(expr: &Expr) -> Option<&Text>
-    ensures { MatchOption result (symbol_of expr.now ≡ None) (λ name. symbol_of expr.now ≡ Some name.now) }
+    ensures { MatchOption result (symbol_of expr.now ≡ None)
+        (λ name. symbol_of expr.now ≡ Some name.now) }
 {
     if !expr.assigns.is_empty() {
         return None;
@@ -215,9 +156,10 @@ fn is_step(statement: &Stat) -> bool
     }
 }
 
-/// Whether a chunk has a meaning here: one statement at least, each `Globals at: #NAME put: expression` or an
-/// expression, of whole numbers from 0 to 2^60 - 1, names of globals, `+`, `-`, `*` and parentheses. The name of a
-/// global begins with a capital and is none of those that every image has, nor `UserGlobals`.
+/// Whether a chunk has a meaning here: one statement at least, each `Globals at: #NAME put:
+/// expression` or an expression, of whole numbers from 0 to 2^60 - 1, names of globals, `+`, `-`,
+/// `*` and parentheses. The name of a global begins with a capital and is none of those that every
+/// image has, nor `UserGlobals`.
 pub fn is_chunk(tree: &Tree) -> bool
     ensures { result ≡ is_chunk tree.now }
 {

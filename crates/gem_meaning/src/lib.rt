@@ -1,4 +1,5 @@
-//! What the chunks of a script mean, and a small evaluator that computes it; what transactions, events, sessions and legal runs are.
+//! Room: meaning. Gives what chunks, transactions, sessions and runs mean, and a small evaluator of
+//! chunks. Knows nothing of how anything is computed fast.
 #![tactic(auto)]
 
 mod evaluator;

@@ -28,7 +28,8 @@ impl Operation {
 
     // The exact result, where 64 bits hold it.
     pub(crate) fn exact(self, receiver: i64, argument: i64) -> Option<i64>
-        ensures { SomeIff result (FitsSigned w64 (exact_result self receiver argument)) (exact_result self receiver argument) }
+        ensures { SomeIff result (FitsSigned w64 (exact_result self receiver argument))
+            (exact_result self receiver argument) }
     {
         match self {
             Operation::Addition => receiver.checked_add(argument),

@@ -4,9 +4,10 @@ use Rattle.std.proofs.Math.Seq.{take-length}
 use Rattle.std.proofs.lemmas.Grind.{flat_map-append}
 use Rattle.std.proofs.lemmas.List.{take_more, flat_map_more}
 use Rattle.std.specs.List.{flat_map}
-use Rattle.st_tree.specs.Trees.{Bytes}
+use Rattle.texts.specs.Bytes.{Bytes}
 use Rattle.gem_value.specs.declared.record.Entry.{Entry}
-use Rattle.gem_replies.specs.Report.{text_of_lines, entry_text, history_lines}
+use Rattle.texts.specs.Lines.{text_of_lines}
+use Rattle.gem_replies.specs.Report.{entry_text, history_lines}
 
 -- one item more is written
 pub one_more : {X : Type 0} (f : X → Bytes) (xs : List X) (i : ℕ) (x : X) (before now next : Bytes) → i < length xs → x ≡ get_or xs i x

@@ -2,14 +2,14 @@
 use Rattle.std.specs.Prelude.{ℕ, ◌≤◌, ◌≢◌, ◌/◌, ◌%◌, ◌==◌, ◌||◌, nat_lt, false, codes, [], ◌∷◌, ◌++◌, if◌then◌else◌}
 use Rattle.std.specs.List.{flat_map}
 use Rattle.std.specs.Fmt.{digit_glyph}
-use Rattle.st_tree.specs.Trees.{Bytes}
+use Rattle.texts.specs.Bytes.{Bytes}
 
 -- the byte as two hexadecimal digits, in lower case
 abbrev pub two_digits : ℕ → Bytes
 two_digits byte = digit_glyph false (byte / 16) ∷ digit_glyph false (byte % 16) ∷ []
 
--- the byte as it is shown: LF as `\n`, a backslash as two, another byte below 32 and 127 as `\x` and
--- two digits, and every other byte as itself
+-- the byte as it is shown: LF as `\n`, a backslash as two, another byte below 32 and 127 as `\x`
+-- and two digits, and every other byte as itself
 abbrev pub escape : ℕ → Bytes
 escape byte =
     if byte == 10 then codes "\\n"

@@ -1,3 +1,3 @@
 pub mod Escapes
+pub mod Line
 pub mod Report
-pub mod Parts

@@ -1,7 +1,8 @@
-//! What follows from the definitions alone. Each law is the contract of a function that does nothing.
+//! What follows from the definitions alone. Each law is the contract of a function that does
+//! nothing.
 ghost use Rattle.std.specs.Prelude.{◌≡◌};
 ghost use Rattle.std.specs.List.{AllByRecursion};
-ghost use Rattle.st_tree.specs.Trees.{Bytes};
+ghost use Rattle.texts.specs.Bytes.{Bytes};
 ghost use Rattle.gem_replies.specs.Escapes.{IsShown, escaped};
 
 /// A text from the image stays within its line: no byte below 32 and no 127 is shown of it.

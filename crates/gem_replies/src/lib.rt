@@ -1,4 +1,5 @@
-//! What sessions reply, and the report that is written of a run.
+//! Room: sessions and server. Takes the replies and the history of a run; gives the text of its
+//! report. Knows nothing of what a chunk means, and of how replies and history came about.
 #![tactic(auto)]
 
 pub mod laws;
@@ -7,5 +8,5 @@ mod report;
 #[cfg(test)]
 mod tests;
 
-pub use reply::{History, Line, Replies, Reply, RunBook, Transcript, Transcripts};
+pub use reply::{Line, Replies, Reply, RunBook, Transcript, Transcripts};
 pub use report::report_text;

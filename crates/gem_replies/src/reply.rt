@@ -1,6 +1,6 @@
 //! What sessions reply, and the book that a run leaves.
-use gem_value::{Conflicts, Entry, Sequence};
-use st_tree::Text;
+use gem_value::{Conflicts, History, Sequence};
+use texts::Text;
 
 /// A reply to a command. Its line in the report stands beside it.
 #[derive(Debug, Drop)]
@@ -13,7 +13,8 @@ pub enum Line {
     Login(u64),
     /// `no memory`: it could not be done for want of memory.
     NoMemory,
-    /// `parse PR at A`: the chunk or method breaks this rule of the grammar, at this place in bytes from 0.
+    /// `parse PR at A`: the chunk or method breaks this rule of the grammar, at this place in bytes
+    /// from 0.
     Parse { at: u32, rule: u8 },
     /// `not built`: the command asks for what isn't run yet.
     NotBuilt,
@@ -25,8 +26,8 @@ pub enum Line {
     Printed(Text),
     /// `spoiled`: nothing is committed, since a chunk of the transaction was short of memory.
     Spoiled,
-    /// `committed unchanged at N view V`: nothing had been written. It counts after commit `at`, and
-    /// the view `view` begins.
+    /// `committed unchanged at N view V`: nothing had been written. It counts after commit `at`,
+    /// and the view `view` begins.
     Unchanged { at: u64, view: u64 },
     /// `refused K`, and a line for each of the K conflicts.
     Refused(Conflicts),
@@ -38,7 +39,8 @@ pub enum Line {
     Logout,
 }
 
-/// A reply with the number of its command within the session. Login is 0.
+/// A reply with the number of its command within the session. Login is 0. Replies to one command
+/// have one number.
 #[derive(Debug, Drop)]
 pub struct Reply {
     pub command: u32,
@@ -60,16 +62,13 @@ pub struct Transcript {
 /// The transcripts of a run, in the order of the script. A contract sees the list.
 pub type Transcripts = Sequence<Transcript>;
 
-/// The transactions that a run committed, in order. A contract sees the list of their entries.
-pub type History = Sequence<Entry>;
-
 /// What a run leaves: what its sessions replied, and what was committed.
 #[derive(Debug, Drop)]
 pub struct RunBook {
     /// The number of commits before the run.
     pub first: u64,
-    /// The serial of the first session. The sessions have the serials from it on, in the order of the
-    /// script.
+    /// The serial of the first session. The sessions have the serials from it on, in the order of
+    /// the script.
     pub base: u32,
     pub transcripts: Transcripts,
     pub history: History,

@@ -2,16 +2,17 @@
 ghost use Rattle.std.specs.Prelude.{◌≡◌, ◌<◌, ◌++◌, false, [], ◌∷◌, map, flat_map, string_bytes, IfOk, OnOk};
 ghost use Rattle.std.specs.Fmt.{digit_glyph};
 ghost use Rattle.gem_replies.specs.Escapes.{escape, escaped};
-ghost use Rattle.gem_replies.specs.Parts.{line_words, line_image};
-ghost use Rattle.gem_replies.specs.Report.{text_of_lines, conflicts_of, shown_name, conflict_text, reply_lines, transcript_lines, entry_text, history_lines, commit_lines, report_of};
+ghost use Rattle.gem_replies.specs.Line.{reply_words, reply_image, conflicts_of};
+ghost use Rattle.texts.specs.Lines.{text_of_lines};
+ghost use Rattle.gem_replies.specs.Report.{shown_name, conflict_text, reply_lines, transcript_lines, entry_text, history_lines, commit_lines, report_of};
 
 use crate::reply::{Line, Reply, RunBook, Transcript};
 use gem_value::{Conflict, ConflictKind, Entry};
 use std::alloc::{AllocError, Global};
 
-/// The report of a run: the transcripts in order, each a line with the session's number and its user
-/// and then a line for each reply; then the number of commits and a line for each of them. Err is want
-/// of memory.
+/// The report of a run: the transcripts in order, each a line with the session's number and its
+/// user and then a line for each reply; then the number of commits and a line for each of them. Err
+/// is want of memory.
 pub fn report_text(alloc: Global, book: &RunBook) -> Result<Vec<u8>, AllocError>
     ensures { IfOk result (λ text. text.items ≡ report_of book.now) }
 {
@@ -73,7 +74,7 @@ fn push_reply(alloc: Global, report: &mut Vec<u8>, reply: &Reply) -> Result<(), 
 
 // What the reply says up to its text from the image.
 fn words(alloc: Global, line: &Line) -> Result<String, AllocError>
-    ensures { IfOk result (λ words. string_bytes words ≡ line_words line.now) }
+    ensures { IfOk result (λ words. string_bytes words ≡ reply_words line.now) }
 {
     match line {
         Line::NoUser(view) => format!(in alloc; "no user at view {view}"),
@@ -101,7 +102,7 @@ fn words(alloc: Global, line: &Line) -> Result<String, AllocError>
 
 // The text from the image at the reply's end, if it has one.
 fn image_text(line: &Line) -> &[u8]
-    ensures { result.now ≡ line_image line.now }
+    ensures { result.now ≡ reply_image line.now }
 {
     match line {
         Line::Error { detail, .. } => detail.bytes(),

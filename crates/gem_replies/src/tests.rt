@@ -1,10 +1,10 @@
 ghost use Rattle.std.specs.Prelude.{◌≡◌, IfOk};
 
 use super::*;
-use gem_value::{Conflict, ConflictKind, Conflicts, Entry, Oid};
-use st_tree::Text;
+use gem_value::{Conflict, ConflictKind, Conflicts, Entry, History, Oid};
 use std::alloc::{AllocError, Global};
 use std::test::Fail;
+use texts::Text;
 
 fn text(alloc: Global, bytes: &[u8]) -> Result<Text, AllocError>
     ensures { IfOk result (λ text. text ≡ bytes.now) }
@@ -66,8 +66,8 @@ fn two_sessions(rt: HostRuntime) -> Result<(), Fail> {
     };
     let wanted =
         b"session 1 DataCurator\n[0] login view 0\n[1] ok\n[2] committed 1 view 1\n[3] logout\n\
-        session 2 DataCurator\n[0] login view 1\n[1] 25\n[2] committed unchanged at 1 view 1\n[3] logout\n\
-        commits 1\n1 session 1 transaction 1 view 0\n";
+        session 2 DataCurator\n[0] login view 1\n[1] 25\n[2] committed unchanged at 1 view 1\n\
+        [3] logout\ncommits 1\n1 session 1 transaction 1 view 0\n";
     assert!(rt; report_text(alloc, &book)?.as_slice() == wanted.as_slice());
     Ok(())
 }
@@ -115,8 +115,8 @@ fn refusals(rt: HostRuntime) -> Result<(), Fail> {
     ];
     let wanted =
         b"session 1 DataCurator\n[0] refused 4\nC1 object 0:5 commit 7\nC3 object 1:2 session 3\n\
-        C4 object 1:2 session 4\nC8 object 16:3 commit 18446744073709551615\n[1] refused 0\n[2] spoiled\n\
-        [3] aborted view 9\ncommits 0\n";
+        C4 object 1:2 session 4\nC8 object 16:3 commit 18446744073709551615\n[1] refused 0\n\
+        [2] spoiled\n[3] aborted view 9\ncommits 0\n";
     assert!(rt; report_of_lines(alloc, lines)?.as_slice() == wanted.as_slice());
     Ok(())
 }

@@ -3,7 +3,7 @@ use Rattle.std.proofs.Common.{◌≡◌, ℕ, ◌+◌, ◌≤◌, [], ◌++◌, 
 use Rattle.std.specs.Io.KnownBytes.{Appends, Consumes, Keeps}
 use Rattle.std.proofs.Math.Seq.{take-add}
 use Rattle.std.proofs.lemmas.List.{drop-drop, take-append-drop}
-use Rattle.st_tree.specs.Trees.{Bytes}
+use Rattle.texts.specs.Bytes.{Bytes}
 use Rattle.gem_io.specs.Faults.{HasRisen}
 
 appends_more : (a b c : Option Bytes) (x y : Bytes) → Appends a b x → Appends b c y → Appends a c (x ++ y)
@@ -47,19 +47,19 @@ pub record Wrote (bytes : Bytes) (before now : Option Bytes) (rest : Bytes) (fir
   pub count : ℕ
   pub written : Appends before now (take count bytes)
   pub left : rest ≡ drop count bytes
-  pub later : first ≤ faults
+  pub quiet : faults ≡ first
 
 pub nothing_written : (bytes : Bytes) (now : Option Bytes) (faults : ℕ) → Wrote bytes now now bytes faults faults
-nothing_written bytes now faults = record { count = 0; written = appends_none now; left = refl; later = omega arith }
+nothing_written bytes now faults = record { count = 0; written = appends_none now; left = refl; quiet = refl }
 
 pub piece_written : {bytes rest : Bytes} {before now : Option Bytes} {first faults : ℕ} (n : ℕ) (next : Option Bytes) (faults' : ℕ) (rest' : Bytes)
-    → Wrote bytes before now rest first faults → Appends now next (take n rest) → rest' ≡ drop n rest → faults ≤ faults'
+    → Wrote bytes before now rest first faults → Appends now next (take n rest) → rest' ≡ drop n rest → faults' ≡ faults
     → Wrote bytes before next rest' first faults'
-piece_written {bytes = bytes} {before = before} {now = now} n next faults' rest' here more is later = record {
+piece_written {bytes = bytes} {before = before} {now = now} n next faults' rest' here more is quiet = record {
   count = here.count + n;
   written = rw (take-add here.count n bytes) (appends_more before now next (take here.count bytes) (take n (drop here.count bytes)) here.written (rw here.left at more));
   left = is ∙ (ap (drop n) here.left ∙ drop-drop n here.count bytes);
-  later = omega (arith, here.later, later);
+  quiet = quiet ∙ here.quiet;
 }
 
 pub all_written : {bytes rest : Bytes} {before now : Option Bytes} {first faults : ℕ} → Wrote bytes before now rest first faults → rest ≡ [] → Appends before now bytes
@@ -77,10 +77,10 @@ part_written {bytes = bytes} {before = before} {now = now} next here kept = (her
 pub record HasRead (before now : Option Bytes) (text : Bytes) (limit first faults : ℕ) : Type 0 where
   pub given : Consumes before now text
   pub short : length text ≤ limit
-  pub later : first ≤ faults
+  pub quiet : faults ≡ first
 
 pub nothing_read : (now : Option Bytes) (limit faults : ℕ) → HasRead now now [] limit faults faults
-nothing_read now limit faults = record { given = consumes_none now; short = omega arith; later = omega arith }
+nothing_read now limit faults = record { given = consumes_none now; short = omega arith; quiet = refl }
 
 -- One more piece. What was given is longer than the limit exactly where the piece goes past it.
 pub read_piece : {before now : Option Bytes} {text : Bytes} {limit first faults : ℕ} (next : Option Bytes) (room : Bytes) (n : ℕ)

@@ -1,12 +1,15 @@
 -- Which status tells which rule of a script.
-use Rattle.std.proofs.Common.{◌≡◌, ◌↔◌, ℕ, List, sym, ap, subst}
-use Rattle.st_tree.specs.Trees.{Bytes}
+use Rattle.std.proofs.Common.{◌≡◌, ◌∙◌, ◌↔◌, ℕ, List, sym, ap, subst}
+use Rattle.texts.specs.Bytes.{Bytes}
 use Rattle.shell_words.specs.Script.{SessionCommands}
 use Rattle.shell_words.specs.ScriptGrammar.{ReadsScript, BreaksRule}
 use Rattle.shell_words.proofs.OneAnswer.{one_rule, never_both}
 use Rattle.gem_server.specs.declared.status.Status.{Status}
-use Rattle.gem_server.specs.declared.status.Status.TheVariants.{Done, Usage, Script, WriteFault}
-use Rattle.gem_server.specs.Server.{WasRead}
+use Rattle.gem_server.specs.declared.status.Status.TheVariants.{Done, Usage, Script, ReadFault, WriteFault, NoMemory}
+use Rattle.shell_words.specs.Rules.{script_rule_number, IsScriptFault}
+use Rattle.shell_words.specs.declared.fault.ScriptFault.{ScriptFault}
+use Rattle.shell_words.specs.declared.fault.ScriptFault.TheVariants.{Rule, NoMemory as ShortOfMemory}
+use Rattle.gem_server.specs.Server.{WasRead, status_of}
 
 -- the status tells the rule exactly where the text breaks it first at that line
 abbrev pub Tells : Bytes → Status → Type 0
@@ -43,3 +46,31 @@ unread text status is = subst (Tells text) (sym is) (λ line rule. (λ same. abs
 
 pub not_read : (status : Status) → status ≡ Usage → WasRead status → ⊥
 not_read status is read = subst WasRead is read
+
+out_of_memory : (text : Bytes) → Tells text NoMemory
+out_of_memory text line rule = (λ same. absurd cc, λ also. absurd also.0)
+
+-- the status tells why the text is no script, or that memory ran out
+pub fault_told : (text : Bytes) (fault : ScriptFault) (status : Status) → status ≡ status_of fault → IsScriptFault text fault → Tells text status
+fault_told text (Rule line rule) status is breaks = refused text status line (script_rule_number rule) is breaks
+fault_told text ShortOfMemory status is breaks = subst (Tells text) (sym is) (out_of_memory text)
+
+no_usage : (fault : ScriptFault) → status_of fault ≡ Usage → ⊥
+no_usage (Rule line rule) same = cc
+no_usage ShortOfMemory same = cc
+
+no_read_fault : (fault : ScriptFault) → status_of fault ≡ ReadFault → ⊥
+no_read_fault (Rule line rule) same = cc
+no_read_fault ShortOfMemory same = cc
+
+no_write_fault : (fault : ScriptFault) → status_of fault ≡ WriteFault → ⊥
+no_write_fault (Rule line rule) same = cc
+no_write_fault ShortOfMemory same = cc
+
+-- it tells nothing else
+pub fault_alone : (fault : ScriptFault) (status : Status) → status ≡ status_of fault → (status ≡ Usage → ⊥) × (status ≡ ReadFault → ⊥) × (status ≡ WriteFault → ⊥)
+fault_alone fault status is = (
+  λ usage. no_usage fault (sym is ∙ usage),
+  λ read. no_read_fault fault (sym is ∙ read),
+  λ write. no_write_fault fault (sym is ∙ write),
+)

@@ -3,34 +3,31 @@ use Rattle.std.proofs.Common.{◌≡◌, ◌≢◌, ◌∙◌, refl, sym, ap, su
 use Rattle.std.proofs.lemmas.List.{take_more, take_all}
 use Rattle.shell_words.specs.Script.{SessionCommands}
 use Rattle.gem_replies.specs.declared.reply.Transcript.{Transcript}
-use Rattle.gem_meaning.specs.Events.{Event, own}
-use Rattle.gem_meaning.specs.Session.{Says}
-use Rattle.gem_meaning.specs.Legal.{IsTranscript, AreTranscripts}
+use Rattle.gem_meaning.specs.Events.{Event, Told, told_more, events_of}
+use Rattle.gem_meaning.specs.Session.{Says, LogsIn}
+use Rattle.gem_meaning.specs.Legal.{IsTranscript, AreTranscripts, AreInTurn}
 use Rattle.gem_meaning.proofs.Stays.{transcripts_stay, one_transcript}
-use Rattle.stone_core.specs.Told.{Told}
-use Rattle.gem_session.specs.Login.{LogsIn}
-use Rattle.gem_server.specs.Server.{AreInTurn}
 use Rattle.gem_server.proofs.Turns.{nothing_more, one_turn, login_is}
 
 -- The first sessions have ended, with these transcripts, and no other has begun. They took turns.
 pub record HaveRun (start now : Told) (scripts : List SessionCommands) (count : ℕ) (ts : List Transcript) : Type 0 where
   pub opened : now.opened ≡ start.opened
-  pub transcripts : AreTranscripts now.opened now.events 1 (take count scripts) ts
-  pub unbegun : (session : ℕ) → count < session → own session now.events ≡ []
-  pub in_turn : AreInTurn now.opened now.events 1 (take count scripts) ts
+  pub transcripts : AreTranscripts now 1 (take count scripts) ts
+  pub unbegun : (session : ℕ) → count < session → events_of session now.events ≡ []
+  pub in_turn : AreInTurn now 1 (take count scripts) ts
 
 pub none_has_run : (now : Told) (scripts : List SessionCommands) → now.events ≡ [] → HaveRun now now scripts 0 []
 none_has_run now scripts none = record {
   opened = refl;
   transcripts = tt;
-  unbegun = λ session later. ap (own session) none;
+  unbegun = λ session later. ap (events_of session) none;
   in_turn = tt;
 }
 
 still_none : (session count : ℕ) (before after more : List Event) → after ≡ before ++ more
-    → ((other : ℕ) → other ≢ count + 1 → own other after ≡ own other before) → session ≢ count + 1 → own session more ≡ []
+    → ((other : ℕ) → other ≢ count + 1 → events_of other after ≡ events_of other before) → session ≢ count + 1 → events_of session more ≡ []
 still_none session count before after more extends alone different =
-    nothing_more session before more (ap (own session) (sym extends) ∙ alone session different)
+    nothing_more session before more (ap (events_of session) (sym extends) ∙ alone session different)
 
 not_next : (session count : ℕ) → session < 1 + count → session ≢ count + 1
 not_next session count lt is = absurd (omega (arith, lt, is))
@@ -41,44 +38,43 @@ not_earlier session count lt is = absurd (omega (arith, lt, is))
 -- one session more has run
 pub one_session : (start before after : Told) (scripts : List SessionCommands) (count : ℕ) (ts : List Transcript) (script : SessionCommands) (t : Transcript) (more : List Event)
     → count < length scripts → script ≡ get_or scripts count script → HaveRun start before scripts count ts → after.opened ≡ before.opened
-    → after.events ≡ before.events ++ more → ((other : ℕ) → other ≢ count + 1 → own other after.events ≡ own other before.events)
-    → IsTranscript before.opened after.events (count + 1) script t → LogsIn before.opened (count + 1) before.events after.events t.replies
+    → after.events ≡ before.events ++ more → ((other : ℕ) → other ≢ count + 1 → events_of other after.events ≡ events_of other before.events)
+    → IsTranscript after (count + 1) script t → LogsIn before.opened (count + 1) before.events after.events t.replies
     → HaveRun start after scripts (count + 1) (ts ++ t ∷ [])
 one_session start before after scripts count ts script t more lt is ran same extends alone told login =
     let size : length (take count scripts) ≡ count = omega (arith, length-take count scripts, lt) in
-    let stayed : AreTranscripts before.opened (before.events ++ more) 1 (take count scripts) ts =
-    transcripts_stay before.opened before.events more 1 (take count scripts) ts
+    let after_is : after ≡ told_more before more = λ i. record { opened = same i; events = extends i } in
+    let here : IsTranscript (told_more before more) (1 + length (take count scripts)) script t =
+    subst (λ (n : ℕ). IsTranscript (told_more before more) n script t) (omega (arith, size)) (subst (λ x. IsTranscript x (count + 1) script t) after_is told) in
+    let stayed : AreTranscripts (told_more before more) 1 (take count scripts) ts =
+    transcripts_stay before more 1 (take count scripts) ts
     (λ session low high. still_none session count before.events after.events more extends alone (not_next session count (omega (arith, high, size)))) ran.transcripts in
-    let here : IsTranscript before.opened after.events (1 + length (take count scripts)) script t =
-    subst (λ (n : ℕ). IsTranscript before.opened after.events n script t) (omega (arith, size)) told in
-    let all : AreTranscripts before.opened after.events 1 (take count scripts ++ script ∷ []) (ts ++ t ∷ []) =
-    one_transcript before.opened after.events 1 (take count scripts) ts script t
-    (subst (λ es. AreTranscripts before.opened es 1 (take count scripts) ts) (sym extends) stayed) here in
+    let all : AreTranscripts (told_more before more) 1 (take count scripts ++ script ∷ []) (ts ++ t ∷ []) =
+    one_transcript (told_more before more) 1 (take count scripts) ts script t stayed here in
     let front : take count scripts ++ script ∷ [] ≡ take (count + 1) scripts =
     ap (λ s. take count scripts ++ s ∷ []) is ∙ sym (take_more scripts count script lt) in
-    let turns : AreInTurn before.opened (before.events ++ more) 1 (take count scripts ++ script ∷ []) (ts ++ t ∷ []) =
-    one_turn before.opened before.events more count (take count scripts) ts script t ran.unbegun
+    let turns : AreInTurn (told_more before more) 1 (take count scripts ++ script ∷ []) (ts ++ t ∷ []) =
+    one_turn before more count (take count scripts) ts script t ran.unbegun
     (λ session different. still_none session count before.events after.events more extends alone different) size ran.in_turn
     (login_is before.opened count before.events after.events t.replies login alone)
-    (subst (λ es. Says before.opened es (count + 1) script t.replies) extends told.says) in
+    (subst (λ x. Says x (count + 1) script t.replies) after_is told.says) in
     record {
       opened = same ∙ ran.opened;
-      transcripts = subst (λ o. AreTranscripts o after.events 1 (take (count + 1) scripts) (ts ++ t ∷ [])) (sym same)
-          (subst (λ ss. AreTranscripts before.opened after.events 1 ss (ts ++ t ∷ [])) front all);
+      transcripts = subst (λ x. AreTranscripts x 1 (take (count + 1) scripts) (ts ++ t ∷ [])) (sym after_is)
+          (subst (λ ss. AreTranscripts (told_more before more) 1 ss (ts ++ t ∷ [])) front all);
       unbegun = λ session later. alone session (not_earlier session count later) ∙ ran.unbegun session (omega (arith, later));
-      in_turn = subst (λ o. AreInTurn o after.events 1 (take (count + 1) scripts) (ts ++ t ∷ [])) (sym same)
-          (subst (λ ss. AreInTurn before.opened after.events 1 ss (ts ++ t ∷ [])) front
-          (subst (λ es. AreInTurn before.opened es 1 (take count scripts ++ script ∷ []) (ts ++ t ∷ [])) (sym extends) turns));
+      in_turn = subst (λ x. AreInTurn x 1 (take (count + 1) scripts) (ts ++ t ∷ [])) (sym after_is)
+          (subst (λ ss. AreInTurn (told_more before more) 1 ss (ts ++ t ∷ [])) front turns);
     }
 
 -- all sessions have run
 pub all_have_run : (start now : Told) (scripts : List SessionCommands) (count : ℕ) (ts : List Transcript) → length scripts ≤ count → HaveRun start now scripts count ts
-    → AreTranscripts now.opened now.events 1 scripts ts
+    → AreTranscripts now 1 scripts ts
 all_have_run start now scripts count ts over ran =
-    subst (λ ss. AreTranscripts now.opened now.events 1 ss ts) (take_all count scripts over) ran.transcripts
+    subst (λ ss. AreTranscripts now 1 ss ts) (take_all count scripts over) ran.transcripts
 
 -- and all have taken their turns
 pub all_in_turn : (start now : Told) (scripts : List SessionCommands) (count : ℕ) (ts : List Transcript) → length scripts ≤ count → HaveRun start now scripts count ts
-    → AreInTurn now.opened now.events 1 scripts ts
+    → AreInTurn now 1 scripts ts
 all_in_turn start now scripts count ts over ran =
-    subst (λ ss. AreInTurn now.opened now.events 1 ss ts) (take_all count scripts over) ran.in_turn
+    subst (λ ss. AreInTurn now 1 ss ts) (take_all count scripts over) ran.in_turn

@@ -5,7 +5,7 @@ ghost use Rattle.gem_io.specs.Faults.{HasRisen};
 ghost use Rattle.gem_server.specs.declared.intake.IntakeError.TheVariants.{Failed as SourceFailed, NoMemory};
 
 use gem_io::{Failed, Source};
-use shell_words::SCRIPT_LIMIT;
+use profile::SCRIPT_LIMIT;
 use std::alloc::{AllocError, Global};
 
 /// Why a script wasn't read.
@@ -43,7 +43,10 @@ pub(crate) fn read_text<S: Source>(alloc: Global, source: &mut S) -> Result<Vec<
         × IfOk result (λ text. text.items ≡ given) }
     ensures end { IfOk result (λ _. IsAtEnd (S.left source.new)) }
     ensures later { S.faults source.old ≤ S.faults source.new }
-    ensures failed { IsErrOf result IntakeError.Failed → HasRisen (S.faults source.old) (S.faults source.new) }
+    ensures failed { IsErrOf result IntakeError.Failed →
+        HasRisen (S.faults source.old) (S.faults source.new) }
+    ensures quiet { (IsErrOf result IntakeError.Failed → ⊥) →
+        S.faults source.new ≡ S.faults source.old }
 {
     let mut text = Vec::new(alloc);
     let mut piece = [0u8; 4096];

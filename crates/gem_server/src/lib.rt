@@ -1,4 +1,5 @@
-//! The server: from the words of the command line and the bytes of a script to the bytes of its report.
+//! Room: sessions and server. Takes the words of the command line and the bytes of a script; gives
+//! the bytes of its report.
 #![tactic(auto)]
 
 mod intake;
@@ -9,5 +10,5 @@ mod status;
 #[cfg(test)]
 mod tests;
 
-pub use server::gemstone;
-pub use status::{Ended, Events, Status};
+pub use server::{gemstone, serve_text};
+pub use status::{Ended, Events, Served, Status};

@@ -8,7 +8,8 @@ use gem_io::{Failed, Sink};
 // Writes all the bytes, or a part from the front where the sink fails.
 pub(crate) fn write_all<K: Sink>(sink: &mut K, bytes: &[u8]) -> Result<(), Failed>
     ensures ok { OnOk result (Appends (K.written sink.old) (K.written sink.new) bytes.now) }
-    ensures err { OnErr result ((n : ℕ) × Appends (K.written sink.old) (K.written sink.new) (take n bytes.now)) }
+    ensures err { OnErr result
+        ((n : ℕ) × Appends (K.written sink.old) (K.written sink.new) (take n bytes.now)) }
     ensures faults { HasCause (K.faults sink.old) (K.faults sink.new) result }
 {
     let mut rest = bytes;

@@ -1,25 +1,25 @@
 //! Runs the sessions of a script one after another.
 ghost use Rattle.std.specs.Prelude.{◌≡◌, ◌≤◌, [], IfOk, length};
-ghost use Rattle.shell_words.specs.Script.{most_sessions};
-ghost use Rattle.gem_meaning.specs.Legal.{IsLegal, AreTranscripts};
-ghost use Rattle.gem_server.specs.Server.{opened, AreInTurn};
+ghost use Rattle.profile.specs.declared.kernel.TheConstants.{FIRST_SERIAL as first_serial};
+ghost use Rattle.profile.specs.declared.limits.TheConstants.{SESSION_LIMIT};
+ghost use Rattle.gem_meaning.specs.Legal.{IsLegal, AreTranscripts, AreInTurn};
+ghost use Rattle.gem_server.specs.Server.{told_from_empty};
 
 use crate::status::Events;
 use gem_replies::{RunBook, Transcript, Transcripts};
 use gem_session::run_session;
 use gem_value::Image;
+use profile::FIRST_SERIAL;
 use shell_words::{Script, SessionScript};
 use std::alloc::{AllocError, Global};
 use std::sync::Arc;
 use stone_core::Stone;
 
-// The serial of the first session. The objects of the kernel have serial 0.
-const FIRST_SERIAL: u32 = 1;
-
 // The book of a run of the script, and the events of its Stone.
 pub(crate) fn run(alloc: Global, script: Script) -> Result<(RunBook, Events), AllocError>
-    ensures legal { IfOk result (λ run. IsLegal (opened script) run.1 run.0) }
-    ensures in_turn { IfOk result (λ run. AreInTurn (opened script) run.1 1 script run.0.transcripts) }
+    ensures legal { IfOk result (λ run. IsLegal (told_from_empty script run.1) run.0) }
+    ensures in_turn { IfOk result
+        (λ run. AreInTurn (told_from_empty script run.1) 1 script run.0.transcripts) }
 {
     let script = Arc::new(alloc, script)?;
     let mut stone = Stone::start(alloc, Image::empty(alloc)?, 0, script.clone()?)?;
@@ -42,9 +42,11 @@ fn run_sessions(
 ) -> Result<Vec<Transcript>, AllocError>
     requires script { stone.old.opened.script ≡ sessions.now }
     requires begun { stone.old.events ≡ [] }
-    requires count { length sessions.now ≤ most_sessions }
-    ensures transcripts { IfOk result (λ transcripts. AreTranscripts stone.new.opened stone.new.events 1 sessions.now transcripts.items) }
-    ensures in_turn { IfOk result (λ transcripts. AreInTurn stone.new.opened stone.new.events 1 sessions.now transcripts.items) }
+    requires count { length sessions.now ≤ SESSION_LIMIT }
+    ensures transcripts { IfOk result
+        (λ transcripts. AreTranscripts stone.new 1 sessions.now transcripts.items) }
+    ensures in_turn { IfOk result
+        (λ transcripts. AreInTurn stone.new 1 sessions.now transcripts.items) }
     ensures opened { stone.new.opened ≡ stone.old.opened }
 {
     let mut transcripts = Vec::new(alloc);

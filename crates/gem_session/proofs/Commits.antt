@@ -1,44 +1,33 @@
--- A session's commits.
-use Rattle.std.proofs.Common.{◌≡◌, ◌∙◌, refl, sym, ap, subst, ℕ, ℤ, ◌+◌, ◌-◌, ◌≤◌, true, false, Some, List, ◌++◌, take, drop, arith}
+-- A session's commits and aborts.
+use Rattle.std.proofs.Common.{◌≡◌, ◌∙◌, refl, sym, ap, subst, ℕ, ℤ, ◌+◌, ◌-◌, ◌≤◌, true, false, Some, List, [], ◌∷◌, ◌++◌, length, arith, append-nil}
+use Rattle.std.proofs.lemmas.Bool.{true≢false}
+use Rattle.stone_core.specs.declared.port.CommitAnswer.{CommitAnswer}
 use Rattle.std.specs.FinMap as map
-use Rattle.std.specs.List.{slice_get}
-use Rattle.std.proofs.lemmas.List.{append-nil}
-use Rattle.st_tree.specs.Trees.{Bytes}
-use Rattle.gem_value.specs.Image.{Image}
+use Rattle.std.specs.List.{AllByRecursion, slice_get}
+use Rattle.texts.specs.Bytes.{Bytes}
 use Rattle.gem_value.specs.declared.conflict.Conflict.{Conflict}
 use Rattle.gem_value.specs.declared.record.TxnRecord.{TxnRecord}
+use Rattle.gem_value.specs.Entry.{entry_of}
 use Rattle.gem_replies.specs.declared.reply.Line.TheVariants.{NoMemory, Spoiled, Unchanged, Refused, Committed, Aborted}
 use Rattle.shell_words.specs.declared.script.Command.TheVariants.{Commit, Abort}
-use Rattle.gem_meaning.specs.Transaction.{transaction, written_of}
-use Rattle.gem_meaning.specs.Events.{Opened, Event, image_at, after_events, commands_of, OthersCame, conflicts_at}
-use Rattle.gem_meaning.specs.Serial.{IsRecorded}
-use Rattle.gem_meaning.specs.Session.{run_so_far, SeesNumber}
-use Rattle.stone_core.specs.Port.{CommitSays}
+use Rattle.gem_meaning.specs.declared.event.What.TheVariants.{Placed}
+use Rattle.gem_meaning.specs.State.{state_at_start}
+use Rattle.gem_meaning.specs.Transaction.{Run, written_of, IsUnchanged}
+use Rattle.gem_meaning.specs.Events.{Opened, Event, Told, after_events, standing, commands_of, OthersCame, run_on_view}
+use Rattle.gem_meaning.specs.Serial.{IsRecorded, EndedBefore, EndsTransaction}
+use Rattle.gem_meaning.specs.Session.{SessionState, entry_to, next_transaction, run_so_far, run_to_commit, conflicts_found, SeesNumber}
+use Rattle.stone_core.specs.Port.{BeginSays, CommitSays}
 use Rattle.stone_core.specs.declared.port.CommitAnswer.TheVariants.{ReadOnly, Conflicts, Placed as PlacedAt, NoMemory as ShortOfMemory}
+use Rattle.stone_core.proofs.Apart.{apart_both, apart_later, apart_of_others}
+use Rattle.stone_core.proofs.Later.{run_stays}
 use Rattle.gem_session.specs.declared.session.Session.{Session}
-use Rattle.gem_session.specs.Running.{done_of, commands_between, carried, StandsBefore, Begins, Replied}
-use Rattle.gem_session.proofs.Own.{nobody_came, came_and_came, extends_by}
-use Rattle.gem_session.proofs.Between.{cut_more, entry_goes_on, carried_kept, transaction_chunks, transaction_more}
-use Rattle.gem_session.proofs.Chunks.{stands_kept}
+use Rattle.gem_session.specs.Running.{ends_transaction, commit_line, session_state, MayBegin, StandsBefore, Begins, Replied}
+use Rattle.gem_session.proofs.Others.{nobody_came, came_and_came, extends_by}
+use Rattle.gem_session.proofs.Between.{entry_whole, written_to_commit}
+use Rattle.gem_session.proofs.Steps.{apart_when, stands_kept, begins_session, begins_stands}
 
--- the commands of the entry do what the chunks so far did
-entry_whole : (o : Opened) (session first number : ℕ) (image : Image) → slice_get (commands_of o.script session) (number - 1) ≡ Some Commit →
-    1 ≤ first → first ≤ number →
-    transaction (drop (first - 1) (take number (commands_of o.script session))) image image
-    ≡ transaction (done_of (commands_between o session first number)) image image
-entry_whole o session first number image is low le =
-    let one : number ≡ number - 1 + 1 = omega arith in
-    let commands = commands_of o.script session in
-    ap (λ n. transaction (drop (first - 1) (take n commands)) image image) one
-    ∙ ap (λ cs. transaction cs image image) (cut_more commands (first - 1) (number - 1) Commit is (omega arith))
-    ∙ transaction_more (commands_between o session first number) Commit image image
-    ∙ sym (transaction_chunks (commands_between o session first number) image image)
-
--- what the session's state has written is what the transaction so far wrote
-so_far : (o : Opened) (es : List Event) (number : ℕ) (s : Session) → StandsBefore o es number s → s.spoiled ≡ false →
-    map.entries s.state.written ≡ written_of (run_so_far o es (carried o number s))
-unfolding written_of
-so_far o es number s stands calm = ap (λ x. map.entries x.written) (stands.state calm)
+abbrev At : Opened → List Event → Told
+At o es = record { opened = o; events = es }
 
 abbrev pub record_with : (number : ℕ) → Session → List (Bytes × ℤ) → TxnRecord
 record_with number s written = record {
@@ -50,106 +39,226 @@ record_with number s written = record {
   written = written;
 }
 
-pub recorded : (o : Opened) (es : List Event) (number : ℕ) (s : Session) (written : List (Bytes × ℤ)) → StandsBefore o es number s → s.spoiled ≡ false →
+-- what the session's state has written is what the transaction wrote
+wrote_so : (o : Opened) (es : List Event) (number : ℕ) (s : Session) (written : List (Bytes × ℤ)) → StandsBefore (At o es) number s → s.spoiled ≡ false →
     written ≡ map.entries s.state.written → slice_get (commands_of o.script s.session) (number - 1) ≡ Some Commit →
-    IsRecorded o es (record_with number s written)
-recorded o es number s written stands calm wrote is =
-    let image = image_at (after_events o es) s.view in
-    record {
-      of_script = record { session = stands.session; first = stands.begins; order = stands.first.1; last = is; whole = entry_goes_on o s.session s.first_command number is stands.first.0 stands.first.1 stands.whole };
-      from = stands.from;
-      to = stands.to;
-      written = wrote ∙ so_far o es number s stands calm
-          ∙ ap written_of (sym (entry_whole o s.session s.first_command number image is stands.first.0 stands.first.1));
-    }
+    written ≡ written_of (run_to_commit o es number (session_state s))
+wrote_so o es number s written stands calm wrote is =
+    wrote ∙ ap (λ x. map.entries x.written) (stands.state calm)
+    ∙ written_to_commit o es number (session_state s) is stands.first.0 stands.first.1
 
-kept_at : (o : Opened) (es : List Event) (number : ℕ) (s : Session) → StandsBefore o es number s →
-    slice_get (commands_of o.script s.session) (number - 1) ≡ Some Commit → carried o (number + 1) s ≡ carried o number s
-kept_at o es number s stands is = carried_kept o number s Commit is stands.first.0 stands.first.1 refl
+pub recorded : (o : Opened) (es : List Event) (number : ℕ) (s : Session) (written : List (Bytes × ℤ)) → StandsBefore (At o es) number s → s.spoiled ≡ false →
+    written ≡ map.entries s.state.written → slice_get (commands_of o.script s.session) (number - 1) ≡ Some Commit →
+    IsRecorded (At o es) (record_with number s written)
+recorded o es number s written stands calm wrote is = record {
+  of_script = record {
+    session = stands.session;
+    first = stands.begins;
+    order = stands.first.1;
+    last = is;
+    whole = entry_whole o number (session_state s) Commit is stands.first.0 stands.first.1 tt stands.whole;
+  };
+  from = stands.from;
+  to = stands.to;
+  apart = stands.apart;
+  written = wrote_so o es number s written stands calm wrote is;
+}
 
-pub commit_spoiled : (o : Opened) (es : List Event) (number : ℕ) (s : Session) → StandsBefore o es number s → s.spoiled ≡ true →
-    slice_get (commands_of o.script s.session) (number - 1) ≡ Some Commit → Replied o number es es s Commit Spoiled s
+-- what it wrote is the same when others' events have come
+wrote_when : (o : Opened) (es others : List Event) (number : ℕ) (s : Session) (written : List (Bytes × ℤ)) → StandsBefore (At o es) number s → s.spoiled ≡ false →
+    written ≡ map.entries s.state.written → slice_get (commands_of o.script s.session) (number - 1) ≡ Some Commit →
+    written ≡ written_of (run_to_commit o (es ++ others) number (session_state s))
+wrote_when o es others number s written stands calm wrote is =
+    wrote_so o es number s written stands calm wrote is
+    ∙ ap written_of (sym (run_stays o es others (entry_to number (session_state s)) stands.from stands.to))
+
+pub commit_spoiled : (o : Opened) (es : List Event) (number : ℕ) (s : Session) → StandsBefore (At o es) number s → s.spoiled ≡ true →
+    slice_get (commands_of o.script s.session) (number - 1) ≡ Some Commit → Replied o number es es s Commit (Spoiled ∷ []) s
 commit_spoiled o es number s stands spoiled is = record {
   of_session = refl;
-  says = (spoiled, refl, kept_at o es number s stands is);
-  stands = stands_kept o es es number s Commit is tt stands (kept_at o es number s stands is) (extends_by s.session es es (nobody_came s.session es));
+  says = (Spoiled, refl, (spoiled, refl, refl));
+  stands = stands_kept o es es number s Commit is tt (λ st. refl) stands (nobody_came s.session es);
 }
 
-pub commit_short : (o : Opened) (es es' : List Event) (number : ℕ) (s : Session) → StandsBefore o es number s → s.spoiled ≡ false →
-    slice_get (commands_of o.script s.session) (number - 1) ≡ Some Commit → OthersCame s.session es es' → Replied o number es es' s Commit NoMemory s
-commit_short o es es' number s stands calm is came = record {
+-- memory ran out before the Stone was asked
+pub commit_short : (o : Opened) (es : List Event) (number : ℕ) (s : Session) → StandsBefore (At o es) number s → s.spoiled ≡ false →
+    slice_get (commands_of o.script s.session) (number - 1) ≡ Some Commit → (map.entries s.state.written ≡ [] → ⊥) →
+    Replied o number es es s Commit (NoMemory ∷ []) s
+commit_short o es number s stands calm is some = record {
   of_session = refl;
-  says = (calm, came, kept_at o es number s stands is);
-  stands = stands_kept o es es' number s Commit is tt stands (kept_at o es number s stands is) (extends_by s.session es es' came);
+  says = (
+    NoMemory,
+    refl,
+    (
+      calm,
+      nobody_came s.session es,
+      λ none. some (wrote_so o es number s (map.entries s.state.written) stands calm refl is ∙ none),
+      refl,
+    ),
+  );
+  stands = stands_kept o es es number s Commit is tt (λ st. refl) stands (nobody_came s.session es);
 }
 
-pub commit_starved : (o : Opened) (es es' : List Event) (number : ℕ) (s : Session) (written : List (Bytes × ℤ)) → StandsBefore o es number s →
-    s.spoiled ≡ false → slice_get (commands_of o.script s.session) (number - 1) ≡ Some Commit →
-    CommitSays o es es' (record_with number s written) ShortOfMemory → Replied o number es es' s Commit NoMemory s
-commit_starved o es es' number s written stands calm is says =
-    commit_short o es es' number s stands calm is (says.0, says.1, says.2 ∙ append-nil (es ++ says.0))
-
-pub commit_refused : (o : Opened) (es es' : List Event) (number : ℕ) (s : Session) (written : List (Bytes × ℤ)) (found : List Conflict) →
-    StandsBefore o es number s → s.spoiled ≡ false → slice_get (commands_of o.script s.session) (number - 1) ≡ Some Commit →
-    written ≡ map.entries s.state.written → CommitSays o es es' (record_with number s written) (Conflicts found) →
-    Replied o number es es' s Commit (Refused found) s
-commit_refused o es es' number s written found stands calm is wrote says =
-    let end : es' ≡ es ++ says.0 = says.2 ∙ append-nil (es ++ says.0) in
-    let came : OthersCame s.session es es' = (says.0, says.1, end) in
-    let kept = kept_at o es number s stands is in
+pub commit_starved : (o : Opened) (es es' : List Event) (number : ℕ) (s : Session) (written : List (Bytes × ℤ)) → StandsBefore (At o es) number s →
+    s.spoiled ≡ false → slice_get (commands_of o.script s.session) (number - 1) ≡ Some Commit → written ≡ map.entries s.state.written →
+    CommitSays o es es' (record_with number s written) ShortOfMemory → Replied o number es es' s Commit (NoMemory ∷ []) s
+commit_starved o es es' number s written stands calm is wrote says =
+    let end : es' ≡ es ++ says.others = says.events ∙ append-nil (es ++ says.others) in
+    let came : OthersCame s.session es es' = (says.others, says.are_others, end) in
     record {
       of_session = refl;
       says = (
-        (calm, λ none. says.3.0 (wrote ∙ so_far o es number s stands calm ∙ none)),
-        came,
-        says.3.1,
-        says.3.2 ∙ ap (λ x. conflicts_at (after_events o x) s.view) (sym end),
-        kept,
+        NoMemory,
+        refl,
+        (
+          calm,
+          came,
+          λ none. says.fits (wrote_when o es says.others number s written stands calm wrote is
+              ∙ ap (λ x. written_of (run_to_commit o x number (session_state s))) (sym end) ∙ none),
+          refl,
+        ),
       );
-      stands = stands_kept o es es' number s Commit is tt stands kept (extends_by s.session es es' came);
+      stands = stands_kept o es es' number s Commit is tt (λ st. refl) stands came;
+    }
+
+pub commit_refused : (o : Opened) (es es' : List Event) (number : ℕ) (s : Session) (written : List (Bytes × ℤ)) (found : List Conflict) →
+    StandsBefore (At o es) number s → s.spoiled ≡ false → slice_get (commands_of o.script s.session) (number - 1) ≡ Some Commit →
+    written ≡ map.entries s.state.written → CommitSays o es es' (record_with number s written) (Conflicts found) →
+    Replied o number es es' s Commit (Refused found ∷ []) s
+commit_refused o es es' number s written found stands calm is wrote says =
+    let end : es' ≡ es ++ says.others = says.events ∙ append-nil (es ++ says.others) in
+    let came : OthersCame s.session es es' = (says.others, says.are_others, end) in
+    record {
+      of_session = refl;
+      says = (
+        Refused found,
+        refl,
+        (
+          calm,
+          came,
+          λ none. says.fits.0 (wrote_when o es says.others number s written stands calm wrote is
+              ∙ ap (λ x. written_of (run_to_commit o x number (session_state s))) (sym end) ∙ none),
+          says.fits.1,
+          says.fits.2 ∙ ap (λ x. conflicts_found o x number (session_state s)) (sym end),
+          refl,
+        ),
+      );
+      stands = stands_kept o es es' number s Commit is tt (λ st. refl) stands came;
     }
 
 pub commit_unchanged : (o : Opened) (es es' es'' : List Event) (number : ℕ) (s : Session) (written : List (Bytes × ℤ)) (at : ℕ) (s' : Session) →
-    StandsBefore o es number s → s.spoiled ≡ false → written ≡ map.entries s.state.written →
-    CommitSays o es es' (record_with number s written) (ReadOnly at) → Begins o s.session es' es'' (s.transaction + 1) (number + 1) s' →
-    Replied o number es es'' s Commit (Unchanged at s'.view) s'
-commit_unchanged o es es' es'' number s written at s' stands calm wrote says begins =
-    let came : OthersCame s.session es es' = (says.0, says.1, says.2 ∙ append-nil (es ++ says.0)) in
+    StandsBefore (At o es) number s → s.spoiled ≡ false → slice_get (commands_of o.script s.session) (number - 1) ≡ Some Commit → written ≡ map.entries s.state.written →
+    CommitSays o es es' (record_with number s written) (ReadOnly at) → Begins o es' es'' (λ view. next_transaction (session_state s) view number) s' →
+    Replied o number es es'' s Commit (Unchanged at s'.view ∷ []) s'
+commit_unchanged o es es' es'' number s written at s' stands calm is wrote says begins =
+    let same = begins_session o es' es'' number s s' begins in
+    let came : OthersCame s.session es es' = (says.others, says.are_others, says.events ∙ append-nil (es ++ says.others)) in
+    let sees : SeesNumber o s.session es' es'' s'.view = subst (λ (n : ℕ). SeesNumber o n es' es'' s'.view) same begins.sees in
+    let all : OthersCame s.session es es'' = came_and_came s.session es es' es'' came sees.0 in
     record {
-      of_session = begins.of_session;
+      of_session = same;
       says = (
-        (calm, sym (wrote ∙ so_far o es number s stands calm) ∙ says.3.0),
-        says.3.1,
-        (came_and_came s.session es es' es'' came begins.sees.0, begins.sees.1),
-        begins.state,
+        Unchanged at s'.view,
+        refl,
+        (
+          calm,
+          says.fits.1,
+          (all, sees.1),
+          sym (wrote_when o es all.0 number s written stands calm wrote is
+              ∙ ap (λ x. written_of (run_to_commit o x number (session_state s))) (sym all.2)) ∙ says.fits.0,
+          begins.carries,
+        ),
       );
-      stands = begins.stands;
+      stands = begins_stands o es' es'' number s s' begins;
     }
 
 pub commit_placed : (o : Opened) (es es' es'' : List Event) (number : ℕ) (s : Session) (written : List (Bytes × ℤ)) (at : ℕ) (s' : Session) →
-    StandsBefore o es number s → s.spoiled ≡ false → written ≡ map.entries s.state.written →
-    CommitSays o es es' (record_with number s written) (PlacedAt at) → Begins o s.session es' es'' (s.transaction + 1) (number + 1) s' →
-    Replied o number es es'' s Commit (Committed at s'.view) s'
-commit_placed o es es' es'' number s written at s' stands calm wrote says begins = record {
-  of_session = begins.of_session;
-  says = (
-    (calm, λ none. says.3.0 (wrote ∙ so_far o es number s stands calm ∙ none)),
-    record {
-      others = says.0;
-      are_others = says.1;
-      no_conflict = says.3.1;
-      number_is = says.3.2;
-      sees = subst (λ x. SeesNumber o s.session x es'' s'.view) says.2 begins.sees;
-    },
-    begins.state,
-  );
-  stands = begins.stands;
-}
+    StandsBefore (At o es) number s → s.spoiled ≡ false → slice_get (commands_of o.script s.session) (number - 1) ≡ Some Commit → written ≡ map.entries s.state.written →
+    CommitSays o es es' (record_with number s written) (PlacedAt at) → Begins o es' es'' (λ view. next_transaction (session_state s) view number) s' →
+    Replied o number es es'' s Commit (Committed at s'.view ∷ []) s'
+commit_placed o es es' es'' number s written at s' stands calm is wrote says begins =
+    let same = begins_session o es' es'' number s s' begins in record {
+      of_session = same;
+      says = (
+        Committed at s'.view,
+        refl,
+        (
+          calm,
+          record {
+            others = says.others;
+            are_others = says.are_others;
+            written = λ none. says.fits.0 (wrote_when o es says.others number s written stands calm wrote is ∙ none);
+            no_conflict = says.fits.1;
+            number_is = says.fits.2;
+            sees = subst (λ x. SeesNumber o s.session x es'' s'.view) says.events
+                (subst (λ (n : ℕ). SeesNumber o n es' es'' s'.view) same begins.sees);
+          },
+          begins.carries,
+        ),
+      );
+      stands = begins_stands o es' es'' number s s' begins;
+    }
 
-pub aborted : (o : Opened) (es es' : List Event) (number : ℕ) (s s' : Session) → Begins o s.session es es' (s.transaction + 1) (number + 1) s' →
-    Replied o number es es' s Abort (Aborted s'.view) s'
-aborted o es es' number s s' begins = record {
-  of_session = begins.of_session;
-  says = (begins.sees, begins.state);
-  stands = begins.stands;
-}
+pub aborted : (o : Opened) (es es' : List Event) (number : ℕ) (s s' : Session) → Begins o es es' (λ view. next_transaction (session_state s) view number) s' →
+    Replied o number es es' s Abort (Aborted s'.view ∷ []) s'
+aborted o es es' number s s' begins =
+    let same = begins_session o es es' number s s' begins in record {
+      of_session = same;
+      says = (
+        Aborted s'.view,
+        refl,
+        (
+          subst (λ (n : ℕ). SeesNumber o n es es' s'.view) same begins.sees,
+          begins.carries,
+        ),
+      );
+      stands = begins_stands o es es' number s s' begins;
+    }
+
+-- the earlier entries of the session end before its next transaction, whose first command comes after this one
+pub apart_next : (es : List Event) (session first number : ℕ) → first ≤ number → AllByRecursion (EndedBefore session first) es →
+    AllByRecursion (EndedBefore session (number + 1)) es
+apart_next es session first number le apart = apart_later session first (number + 1) es (omega (arith, le)) apart
+
+-- so does the entry that was just placed
+pub apart_placed : (o : Opened) (es es' : List Event) (number : ℕ) (s : Session) (written : List (Bytes × ℤ)) (at : ℕ) → StandsBefore (At o es) number s →
+    CommitSays o es es' (record_with number s written) (PlacedAt at) → AllByRecursion (EndedBefore s.session (number + 1)) es'
+apart_placed o es es' number s written at stands says =
+    let before = apart_next es s.session s.first_command number stands.first.1 stands.apart in
+    let others = apart_of_others s.session (number + 1) says.others says.are_others in
+    subst (AllByRecursion (EndedBefore s.session (number + 1))) (sym says.events)
+    (apart_both s.session (number + 1) (es ++ says.others) ((s.session, Placed (entry_of (record_with number s written))) ∷ [])
+    (apart_both s.session (number + 1) es says.others before others) (λ is. omega arith, tt))
+
+pub apart_unplaced : (o : Opened) (es es' : List Event) (number : ℕ) (s : Session) (written : List (Bytes × ℤ)) (at : ℕ) → StandsBefore (At o es) number s →
+    CommitSays o es es' (record_with number s written) (ReadOnly at) → AllByRecursion (EndedBefore s.session (number + 1)) es'
+apart_unplaced o es es' number s written at stands says =
+    apart_when o es es' s.session (number + 1) (apart_next es s.session s.first_command number stands.first.1 stands.apart)
+    (says.others, says.are_others, says.events ∙ append-nil (es ++ says.others))
+
+-- the earlier entries end before the next transaction, where the commit ended the one before it
+pub apart_ended : (o : Opened) (es es' : List Event) (number : ℕ) (s : Session) (written : List (Bytes × ℤ)) (answer : CommitAnswer) → ends_transaction answer ≡ true →
+    StandsBefore (At o es) number s → CommitSays o es es' (record_with number s written) answer → AllByRecursion (EndedBefore s.session (number + 1)) es'
+apart_ended o es es' number s written (ReadOnly at) ends stands says = apart_unplaced o es es' number s written at stands says
+apart_ended o es es' number s written (Conflicts found) ends stands says = absurd (true≢false (sym ends))
+apart_ended o es es' number s written (PlacedAt at) ends stands says = apart_placed o es es' number s written at stands says
+apart_ended o es es' number s written ShortOfMemory ends stands says = absurd (true≢false (sym ends))
+
+-- a commit that ended its transaction
+pub commit_ended : (o : Opened) (es es' es'' : List Event) (number : ℕ) (s : Session) (written : List (Bytes × ℤ)) (answer : CommitAnswer) (s' : Session) → ends_transaction answer ≡ true →
+    StandsBefore (At o es) number s → s.spoiled ≡ false → slice_get (commands_of o.script s.session) (number - 1) ≡ Some Commit → written ≡ map.entries s.state.written →
+    CommitSays o es es' (record_with number s written) answer → Begins o es' es'' (λ view. next_transaction (session_state s) view number) s' →
+    Replied o number es es'' s Commit (commit_line answer s'.view ∷ []) s'
+commit_ended o es es' es'' number s written (ReadOnly at) s' ends stands calm is wrote says begins = commit_unchanged o es es' es'' number s written at s' stands calm is wrote says begins
+commit_ended o es es' es'' number s written (Conflicts found) s' ends stands calm is wrote says begins = absurd (true≢false (sym ends))
+commit_ended o es es' es'' number s written (PlacedAt at) s' ends stands calm is wrote says begins = commit_placed o es es' es'' number s written at s' stands calm is wrote says begins
+commit_ended o es es' es'' number s written ShortOfMemory s' ends stands calm is wrote says begins = absurd (true≢false (sym ends))
+
+-- a commit after which the transaction goes on
+pub commit_goes_on : (o : Opened) (es es' : List Event) (number : ℕ) (s : Session) (written : List (Bytes × ℤ)) (answer : CommitAnswer) (view : ℕ) → ends_transaction answer ≡ false →
+    StandsBefore (At o es) number s → s.spoiled ≡ false → slice_get (commands_of o.script s.session) (number - 1) ≡ Some Commit → written ≡ map.entries s.state.written →
+    CommitSays o es es' (record_with number s written) answer → Replied o number es es' s Commit (commit_line answer view ∷ []) s
+commit_goes_on o es es' number s written (ReadOnly at) view ends stands calm is wrote says = absurd (true≢false ends)
+commit_goes_on o es es' number s written (Conflicts found) view ends stands calm is wrote says = commit_refused o es es' number s written found stands calm is wrote says
+commit_goes_on o es es' number s written (PlacedAt at) view ends stands calm is wrote says = absurd (true≢false ends)
+commit_goes_on o es es' number s written ShortOfMemory view ends stands calm is wrote says = commit_starved o es es' number s written stands calm is wrote says

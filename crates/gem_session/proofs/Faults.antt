@@ -1,28 +1,27 @@
 -- The reply to a text that has no tree.
 use Rattle.std.proofs.Common.{◌≡◌, ◌∙◌, sym, ap, ℕ, Bool}
-use Rattle.st_tree.specs.Trees.{Bytes, Program}
-use Rattle.gem_replies.specs.declared.reply.Line.{Line}
+use Rattle.texts.specs.Bytes.{Bytes}
+use Rattle.st_tree.specs.Trees.{Program}
 use Rattle.gem_replies.specs.declared.reply.Line.TheVariants.{Parse, NotBuilt}
-use Rattle.st_tree.specs.Grammar.{chunk, method}
+use Rattle.st_grammar.specs.Grammar.{chunk, method}
 use Rattle.gem_meaning.specs.State.{State}
-use Rattle.gem_meaning.specs.Transaction.{run_parsed, run_chunk, parsed_line, method_line}
-use Rattle.st_tree.specs.Fails.{Reads}
-use Rattle.st_grammar.proofs.Function.{reads_tree, fails_tree}
-use Rattle.st_grammar.proofs.Supply.{supplies, stands}
+use Rattle.gem_meaning.specs.Transaction.{Answer, one_line, run_parsed, run_chunk, method_line, run_method}
 use Rattle.st_parser.specs.declared.faults.ParseFault.TheVariants.{Rule}
-use Rattle.st_parser.specs.Faults.{IsFault}
+use Rattle.st_parser.specs.Parsed.{IsTree, IsFault}
 
-pub fault_line : (prints : Bool) (text : Bytes) (s : State) (place rule : ℕ) → IsFault chunk text (Rule place rule) →
-    ◌≡◌ {A = Line × State} (Parse place rule, s) (run_chunk prints text s)
+pub chunk_fault : (prints : Bool) (text : Bytes) (s : State) (place rule : ℕ) → IsFault chunk text (Rule place rule)
+    → ◌≡◌ {A = Answer} (one_line (Parse place rule) s) (run_chunk prints text s)
 unfolding run_chunk
-fault_line prints text s place rule (broken, is, fails) =
-    (λ i. (Parse place (is i), s)) ∙ ap (λ parsed. run_parsed prints parsed s) (sym (fails_tree supplies stands chunk text place broken fails))
+chunk_fault prints text s place rule (broken, is, fails) =
+    (λ i. one_line (Parse place (is i)) s) ∙ ap (λ parsed. run_parsed prints parsed s) (sym fails.is)
 
-pub method_built : (text : Bytes) (tree : Program) → Reads method text tree → NotBuilt ≡ method_line text
-unfolding method_line
-method_built text tree reads = ap parsed_line (sym (reads_tree method text tree reads))
+pub method_built : (class_side : Bool) (class text : Bytes) (s : State) (tree : Program) → IsTree method text tree
+    → ◌≡◌ {A = Answer} (one_line NotBuilt s) (run_method class_side class text s)
+unfolding run_method
+method_built class_side class text s tree is = ap (λ parsed. one_line (method_line parsed) s) (sym is.is)
 
-pub method_fault : (text : Bytes) (place rule : ℕ) → IsFault method text (Rule place rule) → Parse place rule ≡ method_line text
-unfolding method_line
-method_fault text place rule (broken, is, fails) =
-    (λ i. Parse place (is i)) ∙ ap parsed_line (sym (fails_tree supplies stands method text place broken fails))
+pub method_fault : (class_side : Bool) (class text : Bytes) (s : State) (place rule : ℕ) → IsFault method text (Rule place rule)
+    → ◌≡◌ {A = Answer} (one_line (Parse place rule) s) (run_method class_side class text s)
+unfolding run_method
+method_fault class_side class text s place rule (broken, is, fails) =
+    (λ i. one_line (Parse place (is i)) s) ∙ ap (λ parsed. one_line (method_line parsed) s) (sym fails.is)

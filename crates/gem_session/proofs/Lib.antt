@@ -1,10 +1,10 @@
-mod Grown
-mod Own
+mod Others
 mod Between
-mod Chunks
+mod Newest
+mod Steps
 mod Commits
 mod Faults
-mod Told
-mod Logins
+mod Serving
 mod Refusals
+mod Logins
 mod Limits

@@ -1,65 +1,58 @@
 -- The replies to commands where nobody is logged in.
-use Rattle.std.proofs.Common.{◌≡◌, ◌∙◌, refl, sym, ap, subst, ℕ, zero, suc, ◌+◌, false, List, [], ◌∷◌, ◌++◌, length, drop, arith, length-append}
+use Rattle.std.proofs.Common.{◌≡◌, ◌∙◌, refl, sym, ap, subst, ℕ, zero, suc, ◌+◌, None, Option, List, [], ◌∷◌, ◌++◌, length, take, drop, arith, length-append, inr}
 use Rattle.std.proofs.Math.Seq.{take-length}
 use Rattle.std.proofs.lemmas.List.{drop_all}
 use Rattle.gem_replies.specs.declared.reply.Line.TheVariants.{NoUser, NotLoggedIn}
 use Rattle.gem_replies.specs.declared.reply.Reply.{Reply}
 use Rattle.shell_words.specs.declared.script.Command.{Command}
 use Rattle.shell_words.specs.Script.{SessionCommands}
-use Rattle.gem_value.specs.Image.{Image}
-use Rattle.gem_meaning.specs.Events.{Opened, Event, own, OthersCame}
-use Rattle.gem_meaning.specs.Session.{is_user, until_logout, SeesNumber, SaysBehind, Says, NotLoggedInReplies}
-use Rattle.stone_core.specs.Port.{BeginSays}
-use Rattle.gem_session.proofs.Own.{came_and_came}
-use Rattle.gem_session.specs.Refused.{not_logged_in}
-
-counted : (number n : ℕ) → number + 1 + n ≡ number + suc n
-counted number n = omega arith
+use Rattle.gem_meaning.specs.Events.{Told, after_events, standing, events_of}
+use Rattle.gem_meaning.specs.Session.{user_in, until_logout, reply_with, not_logged_in, SeesNumber, SaysOf, Says, TellsLogin}
 
 plus_zero : (n : ℕ) → n ≡ n + 0
 plus_zero n = omega arith
 
+counted : (number n : ℕ) → number + 1 + n ≡ number + suc n
+counted number n = omega arith
+
 -- one command more is refused
-pub one_refusal : (number n : ℕ) → not_logged_in number (suc n) ≡ not_logged_in number n ++ record { command = number + n; line = NotLoggedIn } ∷ []
-one_refusal number zero = ap (λ (k : ℕ). record { command = k; line = NotLoggedIn } ∷ []) (plus_zero number)
+one_refusal : (number n : ℕ) → not_logged_in number (suc n) ≡ not_logged_in number n ++ reply_with (number + n) NotLoggedIn ∷ []
+one_refusal number zero = ap (λ (k : ℕ). reply_with k NotLoggedIn ∷ []) (plus_zero number)
 one_refusal number (suc n) =
-    ap (λ rs. record { command = number; line = NotLoggedIn } ∷ rs) (one_refusal (number + 1) n
-    ∙ ap (λ (k : ℕ). not_logged_in (number + 1) n ++ record { command = k; line = NotLoggedIn } ∷ []) (counted number n))
+    ap (λ rs. reply_with number NotLoggedIn ∷ rs) (one_refusal (number + 1) n
+    ∙ ap (λ (k : ℕ). not_logged_in (number + 1) n ++ reply_with k NotLoggedIn ∷ []) (counted number n))
 
--- these are the replies that are due
-pub are_refused : (number : ℕ) (cs : List Command) → NotLoggedInReplies number cs (not_logged_in number (length cs))
-are_refused number [] = tt
-are_refused number (c ∷ cs) = (refl, refl, are_refused (number + 1) cs)
-
-refusal_more : (n : ℕ) → not_logged_in 1 n ++ record { command = n + 1; line = NotLoggedIn } ∷ [] ≡ not_logged_in 1 (n + 1)
+refusal_more : (n : ℕ) → not_logged_in 1 n ++ reply_with (n + 1) NotLoggedIn ∷ [] ≡ not_logged_in 1 (n + 1)
 refusal_more n =
     let one : n + 1 ≡ 1 + n = omega arith in
     let next : suc n ≡ n + 1 = omega arith in
-    ap (λ (k : ℕ). not_logged_in 1 n ++ record { command = k; line = NotLoggedIn } ∷ []) one ∙ sym (one_refusal 1 n) ∙ ap (not_logged_in 1) next
+    ap (λ (k : ℕ). not_logged_in 1 n ++ reply_with k NotLoggedIn ∷ []) one ∙ sym (one_refusal 1 n) ∙ ap (not_logged_in 1) next
 
 -- the replies of a session with one reply more to a command that is refused
-pub refused_more : (view index : ℕ) (rs next : List Reply) → rs ≡ record { command = 0; line = NoUser view } ∷ not_logged_in 1 index
-    → next ≡ rs ++ record { command = index + 1; line = NotLoggedIn } ∷ [] → next ≡ record { command = 0; line = NoUser view } ∷ not_logged_in 1 (index + 1)
+pub refused_more : (view index : ℕ) (rs next : List Reply) → rs ≡ reply_with 0 (NoUser view) ∷ not_logged_in 1 index
+    → next ≡ rs ++ reply_with (index + 1) NotLoggedIn ∷ [] → next ≡ reply_with 0 (NoUser view) ∷ not_logged_in 1 (index + 1)
 refused_more view index rs next so_far more =
-    more ∙ ap (λ xs. xs ++ record { command = index + 1; line = NotLoggedIn } ∷ []) so_far
-    ∙ ap (λ xs. record { command = 0; line = NoUser view } ∷ xs) (refusal_more index)
-
--- what a session says whose user may not log in
-pub refused : (o : Opened) (before events : List Event) (session : ℕ) (script : SessionCommands) (image : Image) (number count : ℕ) → own session before ≡ []
-    → BeginSays o session before events image number → is_user script.user ≡ false → count ≡ length (until_logout script.commands)
-    → Says o events session script (record { command = 0; line = NoUser number } ∷ not_logged_in 1 count)
-refused o before events session script image number count fresh says unknown is =
-    let came : OthersCame session [] events = came_and_came session [] before events (before, fresh, refl) says.0 in
-    let replies : NotLoggedInReplies 1 (until_logout script.commands) (not_logged_in 1 count) =
-    subst (λ (n : ℕ). NotLoggedInReplies 1 (until_logout script.commands) (not_logged_in 1 n)) (sym is) (are_refused 1 (until_logout script.commands)) in
-    let none : own session (drop (length events) events) ≡ [] = ap (own session) (drop_all (length events) events (omega arith)) in (
-      length events,
-      number,
-      omega arith,
-      refl,
-      subst (λ x. SeesNumber o session [] x number) (sym (take-length events)) (came, says.2),
-      subst (λ b. SaysBehind o events session b (length events) number (NoUser number) (until_logout script.commands) (not_logged_in 1 count)) (sym unknown) (refl, replies, none),
-    )
+    more ∙ ap (λ xs. xs ++ reply_with (index + 1) NotLoggedIn ∷ []) so_far
+    ∙ ap (λ xs. reply_with 0 (NoUser view) ∷ xs) (refusal_more index)
 
 pub counted_commands : (cs body : List Command) (c : Command) → cs ≡ body ++ c ∷ [] → length body + 1 ≡ length cs
 counted_commands cs body c is = sym (ap length is ∙ length-append body (c ∷ []))
+
+-- what a session says whose user may not log in
+pub refused : (t : Told) (session : ℕ) (script : SessionCommands) (view : ℕ) (rs : List Reply) → events_of session t.events ≡ [] → view ≡ (standing t).number
+    → user_in (standing t).image script.user ≡ None → rs ≡ reply_with 0 (NoUser view) ∷ not_logged_in 1 (length (until_logout script.commands))
+    → Says t session script rs
+refused t session script view rs fresh view_is unknown is =
+    let front : take (length t.events) t.events ≡ t.events = take-length t.events in
+    record {
+      point = length t.events;
+      view = view;
+      within = omega arith;
+      sees = subst (λ x. SeesNumber t.opened session [] x view) (sym front) ((t.events, fresh, refl), view_is);
+      says = subst (λ u. SaysOf u t session (length t.events) view (until_logout script.commands) rs)
+          (sym (ap (λ x. user_in (after_events t.opened x).image script.user) front ∙ unknown))
+          (record { refused = is; no_more = ap (events_of session) (drop_all (length t.events) t.events (omega arith)) });
+    }
+
+pub tells_refusal : (view number : ℕ) (rs more : List Reply) → view ≡ number → rs ≡ reply_with 0 (NoUser view) ∷ more → TellsLogin number rs
+tells_refusal view number rs more same is = subst (TellsLogin number) (sym is) (inr (ap NoUser same))

@@ -1,3 +1,1 @@
 pub mod Running
-pub mod Login
-pub mod Refused

@@ -1,8 +1,11 @@
-//! A session: runs one session's commands against a Stone and says what it replies.
+//! Room: sessions and server. Takes a session's commands and a port of the Stone; gives its
+//! transcript.
+//!
+//! Runs one session's commands against a Stone and says what it replies.
 #![tactic(auto)]
 
-mod chunk_line;
 mod run;
+mod running;
 mod session;
 #[cfg(test)]
 mod tests;

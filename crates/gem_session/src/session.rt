@@ -1,75 +1,68 @@
 //! A running session: what it carries from command to command, and its reply to each.
-ghost use Rattle.std.specs.Prelude.{◌≡◌, ℕ, ◌+◌, ◌-◌, ◌≤◌, Bool, true, Some, IfOk, OnOk, length};
-ghost use Rattle.std.specs.List.{slice_get};
+ghost use Rattle.std.specs.Prelude.{◌≡◌, ◌+◌, ◌-◌, ◌≤◌, [], ◌∷◌, true, false, Some, IfOk, OnOk, length};
+ghost use Rattle.std.specs.List.{AllByRecursion, slice_get};
 ghost use Rattle.shell_words.specs.declared.script.Command.TheVariants.{Commit, Abort};
-ghost use Rattle.gem_meaning.specs.Events.{Opened, Event, commands_of};
-ghost use Rattle.gem_meaning.specs.Serial.{EndsTransaction};
-ghost use Rattle.shell_words.specs.Script.{HasShortText, most_bytes};
-ghost use Rattle.stone_core.specs.Port.{IsAloneStill};
-ghost use Rattle.gem_session.specs.Running.{IsCommandNumber, MayBegin, StandsBefore, Begins, RanChunk, RanMethod, Extends, Replied};
+ghost use Rattle.shell_words.specs.Script.{HasShortText};
+ghost use Rattle.gem_meaning.specs.State.{state_at_start};
+ghost use Rattle.gem_meaning.specs.Transaction.{is_run};
+ghost use Rattle.gem_meaning.specs.Events.{commands_of};
+ghost use Rattle.gem_meaning.specs.Serial.{EndsTransaction, EndedBefore, IsConsistent};
+ghost use Rattle.gem_meaning.specs.Session.{next_transaction};
+ghost use Rattle.stone_core.specs.Port.{GoesOn};
+ghost use Rattle.gem_session.specs.Running.{IsCommandNumber, goes_on, ends_transaction, commit_line, session_state, StandsBefore, Begins, Ran, Replied};
 
-use crate::chunk_line::{method_line, run_chunk};
+use crate::running::run_command;
 use gem_meaning::PlainState;
 use gem_replies::Line;
-use gem_value::TxnRecord;
+use gem_value::{Oid, TxnRecord};
 use shell_words::Command;
-use st_tree::Text;
 use std::alloc::{AllocError, Global};
-use stone_core::{CommitAnswer, StonePort};
+use stone_core::{Begun, CommitAnswer, StonePort};
 
 /// A session with its current transaction.
 #[derive(Debug, Drop)]
 pub(crate) struct Session {
     /// The session's number, from 1.
     pub session: u32,
+    /// The object of its user.
+    pub user: Oid,
     /// The number of commits in the image that the transaction runs on.
     pub view: u64,
     /// The transaction's number within the session, from 1.
     pub transaction: u32,
     /// The number of the transaction's first command.
     pub first_command: u32,
-    /// Whether one of the transaction's chunks found no memory.
+    /// Whether one of the transaction's commands found no memory.
     pub spoiled: bool,
     /// What the transaction works on.
     pub state: PlainState,
 }
 
 impl Session {
-    /// Begins a transaction of the session with this number.
-    ///
-    /// # Errors
-    ///
-    /// `AllocError` where memory ran out.
-    pub(crate) fn begin<P: StonePort>(
-        alloc: Global,
-        port: &mut P,
-        session: u32,
-        transaction: u32,
-        first_command: u32,
-    ) -> Result<Session, AllocError>
-        requires serves { P.serves port.old session ≡ true }
-        requires session { (1 ≤ session) × (session ≤ length (P.opened port.old).script) }
-        requires begins { MayBegin (P.opened port.old) session first_command }
-        requires first { 1 ≤ first_command }
-        requires transaction { transaction ≤ first_command }
-        ensures begins { IfOk result (λ begun. Begins (P.opened port.old) session (P.seen port.old) (P.seen port.new) transaction first_command begun) }
-        ensures extends { Extends (P.seen port.old) (P.seen port.new) }
-        ensures opened { P.opened port.new ≡ P.opened port.old }
-        ensures serves { (other : ℕ) → P.serves port.old other ≡ true → P.serves port.new other ≡ true }
-        ensures alone { IsAloneStill (P.alone port.old) session (P.alone port.new) (P.seen port.old) (P.seen port.new) }
+    /// The session of this user with its first transaction.
+    pub(crate) fn login(alloc: Global, session: u32, user: Oid, begun: Begun) -> Session
+        ensures { result ≡ record {
+          session = session;
+          user = user;
+          view = begun.number;
+          transaction = 1;
+          first_command = 1;
+          spoiled = false;
+          state = state_at_start begun.image;
+        } }
     {
-        let begun = port.begin(session)?;
-        Ok(Session {
+        Session {
             session,
+            user,
             view: begun.number,
-            transaction,
-            first_command,
+            transaction: 1,
+            first_command: 1,
             spoiled: false,
             state: PlainState::start(alloc, begun.image),
-        })
+        }
     }
 
-    /// Does the command with this number, and says what the session replies.
+    /// Does the command with this number, which is no logout, and says what the session replies.
     ///
     /// # Errors
     ///
@@ -81,48 +74,38 @@ impl Session {
         number: u32,
         command: &Command,
     ) -> Result<Line, AllocError>
-        requires serves { P.serves port.old self.old.session ≡ true }
-        requires stands { StandsBefore (P.opened port.old) (P.seen port.old) number self.old }
+        requires serves { (P.state port.old).serves self.old.session ≡ true }
+        requires consistent { IsConsistent (P.state port.old).told }
+        requires stands { StandsBefore (P.state port.old).told number self.old }
         requires number { IsCommandNumber number }
-        requires command { slice_get (commands_of (P.opened port.old).script self.old.session) (number - 1) ≡ Some command.now }
+        requires command { slice_get
+            (commands_of (P.state port.old).told.opened.script self.old.session) (number - 1)
+            ≡ Some command.now }
         requires short { HasShortText command.now }
-        ensures replied { IfOk result (λ line. Replied (P.opened port.old) number (P.seen port.old) (P.seen port.new) self.old command.now line self.new) }
-        ensures extends { Extends (P.seen port.old) (P.seen port.new) }
-        ensures opened { P.opened port.new ≡ P.opened port.old }
-        ensures serves { (other : ℕ) → P.serves port.old other ≡ true → P.serves port.new other ≡ true }
-        ensures alone { IsAloneStill (P.alone port.old) self.old.session (P.alone port.new) (P.seen port.old) (P.seen port.new) }
+        requires goes_on { goes_on command.now ≡ true }
+        ensures replied { IfOk result (λ line. Replied (P.state port.old).told.opened number
+            (P.state port.old).told.events (P.state port.new).told.events self.old command.now
+            (line ∷ []) self.new) }
+        ensures port { GoesOn self.old.session (P.state port.old) (P.state port.new) }
     {
         match command {
-            Command::Chunk { prints, text } => Ok(self.run(alloc, *prints, text)),
+            Command::Chunk { .. } => Ok(self.run(alloc, command)),
+            Command::Method { .. } => Ok(self.run(alloc, command)),
             Command::Commit => self.commit(alloc, port, number),
             Command::Abort => self.abort(alloc, port, number),
-            Command::Logout => Ok(Line::Logout),
-            Command::Method { text, .. } => Ok(self.method(alloc, text)),
             Command::Lock { .. } => Ok(Line::NotBuilt),
             Command::Unlock { .. } => Ok(Line::NotBuilt),
+            Command::Logout => unreachable!(),
         }
     }
 
-    // Runs a chunk. Without memory it spoils the transaction.
-    fn run(&mut self, alloc: Global, prints: bool, text: &Text) -> Line
-        requires { length text.now ≤ most_bytes }
-        ensures { RanChunk prints text.now self.old result self.new }
+    // Runs a chunk or a method. Without memory it spoils the transaction.
+    fn run(&mut self, alloc: Global, command: &Command) -> Line
+        requires runs { is_run command.now ≡ true }
+        requires short { HasShortText command.now }
+        ensures { Ran command.now self.old result self.new }
     {
-        match run_chunk(alloc, &mut self.state, prints, text.bytes()) {
-            Ok(line) => line,
-            Err(AllocError) => {
-                self.spoiled = true;
-                Line::NoMemory
-            }
-        }
-    }
-
-    // Replies to a method. Without memory it spoils the transaction.
-    fn method(&mut self, alloc: Global, text: &Text) -> Line
-        requires { length text.now ≤ most_bytes }
-        ensures { RanMethod text.now self.old result self.new }
-    {
-        match method_line(alloc, text.bytes()) {
+        match run_command(alloc, &mut self.state, command) {
             Ok(line) => line,
             Err(AllocError) => {
                 self.spoiled = true;
@@ -137,15 +120,17 @@ impl Session {
         port: &mut P,
         number: u32,
     ) -> Result<Line, AllocError>
-        requires serves { P.serves port.old self.old.session ≡ true }
-        requires stands { StandsBefore (P.opened port.old) (P.seen port.old) number self.old }
+        requires serves { (P.state port.old).serves self.old.session ≡ true }
+        requires consistent { IsConsistent (P.state port.old).told }
+        requires stands { StandsBefore (P.state port.old).told number self.old }
         requires number { IsCommandNumber number }
-        requires command { slice_get (commands_of (P.opened port.old).script self.old.session) (number - 1) ≡ Some Commit }
-        ensures replied { IfOk result (λ line. Replied (P.opened port.old) number (P.seen port.old) (P.seen port.new) self.old Commit line self.new) }
-        ensures extends { Extends (P.seen port.old) (P.seen port.new) }
-        ensures opened { P.opened port.new ≡ P.opened port.old }
-        ensures serves { (other : ℕ) → P.serves port.old other ≡ true → P.serves port.new other ≡ true }
-        ensures alone { IsAloneStill (P.alone port.old) self.old.session (P.alone port.new) (P.seen port.old) (P.seen port.new) }
+        requires command { slice_get
+            (commands_of (P.state port.old).told.opened.script self.old.session) (number - 1)
+            ≡ Some Commit }
+        ensures replied { IfOk result (λ line. Replied (P.state port.old).told.opened number
+            (P.state port.old).told.events (P.state port.new).told.events self.old Commit
+            (line ∷ []) self.new) }
+        ensures port { GoesOn self.old.session (P.state port.old) (P.state port.new) }
     {
         if self.spoiled {
             return Ok(Line::Spoiled);
@@ -161,24 +146,12 @@ impl Session {
             view: self.view,
             written,
         };
-        match port.commit(alloc, &done) {
-            CommitAnswer::ReadOnly(at) => {
-                self.begin_next(alloc, port, number)?;
-                Ok(Line::Unchanged {
-                    at,
-                    view: self.view,
-                })
-            }
-            CommitAnswer::Conflicts(found) => Ok(Line::Refused(found)),
-            CommitAnswer::Placed(commit) => {
-                self.begin_next(alloc, port, number)?;
-                Ok(Line::Committed {
-                    number: commit,
-                    view: self.view,
-                })
-            }
-            CommitAnswer::NoMemory => Ok(Line::NoMemory),
+        let answer = port.commit(alloc, &done);
+        if ends_transaction(&answer) {
+            self.begin_next(alloc, port, number)?;
+            return Ok(commit_line(answer, self.view));
         }
+        Ok(commit_line(answer, self.view))
     }
 
     fn abort<P: StonePort>(
@@ -187,39 +160,69 @@ impl Session {
         port: &mut P,
         number: u32,
     ) -> Result<Line, AllocError>
-        requires serves { P.serves port.old self.old.session ≡ true }
-        requires stands { StandsBefore (P.opened port.old) (P.seen port.old) number self.old }
+        requires serves { (P.state port.old).serves self.old.session ≡ true }
+        requires stands { StandsBefore (P.state port.old).told number self.old }
         requires number { IsCommandNumber number }
-        requires command { slice_get (commands_of (P.opened port.old).script self.old.session) (number - 1) ≡ Some Abort }
-        ensures replied { IfOk result (λ line. Replied (P.opened port.old) number (P.seen port.old) (P.seen port.new) self.old Abort line self.new) }
-        ensures extends { Extends (P.seen port.old) (P.seen port.new) }
-        ensures opened { P.opened port.new ≡ P.opened port.old }
-        ensures serves { (other : ℕ) → P.serves port.old other ≡ true → P.serves port.new other ≡ true }
-        ensures alone { IsAloneStill (P.alone port.old) self.old.session (P.alone port.new) (P.seen port.old) (P.seen port.new) }
+        requires command { slice_get
+            (commands_of (P.state port.old).told.opened.script self.old.session) (number - 1)
+            ≡ Some Abort }
+        ensures replied { IfOk result (λ line. Replied (P.state port.old).told.opened number
+            (P.state port.old).told.events (P.state port.new).told.events self.old Abort
+            (line ∷ []) self.new) }
+        ensures port { GoesOn self.old.session (P.state port.old) (P.state port.new) }
     {
         self.begin_next(alloc, port, number)?;
         Ok(Line::Aborted(self.view))
     }
 
-    // Begins the transaction behind the command with this number, which ended one.
+    // Begins the transaction after the command with this number, which ended one.
     fn begin_next<P: StonePort>(
         &mut self,
         alloc: Global,
         port: &mut P,
         number: u32,
     ) -> Result<(), AllocError>
-        requires serves { P.serves port.old self.old.session ≡ true }
-        requires session { (1 ≤ self.old.session) × (self.old.session ≤ length (P.opened port.old).script) }
+        requires serves { (P.state port.old).serves self.old.session ≡ true }
+        requires session { (1 ≤ self.old.session)
+            × (self.old.session ≤ length (P.state port.old).told.opened.script) }
         requires number { IsCommandNumber number }
         requires transaction { self.old.transaction ≤ number }
-        requires ended { EndsTransaction (slice_get (commands_of (P.opened port.old).script self.old.session) (number - 1)) }
-        ensures begins { OnOk result (Begins (P.opened port.old) self.old.session (P.seen port.old) (P.seen port.new) (self.old.transaction + 1) (number + 1) self.new) }
-        ensures extends { Extends (P.seen port.old) (P.seen port.new) }
-        ensures opened { P.opened port.new ≡ P.opened port.old }
-        ensures serves { (other : ℕ) → P.serves port.old other ≡ true → P.serves port.new other ≡ true }
-        ensures alone { IsAloneStill (P.alone port.old) self.old.session (P.alone port.new) (P.seen port.old) (P.seen port.new) }
+        requires ended { EndsTransaction
+            (slice_get (commands_of (P.state port.old).told.opened.script self.old.session)
+            (number - 1)) }
+        requires apart { AllByRecursion (EndedBefore self.old.session (number + 1))
+            (P.state port.old).told.events }
+        ensures begins { OnOk result
+            (Begins (P.state port.old).told.opened (P.state port.old).told.events
+            (P.state port.new).told.events
+            (λ view. next_transaction (session_state self.old) view number) self.new) }
+        ensures port { GoesOn self.old.session (P.state port.old) (P.state port.new) }
     {
-        *self = Session::begin(alloc, port, self.session, self.transaction + 1, number + 1)?;
+        let begun = port.begin(self.session)?;
+        self.view = begun.number;
+        self.transaction += 1;
+        self.first_command = number + 1;
+        self.spoiled = false;
+        self.state = PlainState::start(alloc, begun.image);
         Ok(())
+    }
+}
+
+// Whether a commit that was answered so ends its transaction.
+fn ends_transaction(answer: &CommitAnswer) -> bool
+    ensures { result ≡ ends_transaction answer.now }
+{
+    matches!(answer, CommitAnswer::ReadOnly(_) | CommitAnswer::Placed(_))
+}
+
+// The reply to a commit that was answered so, with this view after it.
+fn commit_line(answer: CommitAnswer, view: u64) -> Line
+    ensures { result ≡ commit_line answer view }
+{
+    match answer {
+        CommitAnswer::ReadOnly(at) => Line::Unchanged { at, view },
+        CommitAnswer::Conflicts(found) => Line::Refused(found),
+        CommitAnswer::Placed(number) => Line::Committed { number, view },
+        CommitAnswer::NoMemory => Line::NoMemory,
     }
 }

@@ -1,7 +1,7 @@
 -- Lists in the order of their names.
 use Rattle.std.proofs.Common.{◌≡◌, ℤ, List, [], ◌∷◌, sym, subst}
 use Rattle.std.specs.List.Sorted.{IsStrictlySortedBy}
-use Rattle.st_tree.specs.Trees.{Bytes}
+use Rattle.texts.specs.Bytes.{Bytes}
 use Rattle.gem_value.specs.Writes.{IsInNameOrder}
 
 one_alone : (write : Bytes × ℤ) → IsInNameOrder (write ∷ [])

@@ -5,7 +5,7 @@ use Rattle.std.specs.Cmp.Lexicographic.{slice_cmp}
 use Rattle.std.specs.Coded.{Coded, coded_ℕ, coded_ℤ, coded_list}
 use Rattle.std.specs.FinMap.{FinMap, code, from_entries}
 use Rattle.std.specs.declared.alloc.Global.{Global}
-use Rattle.st_tree.specs.Trees.{Bytes}
+use Rattle.texts.specs.Bytes.{Bytes}
 
 -- the globals: a finite map from names, each by its bytes, to integers
 abbrev pub Image : Type 0

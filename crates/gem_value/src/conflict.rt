@@ -5,25 +5,25 @@ ghost use Rattle.gem_value.specs.Conflict.{kind_number};
 use crate::oid::Oid;
 use crate::sequence::Sequence;
 
-/// What stands against a commit at one object. The order is that of the variants, so of the numbers
-/// from 1 to 8 that a report prints after `C`.
+/// What stands against a commit at one object. The order of kinds is that of their numbers, from 1
+/// to 8, which a report prints after a `C`.
 #[derive(Clone, Copy, Debug, PartialEq, Eq, PartialOrd, Ord, Hash)]
 pub enum ConflictKind {
-    /// 1: a written object has changed since the view.
+    /// C1: a written object has changed since the view.
     WriteWrite = 1,
-    /// 2: an object that was touched and not written has changed since the view.
+    /// C2: an object that was touched and not written has changed since the view.
     ReadWrite = 2,
-    /// 3: another session holds a read lock on a written object.
+    /// C3: another session holds a read lock on a written or updated object.
     WriteReadLock = 3,
-    /// 4: another session holds a write lock on a written object.
+    /// C4: another session holds a write lock on a written or updated object.
     WriteWriteLock = 4,
-    /// 5: the merge of a counter would leave its range.
+    /// C5: the merge of a counter would leave its range.
     CounterRange = 5,
-    /// 6: the merge of a bag lacks an item to remove.
+    /// C6: the merge of a bag lacks an item to remove.
     BagRemove = 6,
-    /// 7: the merge of a dictionary meets a key that was changed.
+    /// C7: the merge of a dictionary meets a key that was changed.
     DictionaryKey = 7,
-    /// 8: the merge of a queue lacks an item to remove.
+    /// C8: the merge of a queue lacks an item to remove.
     QueueRemove = 8,
 }
 
@@ -36,14 +36,16 @@ impl ConflictKind {
     }
 }
 
-/// One reason why a commit was refused. Conflicts are ordered by the object and then by the kind.
+/// One reason why a commit was refused. Conflicts are ordered by the object, then by the kind, and
+/// then by what is shown.
 #[derive(Clone, Copy, Debug, PartialEq, Eq, PartialOrd, Ord, Hash)]
 pub struct Conflict {
-    /// The object.
+    /// The object at which the commit was refused.
     pub oid: Oid,
+    /// What stands against it.
     pub kind: ConflictKind,
-    /// What is shown with it: for a lock the session that holds it, and else the number of the commit
-    /// that last changed the object.
+    /// What is shown with it: for a lock the session that holds it, and else the number of the
+    /// commit that last changed the object.
     pub shown: u64,
 }
 

@@ -5,17 +5,18 @@ ghost use Rattle.gem_value.specs.Image.{globals_by_name};
 ghost use Rattle.gem_value.specs.Writes.{with_written};
 
 use crate::record::Writes;
-use st_tree::Text;
 use std::alloc::{AllocError, Global};
 use std::collections::BTreeMap;
 use std::marker::Model;
 use std::sync::Arc;
+use texts::Text;
 
 /// The globals, each a name, as bytes, with an integer. An image never changes: `with_name` and
-/// `with_writes` make another one. A contract sees it as the finite map from the names to the integers.
+/// `with_writes` make another one. A contract sees it as the finite map from the names to the
+/// integers.
 ///
-/// `share` takes no copy of the map. `with_name` and `with_writes` take one, so their time and memory
-/// grow with the number of globals.
+/// `share` takes no copy of the map. `with_name` and `with_writes` take one, so their time and
+/// memory grow with the number of globals.
 #[derive(Debug, Drop)]
 pub struct Image {
     globals: Arc<BTreeMap<Vec<u8>, i64>>,
@@ -58,8 +59,8 @@ impl Image {
         })
     }
 
-    /// The image with this integer as the global of this name, whether the name is new or not, and all
-    /// else as in this one.
+    /// The image with this integer as the global of this name, whether the name is new or not, and
+    /// all else as in this one.
     pub fn with_name(&self, alloc: Global, name: &[u8], value: i64) -> Result<Image, AllocError>
         ensures { IfOk result (λ image. image ≡ map.insert self.now name.now value) }
     {
@@ -92,7 +93,9 @@ fn set_globals(
     globals: &mut BTreeMap<Vec<u8>, i64>,
     writes: &[(Text, i64)],
 ) -> Result<(), AllocError>
-    ensures { IfOk result (λ _. globals_by_name globals.new.entries ≡ with_written writes.now (globals_by_name globals.old.entries)) }
+    ensures { IfOk result (λ _.
+        globals_by_name globals.new.entries
+        ≡ with_written writes.now (globals_by_name globals.old.entries)) }
 {
     for (name, value) in writes {
         globals.insert(Vec::from_slice(alloc, name.bytes())?, *value)?;

@@ -1,5 +1,5 @@
-//! The values that sessions and the Stone hand each other: names of objects, conflicts, the image of
-//! the globals, the record of a transaction and its entry in the history.
+//! Room: values. Gives names of objects, conflicts, the image of the globals, the record of a
+//! transaction and its entry in the history. Knows nothing of scripts and of who runs what.
 #![tactic(auto)]
 
 mod conflict;
@@ -14,5 +14,5 @@ mod tests;
 pub use conflict::{Conflict, ConflictKind, Conflicts};
 pub use image::Image;
 pub use oid::Oid;
-pub use record::{Entry, TxnRecord, Writes};
+pub use record::{Entry, History, TxnRecord, Writes};
 pub use sequence::Sequence;

@@ -5,12 +5,12 @@ ghost use Rattle.gem_value.specs.Oid.{oid_number, serial_of, counter_of, oid_tex
 use std::fmt;
 use std::marker::Model;
 
-/// The name of an object: a number below 2^48, which is a serial times 2^24 and a counter. The serial
-/// tells sessions apart and is 0 for the objects of the kernel; the counter tells the objects of one
-/// serial apart.
+/// The name of an object: a number below 2^48, which is a serial times 2^24 and a counter. The
+/// serial tells sessions apart and is 0 for the objects of the kernel; the counter tells the
+/// objects of one serial apart.
 ///
-/// A contract sees the number. Names are compared by it, so by the serial and then by the counter. As
-/// text a name is `serial:counter` in decimal.
+/// A contract sees the number. Names are compared by it, so by the serial and then by the counter.
+/// As text a name is `serial:counter` in decimal.
 #[derive(Clone, Copy, Debug, PartialEq, Eq, PartialOrd, Ord, Hash)]
 pub struct Oid {
     number: u64,

@@ -3,11 +3,12 @@ ghost use Rattle.std.specs.Prelude.{◌≡◌};
 ghost use Rattle.gem_value.specs.Writes.{IsInNameOrder};
 ghost use Rattle.gem_value.specs.Entry.{entry_of};
 
-use st_tree::Text;
+use crate::sequence::Sequence;
 use std::marker::Model;
+use texts::Text;
 
-/// Globals with the integers that a transaction gave them last, each name once and in ascending order.
-/// A contract sees them as the list of the pairs of a name, by its bytes, and an integer.
+/// Globals with the integers that a transaction gave them last, each name once and in ascending
+/// order. A contract sees them as the list of the pairs of a name, by its bytes, and an integer.
 #[derive(Debug, Drop)]
 pub struct Writes {
     entries: Vec<(Text, i64)>,
@@ -15,7 +16,7 @@ pub struct Writes {
 
 impl Model for Writes {
     ghost use Rattle.std.specs.Prelude.{ℤ, List};
-    ghost use Rattle.st_tree.specs.Trees.{Bytes};
+    ghost use Rattle.texts.specs.Bytes.{Bytes};
     ghost use Rattle.gem_value.specs.Writes.{IsInNameOrder};
 
     ghost Value = { List (Bytes × ℤ) };
@@ -26,7 +27,8 @@ impl Model for Writes {
 }
 
 impl Writes {
-    /// The writes that are these pairs, whose names ascend. It keeps the vector, so it takes no memory.
+    /// The writes that are these pairs, whose names ascend. It keeps the vector, so it takes no
+    /// memory.
     pub fn of(entries: Vec<(Text, i64)>) -> Writes
         requires { IsInNameOrder entries.items }
         ensures { result ≡ entries.items }
@@ -51,9 +53,8 @@ impl Writes {
     }
 }
 
-/// The record of a transaction: the commands of a session from its beginning, its last abort or its last
-/// commit that was placed or unchanged on, with the commit that ends them, as the session ran them on its view. That its fields are those of one such
-/// run is for whoever makes it to say.
+/// What a session asks to commit: which commands the transaction had, on which view they ran, and
+/// what they wrote. That its fields are those of one such run is for whoever makes it to say.
 #[derive(Debug, Drop)]
 pub struct TxnRecord {
     /// The session's number, from 1.
@@ -99,3 +100,6 @@ pub struct Entry {
     /// The number of commits in the image that it ran on.
     pub view: u64,
 }
+
+/// The transactions that were committed, in order. A contract sees the list of their entries.
+pub type History = Sequence<Entry>;

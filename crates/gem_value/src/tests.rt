@@ -2,9 +2,9 @@ ghost use Rattle.std.specs.Prelude.{IfOk};
 ghost use Rattle.gem_value.specs.Writes.{IsInNameOrder};
 
 use super::*;
-use st_tree::Text;
 use std::alloc::{AllocError, Global};
 use std::test::Fail;
+use texts::Text;
 
 #[test]
 fn names_of_objects(rt: HostRuntime) -> Result<(), Fail> {

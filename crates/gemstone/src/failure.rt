@@ -1,25 +1,22 @@
-ghost use Rattle.std.specs.Prelude.{◌≡◌};
-ghost use Rattle.gemstone.specs.Failure.{number_of};
+//! Why the program fails, and what it says then.
+ghost use Rattle.std.specs.Prelude.{◌≡◌, None, Some, MatchResult};
+ghost use Rattle.gemstone.specs.Failure.{failure_of, number_of, line_of};
 
-use thiserror::Error;
+use gem_server::Status;
+use std::fmt;
 
 /// Why the program ends with a status that isn't 0. Its text is the line on standard error.
-#[derive(Clone, Copy, Debug, PartialEq, Eq, Error)]
+#[derive(Clone, Copy, Debug, PartialEq, Eq)]
 pub enum Failure {
     /// The words of the command line aren't the one word `serve`.
-    #[error("gemstone: usage")]
     Usage,
     /// The script breaks this rule, first at this line, from 1. Line 0 is the script as a whole.
-    #[error("gemstone: script line {line} rule S{rule}")]
     Script { line: u32, rule: u8 },
     /// Standard input failed.
-    #[error("gemstone: read fault")]
     ReadFault,
     /// Standard output failed.
-    #[error("gemstone: write fault")]
     WriteFault,
     /// There was no memory.
-    #[error("gemstone: no memory")]
     NoMemory,
 }
 
@@ -35,6 +32,38 @@ impl Failure {
             Failure::WriteFault => 9,
             Failure::NoMemory => 10,
         }
+    }
+}
+
+impl fmt::Display for Failure {
+    ghost output = { λ failure. Some (line_of failure) };
+
+    fn fmt<W: fmt::Write>(&self, f: &mut fmt::Formatter<W>) -> fmt::Result {
+        match *self {
+            Failure::Usage => f.write_str("gemstone: usage"),
+            Failure::Script { line, rule } => {
+                write!(f, "gemstone: script line {line} rule S{rule}")
+            }
+            Failure::ReadFault => f.write_str("gemstone: read fault"),
+            Failure::WriteFault => f.write_str("gemstone: write fault"),
+            Failure::NoMemory => f.write_str("gemstone: no memory"),
+        }
+    }
+}
+
+/// How the program ends where a call of the server ended so.
+pub fn end_of(status: Status) -> Result<(), Failure>
+    ensures { MatchResult result
+        (λ _. failure_of status ≡ None)
+        (λ failure. failure_of status ≡ Some failure) }
+{
+    match status {
+        Status::Done => Ok(()),
+        Status::Usage => Err(Failure::Usage),
+        Status::Script { line, rule } => Err(Failure::Script { line, rule }),
+        Status::ReadFault => Err(Failure::ReadFault),
+        Status::WriteFault => Err(Failure::WriteFault),
+        Status::NoMemory => Err(Failure::NoMemory),
     }
 }
 

@@ -5,8 +5,8 @@ use Rattle.std.specs.FinMap.{get-insert, get-remove, get-retain_keys}
 use Rattle.std.proofs.lemmas.Bool.Decides.{nat_tests}
 use Rattle.lock_table.specs.LockKind.{kind_granted}
 use Rattle.lock_table.specs.Locks.{LockSet, holding_cmp, holding, kind_held, after_held, after_dropped, after_left}
-use Rattle.lock_table.specs.declared.Holding.{Holding}
-use Rattle.lock_table.specs.declared.LockKind.{LockKind}
+use Rattle.lock_table.specs.declared.lock.Holding.{Holding}
+use Rattle.lock_table.specs.declared.lock.LockKind.{LockKind}
 use Rattle.lock_table.proofs.Held.{holdings_total, alike}
 use Rattle.lock_table.proofs.Denied.{same_holding, at_itself}
 

@@ -19,9 +19,9 @@ use Rattle.std.proofs.lemmas.Map.Keys.{sorted_head, sorted_tail}
 use Rattle.lock_table.specs.LockKind.{is_write}
 use Rattle.lock_table.specs.Locks.{LockSet, holding_cmp, holding, kind_held, IsInTheWay, IsDenied, IsLowestHolder, denied_for}
 use Rattle.lock_table.specs.Search.{is_in_the_way, holder_of, first_in_the_way}
-use Rattle.lock_table.specs.declared.Holding.{Holding}
-use Rattle.lock_table.specs.declared.LockKind.{LockKind}
-use Rattle.lock_table.specs.declared.LockKind.TheVariants.{Read, Write}
+use Rattle.lock_table.specs.declared.lock.Holding.{Holding}
+use Rattle.lock_table.specs.declared.lock.LockKind.{LockKind}
+use Rattle.lock_table.specs.declared.lock.LockKind.TheVariants.{Read, Write}
 use Rattle.lock_table.proofs.Held.{Entries, held_at, holdings_total, exact_holdings, find-held}
 
 -- the holdings rise

@@ -1,13 +1,13 @@
--- A lock to write stands alone, however the locks were come by.
-use Rattle.std.proofs.Common.{◌≡◌, ◌≢◌, ℕ, ◌⊎◌, inl, inr, List, [], ◌∷◌, Option, Some, None, refl, sym, subst, ◌∙◌}
-use Rattle.std.specs.FinMap.{get-empty}
+-- A lock to write is the only lock on its object, after all events.
+use Rattle.std.proofs.Common.{◌≡◌, ◌≢◌, ℕ, ◌⊎◌, inl, inr, List, [], ◌∷◌, fold, Option, Some, None, refl, sym, subst, ◌∙◌}
+use Rattle.std.specs.FinMap.{empty, get-empty}
 use Rattle.std.proofs.lemmas.Bool.Decides.{eqb_tells}
 use Rattle.std.proofs.lemmas.Option.{none-some, same_Some}
 use Rattle.lock_table.specs.LockKind.{kind_granted}
-use Rattle.lock_table.specs.Locks.{LockSet, holding_cmp, holding, kind_held, after_held, after_dropped, after_left, LockEvent, Held, Dropped, Left, after_event, locks_after}
-use Rattle.lock_table.specs.Granted.{MayFollow, AreGranted, IsExclusive}
-use Rattle.lock_table.specs.declared.LockKind.{LockKind}
-use Rattle.lock_table.specs.declared.LockKind.TheVariants.{Read, Write}
+use Rattle.lock_table.specs.Locks.{LockSet, holding_cmp, holding, kind_held, after_held, after_dropped, after_left, LockEvent, Held, Dropped, Left, locks_after_event, locks_after}
+use Rattle.lock_table.specs.Granted.{MayFollow, AreGrantedFrom, AreGranted, IsExclusive}
+use Rattle.lock_table.specs.declared.lock.LockKind.{LockKind}
+use Rattle.lock_table.specs.declared.lock.LockKind.TheVariants.{Read, Write}
 use Rattle.lock_table.proofs.Changes.{held_this, held_others, dropped_this, dropped_others, left_this, left_others}
 
 reads : (kind : LockKind) → ¬ (kind ≡ Write) → kind ≡ Read
@@ -73,11 +73,15 @@ left_among locks session other object kind held = elim (eqb_tells other session)
   | inr apart ↦ sym (left_others locks session object other object apart.1) ∙ held
 ]
 
-exclusive_event : (locks : LockSet) (event : LockEvent) → MayFollow locks event → IsExclusive locks → IsExclusive (after_event locks event)
+exclusive_event : (locks : LockSet) (event : LockEvent) → MayFollow locks event → IsExclusive locks → IsExclusive (locks_after_event locks event)
 exclusive_event locks (Held session oid kind) granted exclusive = exclusive_held locks session oid kind granted exclusive
 exclusive_event locks (Dropped session oid) granted exclusive = exclusive_among locks (after_dropped locks session oid) (dropped_among locks session oid) exclusive
 exclusive_event locks (Left session) granted exclusive = exclusive_among locks (after_left locks session) (left_among locks session) exclusive
 
+-- events that are granted from locks that are exclusive leave such locks
+exclusive_from : (locks : LockSet) (events : List LockEvent) → IsExclusive locks → AreGrantedFrom locks events → IsExclusive (fold locks_after_event locks events)
+exclusive_from locks [] exclusive granted = exclusive
+exclusive_from locks (event ∷ later) exclusive granted = exclusive_from (locks_after_event locks event) later (exclusive_event locks event granted.0 exclusive) granted.1
+
 pub exclusive_after : (events : List LockEvent) → AreGranted events → IsExclusive (locks_after events)
-exclusive_after [] granted = λ oid session other kind other_kind apart this that. absurd (none-some kind (sym (get-empty holding_cmp (holding session oid)) ∙ this))
-exclusive_after (event ∷ earlier) granted = exclusive_event (locks_after earlier) event granted.0 (exclusive_after earlier granted.1)
+exclusive_after events granted = exclusive_from empty events (λ oid session other kind other_kind apart this that. absurd (none-some kind (sym (get-empty holding_cmp (holding session oid)) ∙ this))) granted

@@ -14,8 +14,8 @@ use Rattle.std.proofs.lemmas.Map.Lookups.{CmpEqualImpliesEq, exact_pairs, exact_
 use Rattle.std.proofs.lemmas.Bool.{false≢true}
 use Rattle.std.proofs.lemmas.Bool.Decides.{nat_tests}
 use Rattle.lock_table.specs.Locks.{holding_cmp, holding, kind_held}
-use Rattle.lock_table.specs.declared.Holding.{Holding}
-use Rattle.lock_table.specs.declared.LockKind.{LockKind}
+use Rattle.lock_table.specs.declared.lock.Holding.{Holding}
+use Rattle.lock_table.specs.declared.lock.LockKind.{LockKind}
 
 -- the entries of a table
 abbrev pub Entries : Type 0

@@ -6,9 +6,9 @@ use Rattle.lock_table.specs.Asked.{Answers}
 use Rattle.lock_table.specs.LockKind.{kind_granted}
 use Rattle.lock_table.specs.Locks.{LockSet, holding_cmp, holding, kind_held, after_held, IsDenied, denied_for}
 use Rattle.lock_table.specs.Search.{first_in_the_way}
-use Rattle.lock_table.specs.declared.Asked.{Asked}
-use Rattle.lock_table.specs.declared.Asked.TheVariants.{Granted, Denied, NoMemory}
-use Rattle.lock_table.specs.declared.LockKind.{LockKind}
+use Rattle.lock_table.specs.declared.lock.Asked.{Asked}
+use Rattle.lock_table.specs.declared.lock.Asked.TheVariants.{Granted, Denied, NoMemory}
+use Rattle.lock_table.specs.declared.lock.LockKind.{LockKind}
 use Rattle.lock_table.proofs.Held.{Entries, held_at, get-held}
 use Rattle.lock_table.proofs.Denied.{AreSorted, denied_from_value, value_from_denied, first-denied_for}
 

@@ -14,15 +14,15 @@ use Rattle.std.proofs.lemmas.Bool.Decides.{nat_tests}
 use Rattle.lock_table.specs.LockKind.{is_write}
 use Rattle.lock_table.specs.Locks.{holding, holding_cmp}
 use Rattle.lock_table.specs.Search.{is_in_the_way, holder_of, first_in_the_way}
-use Rattle.lock_table.specs.declared.Holding.{Holding}
-use Rattle.lock_table.specs.declared.LockKind.{LockKind}
+use Rattle.lock_table.specs.declared.lock.Holding.{Holding}
+use Rattle.lock_table.specs.declared.lock.LockKind.{LockKind}
 use Rattle.lock_table.proofs.Held.{Entries}
 
 module _ (session oid : ℕ) (kind : LockKind) where
   abbrev pub stands_in_the_way : Holding × LockKind → Bool
   stands_in_the_way entry = not (entry.0.session == session) && (is_write kind || is_write entry.1)
 
-  -- the first entry of the object whose session is in the way, up to the first entry of another object
+  -- the first entry of the object whose session is in the way, before the first entry of another object
   abbrev pub scan : Entries → Option (ℕ × LockKind)
   scan [] = None
   scan (entry ∷ entries) = if entry.0.oid == oid then (if stands_in_the_way entry then Some (holder_of entry) else scan entries) else None

@@ -1,39 +1,51 @@
-//! What follows from the definitions alone. Each law is the contract of a function that does nothing.
+//! What follows from the definitions alone. Each law is the contract of a function that does
+//! nothing.
 ghost use Rattle.std.specs.Prelude.{◌≡◌, ◌≢◌, ◌↔◌, ℕ, List};
 ghost use Rattle.lock_table.specs.LockKind.{kind_granted};
 ghost use Rattle.lock_table.specs.Locks.{LockSet, LockEvent, kind_held, after_held, after_dropped, after_left, locks_after, IsInTheWay, IsDenied, IsLowestHolder, denied_for};
 ghost use Rattle.lock_table.specs.Granted.{AreGranted, IsExclusive};
-ghost use Rattle.lock_table.specs.declared.LockKind.{LockKind};
+ghost use Rattle.lock_table.specs.declared.lock.LockKind.{LockKind};
 
 /// A request is denied for at most one session, the one that `denied_for` names, and for none just
 /// where nobody is in its way.
 pub fn denied_for_the_lowest()
-    ensures request { (locks : LockSet) (session oid : ℕ) (kind : LockKind) (holder : ℕ) (held : LockKind) →
-        (denied_for locks session oid kind ≡ Some (holder, held)) ↔ IsDenied locks session oid kind holder held }
+    ensures request { (locks : LockSet) (session oid : ℕ) (kind : LockKind)
+        (holder : ℕ) (held : LockKind) →
+        (denied_for locks session oid kind ≡ Some (holder, held))
+        ↔ IsDenied locks session oid kind holder held }
     ensures nobody { (locks : LockSet) (session oid : ℕ) (kind : LockKind) →
-        (denied_for locks session oid kind ≡ None) ↔ ((holder : ℕ) (held : LockKind) → ¬ IsInTheWay locks session oid kind holder held) }
+        (denied_for locks session oid kind ≡ None)
+        ↔ ((holder : ℕ) (held : LockKind) → ¬ IsInTheWay locks session oid kind holder held) }
     ensures holder { (locks : LockSet) (session oid holder : ℕ) (held : LockKind) →
-        (denied_for locks session oid LockKind.Write ≡ Some (holder, held)) ↔ IsLowestHolder locks session oid holder held }
+        (denied_for locks session oid LockKind.Write ≡ Some (holder, held))
+        ↔ IsLowestHolder locks session oid holder held }
 {}
 
 /// A lock that is granted changes how this session holds this object, and nothing else.
 pub fn held_changes_one()
     ensures this { (locks : LockSet) (session oid : ℕ) (kind : LockKind) →
-        kind_held (after_held locks session oid kind) session oid ≡ Some (kind_granted (kind_held locks session oid) kind) }
-    ensures others { (locks : LockSet) (session oid : ℕ) (kind : LockKind) (other object : ℕ) → (other ≡ session → object ≢ oid) →
-        kind_held (after_held locks session oid kind) other object ≡ kind_held locks other object }
+        kind_held (after_held locks session oid kind) session oid
+        ≡ Some (kind_granted (kind_held locks session oid) kind) }
+    ensures others { (locks : LockSet) (session oid : ℕ) (kind : LockKind)
+        (other object : ℕ) → (other ≡ session → object ≢ oid) →
+        kind_held (after_held locks session oid kind) other object
+        ≡ kind_held locks other object }
 {}
 
 /// A lock that is dropped is gone, and every other stays.
 pub fn dropped_changes_one()
-    ensures this { (locks : LockSet) (session oid : ℕ) → kind_held (after_dropped locks session oid) session oid ≡ None }
-    ensures others { (locks : LockSet) (session oid other object : ℕ) → (other ≡ session → object ≢ oid) →
-        kind_held (after_dropped locks session oid) other object ≡ kind_held locks other object }
+    ensures this { (locks : LockSet) (session oid : ℕ) →
+        kind_held (after_dropped locks session oid) session oid ≡ None }
+    ensures others { (locks : LockSet) (session oid other object : ℕ) →
+        (other ≡ session → object ≢ oid) →
+        kind_held (after_dropped locks session oid) other object
+        ≡ kind_held locks other object }
 {}
 
 /// A session that has left holds nothing, and every other session's locks stay.
 pub fn left_changes_one_session()
-    ensures this { (locks : LockSet) (session oid : ℕ) → kind_held (after_left locks session) session oid ≡ None }
+    ensures this { (locks : LockSet) (session oid : ℕ) →
+        kind_held (after_left locks session) session oid ≡ None }
     ensures others { (locks : LockSet) (session other oid : ℕ) → other ≢ session →
         kind_held (after_left locks session) other oid ≡ kind_held locks other oid }
 {}

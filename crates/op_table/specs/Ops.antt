@@ -4,10 +4,11 @@ use Rattle.op_table.specs.declared.ops.Op.{Op}
 use Rattle.op_table.specs.declared.ops.Op.TheVariants.{PushSelf, PushNil, PushTrue, PushFalse, PushLit, MakeLit, PushLocal, StoreLocal, PushName, StoreName, Pop, Dup, Send, SuperSend, PushBlock, ReturnMethod, ReturnHome, ReturnBlock, Jump, JumpTrue, JumpFalse, Unit as TakeUnit, Enter, Leave, LoopStart, LoopNext, LoopStep}
 use Rattle.op_table.specs.declared.ops.Row.{Row}
 
--- an op with its byte, the number of operands that follow the byte, the number of values that it takes from the stack
--- and the number that it puts there
+-- an op with its byte, the number of operands that follow the byte, the number of values that it
+-- takes from the stack and the number that it puts there
 abbrev pub row : ℕ → Op → ℕ → ℕ → ℕ → Row
-row byte op operands pops pushes = record { byte = byte; op = op; operands = operands; pops = pops; pushes = pushes }
+row byte op operands pops pushes =
+    record { byte = byte; op = op; operands = operands; pops = pops; pushes = pushes }
 
 -- the row of each op; the comment names its operands
 abbrev pub row_for : Op → Row
@@ -23,8 +24,8 @@ row_for PushName = row 0x08 PushName 1 0 1  -- literal
 row_for StoreName = row 0x09 StoreName 1 1 1  -- literal
 row_for Pop = row 0x0a Pop 0 1 0
 row_for Dup = row 0x0b Dup 0 1 2
-row_for Send = row 0x0c Send 2 1 1  -- literal, count; takes as many more values as the count
-row_for SuperSend = row 0x0d SuperSend 2 1 1  -- literal, count; takes as many more values as the count
+row_for Send = row 0x0c Send 2 1 1  -- literal, count; takes as many more values
+row_for SuperSend = row 0x0d SuperSend 2 1 1  -- literal, count; takes as many more values
 row_for PushBlock = row 0x0e PushBlock 1 0 1  -- block
 row_for ReturnMethod = row 0x0f ReturnMethod 0 1 0
 row_for ReturnHome = row 0x10 ReturnHome 0 1 0
@@ -36,14 +37,15 @@ row_for TakeUnit = row 0x15 TakeUnit 0 0 0
 row_for Enter = row 0x16 Enter 1 0 0  -- count
 row_for Leave = row 0x17 Leave 0 0 0
 row_for LoopStart = row 0x18 LoopStart 0 2 2
-row_for LoopNext = row 0x19 LoopNext 1 2 3  -- target; puts 3 where it goes on, and none where it jumps
-row_for LoopStep = row 0x1a LoopStep 1 2 2  -- target; puts 2 where it jumps, and none where the loop ends
+row_for LoopNext = row 0x19 LoopNext 1 2 3  -- target; puts 3, or none where it jumps
+row_for LoopStep = row 0x1a LoopStep 1 2 2  -- target; puts 2, or none where the loop ends
 
 -- the ops, in the order of their bytes
 abbrev pub all_ops : List Op
 all_ops =
-    PushSelf ∷ PushNil ∷ PushTrue ∷ PushFalse ∷ PushLit ∷ MakeLit ∷ PushLocal ∷ StoreLocal ∷ PushName ∷ StoreName
-    ∷ Pop ∷ Dup ∷ Send ∷ SuperSend ∷ PushBlock ∷ ReturnMethod ∷ ReturnHome ∷ ReturnBlock ∷ Jump ∷ JumpTrue ∷ JumpFalse
+    PushSelf ∷ PushNil ∷ PushTrue ∷ PushFalse ∷ PushLit ∷ MakeLit
+    ∷ PushLocal ∷ StoreLocal ∷ PushName ∷ StoreName ∷ Pop ∷ Dup ∷ Send ∷ SuperSend
+    ∷ PushBlock ∷ ReturnMethod ∷ ReturnHome ∷ ReturnBlock ∷ Jump ∷ JumpTrue ∷ JumpFalse
     ∷ TakeUnit ∷ Enter ∷ Leave ∷ LoopStart ∷ LoopNext ∷ LoopStep ∷ []
 
 -- the table

@@ -13,7 +13,8 @@ pub record Primitive : Type 0 where
 
 -- a primitive by its parts
 abbrev pub primitive : ℕ → List ℕ → ℕ → Kind → Primitive
-primitive number selector args receiver = record { number = number; selector = selector; args = args; receiver = receiver }
+primitive number selector args receiver =
+    record { number = number; selector = selector; args = args; receiver = receiver }
 
 -- what a row says
 abbrev pub primitive_of : PrimRow → Primitive
@@ -128,7 +129,8 @@ prim_at number = find (λ primitive. primitive.number == number) primitives
 abbrev pub is_letter : ℕ → Bool
 is_letter c = (nat_le 97 c && nat_le c 122) || (nat_le 65 c && nat_le c 90)
 
--- how many arguments a message with the selector has: one for each colon of a selector of words, and else one
+-- how many arguments a message with the selector has: one for each colon of a selector of words,
+-- and else one
 abbrev pub argument_count : List ℕ → ℕ
 argument_count [] = 0
 argument_count (first ∷ rest) = if is_letter first then count_by (λ c. c == 58) rest else 1

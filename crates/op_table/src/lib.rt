@@ -1,4 +1,5 @@
-//! The two fixed tables of the machine: its op codes, and the primitives that methods may be.
+//! Room: language. Takes a byte or a number; gives the row of an op code or of a primitive. Knows
+//! nothing of how an instruction is carried out.
 #![tactic(auto)]
 
 pub mod laws;

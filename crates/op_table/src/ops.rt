@@ -1,3 +1,4 @@
+//! The op codes.
 ghost use Rattle.std.specs.Prelude.{◌≡◌, ◌≢◌, ◌↔◌, ℕ, slice_get, IsNone, IfSome};
 ghost use Rattle.op_table.specs.Ops.{row_for, op_rows, row_at};
 ghost use Rattle.op_table.specs.declared.ops.Op.{Op};
@@ -56,7 +57,8 @@ pub enum Op {
     Leave,
     /// Begins a loop with its first number and its limit.
     LoopStart,
-    /// Leaves the loop for the target once the counter is past the limit, and else puts the counter.
+    /// Leaves the loop for the target once the counter is past the limit, and else puts the
+    /// counter.
     LoopNext,
     /// Adds one to the counter and goes on at the target.
     LoopStep,
@@ -74,8 +76,8 @@ pub struct Row {
     /// How many values it takes from the stack. `Send` and `SuperSend` take as many more as their
     /// count says.
     pub pops: u8,
-    /// How many values it puts on the stack: of `LoopNext` where it goes on, and of `LoopStep` where
-    /// it jumps.
+    /// How many values it puts on the stack: of `LoopNext` where it goes on, and of `LoopStep`
+    /// where it jumps.
     pub pushes: u8,
 }
 

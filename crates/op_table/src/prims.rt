@@ -1,8 +1,9 @@
+//! The primitives.
 ghost use Rattle.std.specs.Prelude.{◌≡◌, ◌≤◌, ◌↔◌, map, slice_get, IsSome, IfSome};
 ghost use Rattle.std.specs.Option.{option_map};
 ghost use Rattle.op_table.specs.Prims.{primitive_of, primitives, prim_at};
 
-/// Which receivers a primitive has: the instances of a class and of those under it, but for the
+/// Which receivers a primitive has: the instances of a class and of those under it, except for the
 /// two class sides.
 #[derive(Clone, Copy, Debug, PartialEq, Eq, Hash)]
 pub enum Kind {

@@ -1,3 +1,4 @@
+// The tables, row by row.
 use super::*;
 
 #[test]

@@ -5,13 +5,8 @@ use Rattle.std.proofs.lemmas.List.{get_or_default}
 use Rattle.std.specs.List.{AllByRecursion, insert, remove}
 use Rattle.std.specs.Ordering.{is_eq, match_ordering}
 use Rattle.std.specs.declared.cmp.Ordering.TheVariants.{Less, Equal, Greater}
-use Rattle.rc_counter_bag.specs.Bag.{one_more, one_less, count, added, removed}
+use Rattle.rc_counter_bag.specs.Bag.{one_more, one_less, count, with_one_more, with_one_less}
 use Rattle.sorted_pairs.specs.Place.{StandsAt, FitsAt}
-
--- what holds holds on an error too
-pub on_error : {X E : Type 0} (r : Result X E) (P : Type 0) → P → OnErr r P
-on_error (Ok x) P h = tt
-on_error (Err e) P h = h
 
 module _ {T : Type 0} (cmp : T → T → Ordering) (item : T) where
   -- ---- what a definition says of the first pair
@@ -22,23 +17,23 @@ module _ {T : Type 0} (cmp : T → T → Ordering) (item : T) where
   pub count-past : (pair : T × ℕ) (rest : List (T × ℕ)) → is_eq (cmp pair.0 item) ≡ false → count cmp item (pair ∷ rest) ≡ count cmp item rest
   count-past pair rest e = ap (λ b. cond b pair.1 (count cmp item rest)) e
 
-  pub added-past : (pair : T × ℕ) (rest : List (T × ℕ)) → cmp pair.0 item ≡ Less → added cmp item (pair ∷ rest) ≡ pair ∷ added cmp item rest
-  added-past pair rest e = ap (λ o. match_ordering o (pair ∷ added cmp item rest) ((pair.0, one_more pair.1) ∷ rest) ((item, 1) ∷ pair ∷ rest)) e
+  pub with_one_more-past : (pair : T × ℕ) (rest : List (T × ℕ)) → cmp pair.0 item ≡ Less → with_one_more cmp item (pair ∷ rest) ≡ pair ∷ with_one_more cmp item rest
+  with_one_more-past pair rest e = ap (λ o. match_ordering o (pair ∷ with_one_more cmp item rest) ((pair.0, one_more pair.1) ∷ rest) ((item, 1) ∷ pair ∷ rest)) e
 
-  pub added-here : (pair : T × ℕ) (rest : List (T × ℕ)) → cmp pair.0 item ≡ Equal → added cmp item (pair ∷ rest) ≡ (pair.0, one_more pair.1) ∷ rest
-  added-here pair rest e = ap (λ o. match_ordering o (pair ∷ added cmp item rest) ((pair.0, one_more pair.1) ∷ rest) ((item, 1) ∷ pair ∷ rest)) e
+  pub with_one_more-here : (pair : T × ℕ) (rest : List (T × ℕ)) → cmp pair.0 item ≡ Equal → with_one_more cmp item (pair ∷ rest) ≡ (pair.0, one_more pair.1) ∷ rest
+  with_one_more-here pair rest e = ap (λ o. match_ordering o (pair ∷ with_one_more cmp item rest) ((pair.0, one_more pair.1) ∷ rest) ((item, 1) ∷ pair ∷ rest)) e
 
-  pub added-before : (pair : T × ℕ) (rest : List (T × ℕ)) → cmp pair.0 item ≡ Greater → added cmp item (pair ∷ rest) ≡ (item, 1) ∷ pair ∷ rest
-  added-before pair rest e = ap (λ o. match_ordering o (pair ∷ added cmp item rest) ((pair.0, one_more pair.1) ∷ rest) ((item, 1) ∷ pair ∷ rest)) e
+  pub with_one_more-before : (pair : T × ℕ) (rest : List (T × ℕ)) → cmp pair.0 item ≡ Greater → with_one_more cmp item (pair ∷ rest) ≡ (item, 1) ∷ pair ∷ rest
+  with_one_more-before pair rest e = ap (λ o. match_ordering o (pair ∷ with_one_more cmp item rest) ((pair.0, one_more pair.1) ∷ rest) ((item, 1) ∷ pair ∷ rest)) e
 
   abbrev pub less_here : T × ℕ → List (T × ℕ) → List (T × ℕ)
   less_here pair rest = cond (pair.1 == 1) rest ((pair.0, one_less pair.1) ∷ rest)
 
-  pub removed-here : (pair : T × ℕ) (rest : List (T × ℕ)) → cmp pair.0 item ≡ Equal → removed cmp item (pair ∷ rest) ≡ Some (less_here pair rest)
-  removed-here pair rest e = ap (λ o. cond (is_eq o) (Some (less_here pair rest)) (option_map (λ less. pair ∷ less) (removed cmp item rest))) e
+  pub with_one_less-here : (pair : T × ℕ) (rest : List (T × ℕ)) → cmp pair.0 item ≡ Equal → with_one_less cmp item (pair ∷ rest) ≡ Some (less_here pair rest)
+  with_one_less-here pair rest e = ap (λ o. cond (is_eq o) (Some (less_here pair rest)) (option_map (λ less. pair ∷ less) (with_one_less cmp item rest))) e
 
-  pub removed-past : (pair : T × ℕ) (rest : List (T × ℕ)) → is_eq (cmp pair.0 item) ≡ false → removed cmp item (pair ∷ rest) ≡ option_map (λ less. pair ∷ less) (removed cmp item rest)
-  removed-past pair rest e = ap (λ b. cond b (Some (less_here pair rest)) (option_map (λ less. pair ∷ less) (removed cmp item rest))) e
+  pub with_one_less-past : (pair : T × ℕ) (rest : List (T × ℕ)) → is_eq (cmp pair.0 item) ≡ false → with_one_less cmp item (pair ∷ rest) ≡ option_map (λ less. pair ∷ less) (with_one_less cmp item rest)
+  with_one_less-past pair rest e = ap (λ b. cond b (Some (less_here pair rest)) (option_map (λ less. pair ∷ less) (with_one_less cmp item rest))) e
 
   -- ---- where the item stands
 
@@ -47,45 +42,45 @@ module _ {T : Type 0} (cmp : T → T → Ordering) (item : T) where
   count-stands (pair ∷ rest) zero x stands read = count-here pair rest stands ∙ ap (λ (p : T × ℕ). p.1) (sym read)
   count-stands (pair ∷ rest) (suc at) x stands read = count-past pair rest (ap is_eq stands.0) ∙ count-stands rest at x stands.1 read
 
-  pub added-stands : (pairs : List (T × ℕ)) (at : ℕ) (x : T × ℕ) → StandsAt cmp item pairs at → x ≡ get_or pairs at x → added cmp item pairs ≡ set pairs at (x.0, one_more x.1)
-  added-stands [] at x stands read = absurd stands
-  added-stands (pair ∷ rest) zero x stands read = added-here pair rest stands ∙ ap (λ (p : T × ℕ). (p.0, one_more p.1) ∷ rest) (sym read)
-  added-stands (pair ∷ rest) (suc at) x stands read = added-past pair rest stands.0 ∙ ap (λ l. pair ∷ l) (added-stands rest at x stands.1 read)
+  pub with_one_more-stands : (pairs : List (T × ℕ)) (at : ℕ) (x : T × ℕ) → StandsAt cmp item pairs at → x ≡ get_or pairs at x → with_one_more cmp item pairs ≡ set pairs at (x.0, one_more x.1)
+  with_one_more-stands [] at x stands read = absurd stands
+  with_one_more-stands (pair ∷ rest) zero x stands read = with_one_more-here pair rest stands ∙ ap (λ (p : T × ℕ). (p.0, one_more p.1) ∷ rest) (sym read)
+  with_one_more-stands (pair ∷ rest) (suc at) x stands read = with_one_more-past pair rest stands.0 ∙ ap (λ l. pair ∷ l) (with_one_more-stands rest at x stands.1 read)
 
-  pub removed-last : (pairs : List (T × ℕ)) (at : ℕ) (x : T × ℕ) → StandsAt cmp item pairs at → x ≡ get_or pairs at x → x.1 ≡ 1 → removed cmp item pairs ≡ Some (remove pairs at)
-  removed-last [] at x stands read one = absurd stands
-  removed-last (pair ∷ rest) zero x stands read one = removed-here pair rest stands ∙ ap (λ (p : T × ℕ). Some (less_here p rest)) (sym read) ∙ ap (λ n. Some (cond (n == 1) rest ((x.0, one_less x.1) ∷ rest))) one
-  removed-last (pair ∷ rest) (suc at) x stands read one = removed-past pair rest (ap is_eq stands.0) ∙ ap (option_map (λ less. pair ∷ less)) (removed-last rest at x stands.1 read one)
+  pub with_one_less-last : (pairs : List (T × ℕ)) (at : ℕ) (x : T × ℕ) → StandsAt cmp item pairs at → x ≡ get_or pairs at x → x.1 ≡ 1 → with_one_less cmp item pairs ≡ Some (remove pairs at)
+  with_one_less-last [] at x stands read one = absurd stands
+  with_one_less-last (pair ∷ rest) zero x stands read one = with_one_less-here pair rest stands ∙ ap (λ (p : T × ℕ). Some (less_here p rest)) (sym read) ∙ ap (λ n. Some (cond (n == 1) rest ((x.0, one_less x.1) ∷ rest))) one
+  with_one_less-last (pair ∷ rest) (suc at) x stands read one = with_one_less-past pair rest (ap is_eq stands.0) ∙ ap (option_map (λ less. pair ∷ less)) (with_one_less-last rest at x stands.1 read one)
 
-  pub removed-more : (pairs : List (T × ℕ)) (at : ℕ) (x : T × ℕ) → StandsAt cmp item pairs at → x ≡ get_or pairs at x → (x.1 == 1) ≡ false → removed cmp item pairs ≡ Some (set pairs at (x.0, one_less x.1))
-  removed-more [] at x stands read more = absurd stands
-  removed-more (pair ∷ rest) zero x stands read more = removed-here pair rest stands ∙ ap (λ (p : T × ℕ). Some (less_here p rest)) (sym read) ∙ ap (λ b. Some (cond b rest ((x.0, one_less x.1) ∷ rest))) more
-  removed-more (pair ∷ rest) (suc at) x stands read more = removed-past pair rest (ap is_eq stands.0) ∙ ap (option_map (λ less. pair ∷ less)) (removed-more rest at x stands.1 read more)
+  pub with_one_less-more : (pairs : List (T × ℕ)) (at : ℕ) (x : T × ℕ) → StandsAt cmp item pairs at → x ≡ get_or pairs at x → (x.1 == 1) ≡ false → with_one_less cmp item pairs ≡ Some (set pairs at (x.0, one_less x.1))
+  with_one_less-more [] at x stands read more = absurd stands
+  with_one_less-more (pair ∷ rest) zero x stands read more = with_one_less-here pair rest stands ∙ ap (λ (p : T × ℕ). Some (less_here p rest)) (sym read) ∙ ap (λ b. Some (cond b rest ((x.0, one_less x.1) ∷ rest))) more
+  with_one_less-more (pair ∷ rest) (suc at) x stands read more = with_one_less-past pair rest (ap is_eq stands.0) ∙ ap (option_map (λ less. pair ∷ less)) (with_one_less-more rest at x stands.1 read more)
 
   -- the pair is read twice: for the test, and to write it
-  pub removed-written : (pairs : List (T × ℕ)) (at : ℕ) (x y : T × ℕ) → StandsAt cmp item pairs at → at < length pairs → x ≡ get_or pairs at x → y ≡ get_or pairs at y → (x.1 ≡ 1 → ⊥)
-      → removed cmp item pairs ≡ Some (set pairs at (y.0, one_less y.1))
-  removed-written pairs at x y stands within read_x read_y more =
+  pub with_one_less-written : (pairs : List (T × ℕ)) (at : ℕ) (x y : T × ℕ) → StandsAt cmp item pairs at → at < length pairs → x ≡ get_or pairs at x → y ≡ get_or pairs at y → (x.1 ≡ 1 → ⊥)
+      → with_one_less cmp item pairs ≡ Some (set pairs at (y.0, one_less y.1))
+  with_one_less-written pairs at x y stands within read_x read_y more =
       let same : y ≡ x = read_y ∙ get_or_default pairs at y x within ∙ sym read_x in
-      removed-more pairs at y stands read_y (ap (λ (p : T × ℕ). p.1 == 1) same ∙ ne_eqb x.1 1 more)
+      with_one_less-more pairs at y stands read_y (ap (λ (p : T × ℕ). p.1 == 1) same ∙ ne_eqb x.1 1 more)
 
   -- ---- where the item would stand
 
-  above : (pairs : List (T × ℕ)) → AllByRecursion (λ pair. cmp pair.0 item ≡ Greater) pairs → (count cmp item pairs ≡ 0) × (removed cmp item pairs ≡ None)
+  above : (pairs : List (T × ℕ)) → AllByRecursion (λ pair. cmp pair.0 item ≡ Greater) pairs → (count cmp item pairs ≡ 0) × (with_one_less cmp item pairs ≡ None)
   above [] greater = (refl, refl)
   above (pair ∷ rest) greater =
       let r = above rest greater.1 in
-      (count-past pair rest (ap is_eq greater.0) ∙ r.0, removed-past pair rest (ap is_eq greater.0) ∙ ap (option_map (λ less. pair ∷ less)) r.1)
+      (count-past pair rest (ap is_eq greater.0) ∙ r.0, with_one_less-past pair rest (ap is_eq greater.0) ∙ ap (option_map (λ less. pair ∷ less)) r.1)
 
-  pub absent : (pairs : List (T × ℕ)) (at : ℕ) → FitsAt cmp item pairs at → (count cmp item pairs ≡ 0) × (removed cmp item pairs ≡ None)
+  pub absent : (pairs : List (T × ℕ)) (at : ℕ) → FitsAt cmp item pairs at → (count cmp item pairs ≡ 0) × (with_one_less cmp item pairs ≡ None)
   absent pairs zero fits = above pairs fits
   absent [] (suc at) fits = absurd fits
   absent (pair ∷ rest) (suc at) fits =
       let r = absent rest at fits.1 in
-      (count-past pair rest (ap is_eq fits.0) ∙ r.0, removed-past pair rest (ap is_eq fits.0) ∙ ap (option_map (λ less. pair ∷ less)) r.1)
+      (count-past pair rest (ap is_eq fits.0) ∙ r.0, with_one_less-past pair rest (ap is_eq fits.0) ∙ ap (option_map (λ less. pair ∷ less)) r.1)
 
-  pub added-fits : (pairs : List (T × ℕ)) (at : ℕ) → FitsAt cmp item pairs at → added cmp item pairs ≡ insert pairs at (item, 1)
-  added-fits [] zero fits = refl
-  added-fits (pair ∷ rest) zero fits = added-before pair rest fits.0
-  added-fits [] (suc at) fits = absurd fits
-  added-fits (pair ∷ rest) (suc at) fits = added-past pair rest fits.0 ∙ ap (λ l. pair ∷ l) (added-fits rest at fits.1)
+  pub with_one_more-fits : (pairs : List (T × ℕ)) (at : ℕ) → FitsAt cmp item pairs at → with_one_more cmp item pairs ≡ insert pairs at (item, 1)
+  with_one_more-fits [] zero fits = refl
+  with_one_more-fits (pair ∷ rest) zero fits = with_one_more-before pair rest fits.0
+  with_one_more-fits [] (suc at) fits = absurd fits
+  with_one_more-fits (pair ∷ rest) (suc at) fits = with_one_more-past pair rest fits.0 ∙ ap (λ l. pair ∷ l) (with_one_more-fits rest at fits.1)

@@ -7,21 +7,12 @@ use Rattle.std.specs.List.{AllByRecursion}
 use Rattle.std.specs.List.Sorted.{IsStrictlySortedBy}
 use Rattle.std.specs.Ordering.{is_eq, ordering_reverse}
 use Rattle.std.specs.declared.cmp.Ordering.TheVariants.{Less, Equal, Greater}
-use Rattle.rc_counter_bag.specs.Bag.{IsBag, one_more, one_less, added, removed, updated}
+use Rattle.sorted_pairs.proofs.Below.{IsBelow, all_over}
+use Rattle.sorted_pairs.proofs.Cases.{by_ordering, by_test}
+use Rattle.rc_counter_bag.specs.Bag.{IsBag, one_more, one_less, with_one_more, with_one_less, updated}
 use Rattle.rc_counter_bag.specs.declared.update.BagUpdate.{BagUpdate}
 use Rattle.rc_counter_bag.specs.declared.update.BagUpdate.TheVariants.{Add, Remove}
-use Rattle.rc_counter_bag.proofs.Edits.{added-past, added-here, added-before, removed-here, removed-past, less_here}
-
--- each answer of a comparison
-pub by_ordering : {P : Type 0} (o : Ordering) → (o ≡ Less → P) → (o ≡ Equal → P) → (o ≡ Greater → P) → P
-by_ordering Less below tied above = below refl
-by_ordering Equal below tied above = tied refl
-by_ordering Greater below tied above = above refl
-
--- each answer of a test
-pub by_test : {P : Type 0} (b : Bool) → (b ≡ true → P) → (b ≡ false → P) → P
-by_test true passed failed = passed refl
-by_test false passed failed = failed refl
+use Rattle.rc_counter_bag.proofs.Edits.{with_one_more-past, with_one_more-here, with_one_more-before, with_one_less-here, with_one_less-past, less_here}
 
 -- what an update left of the rest
 pub kept_first : {T : Type 0} (pair : T × ℕ) (rest : Option (List (T × ℕ))) (less : List (T × ℕ)) → option_map (λ l. pair ∷ l) rest ≡ Some less → (l : List (T × ℕ)) × (rest ≡ Some l) × (less ≡ pair ∷ l)
@@ -38,11 +29,7 @@ more_left n occurs more = by_test (n == 2 ^ 64 - 1)
     (λ h. subst (λ b. 0 < cond b n (n - 1)) (sym h) (less_left n occurs more))
 
 module _ {T : Type 0} (cmp : T → T → Ordering) where
-  -- the item is below each of the pairs
-  abbrev pub IsBelow : T → List (T × ℕ) → Type 0
-  IsBelow x pairs = AllByRecursion (λ y. cmp x y ≡ Less) (map (λ pair. pair.0) pairs)
-
-  pub first_below : (pair : T × ℕ) (rest : List (T × ℕ)) → IsBag cmp (pair ∷ rest) → IsBelow pair.0 rest
+  pub first_below : (pair : T × ℕ) (rest : List (T × ℕ)) → IsBag cmp (pair ∷ rest) → IsBelow cmp pair.0 rest
   unfolding IsStrictlySortedBy
   first_below pair rest bag = bag.ascends.0
 
@@ -50,7 +37,7 @@ module _ {T : Type 0} (cmp : T → T → Ordering) where
   unfolding IsStrictlySortedBy
   rest_bag pair rest bag = record { ascends = bag.ascends.1; occur = bag.occur.1 }
 
-  pub cons_bag : (pair : T × ℕ) (rest : List (T × ℕ)) → IsBelow pair.0 rest → 0 < pair.1 → IsBag cmp rest → IsBag cmp (pair ∷ rest)
+  pub cons_bag : (pair : T × ℕ) (rest : List (T × ℕ)) → IsBelow cmp pair.0 rest → 0 < pair.1 → IsBag cmp rest → IsBag cmp (pair ∷ rest)
   unfolding IsStrictlySortedBy
   cons_bag pair rest below occurs bag = record { ascends = (below, bag.ascends); occur = (occurs, bag.occur) }
 
@@ -60,50 +47,46 @@ module _ {T : Type 0} (cmp : T → T → Ordering) where
 
   module _ (total : IsTotalOrder cmp) (item : T) where
     -- below what stays, and below the item
-    below-added : (x : T) (pairs : List (T × ℕ)) → cmp x item ≡ Less → IsBelow x pairs → IsBelow x (added cmp item pairs)
-    below-added x [] h below = (h, tt)
-    below-added x (pair ∷ rest) h below = by_ordering (cmp pair.0 item)
-        (λ e. subst (IsBelow x) (sym (added-past cmp item pair rest e)) (below.0, below-added x rest h below.1))
-        (λ e. subst (IsBelow x) (sym (added-here cmp item pair rest e)) below)
-        (λ e. subst (IsBelow x) (sym (added-before cmp item pair rest e)) (h, below))
+    below-with_one_more : (x : T) (pairs : List (T × ℕ)) → cmp x item ≡ Less → IsBelow cmp x pairs → IsBelow cmp x (with_one_more cmp item pairs)
+    below-with_one_more x [] h below = (h, tt)
+    below-with_one_more x (pair ∷ rest) h below = by_ordering (cmp pair.0 item)
+        (λ e. subst (IsBelow cmp x) (sym (with_one_more-past cmp item pair rest e)) (below.0, below-with_one_more x rest h below.1))
+        (λ e. subst (IsBelow cmp x) (sym (with_one_more-here cmp item pair rest e)) below)
+        (λ e. subst (IsBelow cmp x) (sym (with_one_more-before cmp item pair rest e)) (h, below))
 
-    all_over : (x y : T) (pairs : List (T × ℕ)) → cmp x y ≡ Less → IsBelow y pairs → IsBelow x pairs
-    all_over x y [] h below = tt
-    all_over x y (pair ∷ rest) h below = (total.trans x y pair.0 h below.0, all_over x y rest h below.1)
-
-    pub IsBag-added : (pairs : List (T × ℕ)) → IsBag cmp pairs → IsBag cmp (added cmp item pairs)
-    IsBag-added [] bag = cons_bag (item, 1) [] tt (omega arith) bag
-    IsBag-added (pair ∷ rest) bag = by_ordering (cmp pair.0 item)
-        (λ e. subst (IsBag cmp) (sym (added-past cmp item pair rest e))
-        (cons_bag pair (added cmp item rest) (below-added pair.0 rest e (first_below pair rest bag)) bag.occur.0 (IsBag-added rest (rest_bag pair rest bag))))
-        (λ e. subst (IsBag cmp) (sym (added-here cmp item pair rest e))
+    pub IsBag-with_one_more : (pairs : List (T × ℕ)) → IsBag cmp pairs → IsBag cmp (with_one_more cmp item pairs)
+    IsBag-with_one_more [] bag = cons_bag (item, 1) [] tt (omega arith) bag
+    IsBag-with_one_more (pair ∷ rest) bag = by_ordering (cmp pair.0 item)
+        (λ e. subst (IsBag cmp) (sym (with_one_more-past cmp item pair rest e))
+        (cons_bag pair (with_one_more cmp item rest) (below-with_one_more pair.0 rest e (first_below pair rest bag)) bag.occur.0 (IsBag-with_one_more rest (rest_bag pair rest bag))))
+        (λ e. subst (IsBag cmp) (sym (with_one_more-here cmp item pair rest e))
         (cons_bag (pair.0, one_more pair.1) rest (first_below pair rest bag) (let occurs = bag.occur.0 in omega arith) (rest_bag pair rest bag)))
         (λ e. let below : cmp item pair.0 ≡ Less = total.antisymm item pair.0 ∙ ap ordering_reverse e in
-        subst (IsBag cmp) (sym (added-before cmp item pair rest e))
-        (cons_bag (item, 1) (pair ∷ rest) (below, all_over item pair.0 rest below (first_below pair rest bag)) (omega arith) bag))
+        subst (IsBag cmp) (sym (with_one_more-before cmp item pair rest e))
+        (cons_bag (item, 1) (pair ∷ rest) (below, all_over cmp total item pair.0 rest below (first_below pair rest bag)) (omega arith) bag))
 
   module _ (item : T) where
-    below-removed : (x : T) (pairs less : List (T × ℕ)) → IsBelow x pairs → removed cmp item pairs ≡ Some less → IsBelow x less
-    below-removed x [] less below e = absurd (cc)
-    below-removed x (pair ∷ rest) less below e = by_test (is_eq (cmp pair.0 item))
-        (λ h. let same : less_here cmp item pair rest ≡ less = same_Some _ _ (sym (removed-here cmp item pair rest ((Equal-is (cmp pair.0 item)).0 h)) ∙ e) in
+    below-with_one_less : (x : T) (pairs less : List (T × ℕ)) → IsBelow cmp x pairs → with_one_less cmp item pairs ≡ Some less → IsBelow cmp x less
+    below-with_one_less x [] less below e = absurd (cc)
+    below-with_one_less x (pair ∷ rest) less below e = by_test (is_eq (cmp pair.0 item))
+        (λ h. let same : less_here cmp item pair rest ≡ less = same_Some _ _ (sym (with_one_less-here cmp item pair rest ((Equal-is (cmp pair.0 item)).0 h)) ∙ e) in
         by_test (pair.1 == 1)
-        (λ one. subst (IsBelow x) (sym (ap (λ b. cond b rest ((pair.0, one_less pair.1) ∷ rest)) one) ∙ same) below.1)
-        (λ more. subst (IsBelow x) (sym (ap (λ b. cond b rest ((pair.0, one_less pair.1) ∷ rest)) more) ∙ same) below))
-        (λ h. let k = kept_first pair (removed cmp item rest) less (sym (removed-past cmp item pair rest h) ∙ e) in
-        subst (IsBelow x) (sym k.2) (below.0, below-removed x rest k.0 below.1 k.1))
+        (λ one. subst (IsBelow cmp x) (sym (ap (λ b. cond b rest ((pair.0, one_less pair.1) ∷ rest)) one) ∙ same) below.1)
+        (λ more. subst (IsBelow cmp x) (sym (ap (λ b. cond b rest ((pair.0, one_less pair.1) ∷ rest)) more) ∙ same) below))
+        (λ h. let k = kept_first pair (with_one_less cmp item rest) less (sym (with_one_less-past cmp item pair rest h) ∙ e) in
+        subst (IsBelow cmp x) (sym k.2) (below.0, below-with_one_less x rest k.0 below.1 k.1))
 
-    pub IsBag-removed : (pairs less : List (T × ℕ)) → IsBag cmp pairs → removed cmp item pairs ≡ Some less → IsBag cmp less
-    IsBag-removed [] less bag e = absurd (cc)
-    IsBag-removed (pair ∷ rest) less bag e = by_test (is_eq (cmp pair.0 item))
-        (λ h. let same : less_here cmp item pair rest ≡ less = same_Some _ _ (sym (removed-here cmp item pair rest ((Equal-is (cmp pair.0 item)).0 h)) ∙ e) in
+    pub IsBag-with_one_less : (pairs less : List (T × ℕ)) → IsBag cmp pairs → with_one_less cmp item pairs ≡ Some less → IsBag cmp less
+    IsBag-with_one_less [] less bag e = absurd (cc)
+    IsBag-with_one_less (pair ∷ rest) less bag e = by_test (is_eq (cmp pair.0 item))
+        (λ h. let same : less_here cmp item pair rest ≡ less = same_Some _ _ (sym (with_one_less-here cmp item pair rest ((Equal-is (cmp pair.0 item)).0 h)) ∙ e) in
         by_test (pair.1 == 1)
         (λ one. subst (IsBag cmp) (sym (ap (λ b. cond b rest ((pair.0, one_less pair.1) ∷ rest)) one) ∙ same) (rest_bag pair rest bag))
         (λ more. subst (IsBag cmp) (sym (ap (λ b. cond b rest ((pair.0, one_less pair.1) ∷ rest)) more) ∙ same)
         (cons_bag (pair.0, one_less pair.1) rest (first_below pair rest bag) (more_left pair.1 bag.occur.0 more) (rest_bag pair rest bag))))
-        (λ h. let k = kept_first pair (removed cmp item rest) less (sym (removed-past cmp item pair rest h) ∙ e) in
-        subst (IsBag cmp) (sym k.2) (cons_bag pair k.0 (below-removed pair.0 rest k.0 (first_below pair rest bag) k.1) bag.occur.0 (IsBag-removed rest k.0 (rest_bag pair rest bag) k.1)))
+        (λ h. let k = kept_first pair (with_one_less cmp item rest) less (sym (with_one_less-past cmp item pair rest h) ∙ e) in
+        subst (IsBag cmp) (sym k.2) (cons_bag pair k.0 (below-with_one_less pair.0 rest k.0 (first_below pair rest bag) k.1) bag.occur.0 (IsBag-with_one_less rest k.0 (rest_bag pair rest bag) k.1)))
 
 pub IsBag-updated : {T : Type 0} (cmp : T → T → Ordering) (total : IsTotalOrder cmp) (update : BagUpdate T) (pairs after : List (T × ℕ)) → IsBag cmp pairs → updated cmp update pairs ≡ Some after → IsBag cmp after
-IsBag-updated cmp total (Add item) pairs after bag e = subst (IsBag cmp) (same_Some _ after e) (IsBag-added cmp total item pairs bag)
-IsBag-updated cmp total (Remove item) pairs after bag e = IsBag-removed cmp item pairs after bag e
+IsBag-updated cmp total (Add item) pairs after bag e = subst (IsBag cmp) (same_Some _ after e) (IsBag-with_one_more cmp total item pairs bag)
+IsBag-updated cmp total (Remove item) pairs after bag e = IsBag-with_one_less cmp item pairs after bag e

@@ -1,6 +1,6 @@
 -- Where a replay of updates is first refused.
 use Rattle.std.proofs.Common.{◌≡◌, ℕ, suc, ◌+◌, List, [], ◌∷◌, take, slice_get, Option, Some, None, Ok, Err, Ordering, refl, ap, ◌∙◌, arith}
-use Rattle.rc_counter_bag.specs.Bag.{and_then, count, added, removed, updated, replayed}
+use Rattle.rc_counter_bag.specs.Bag.{and_then, count, with_one_more, with_one_less, updated, replayed}
 use Rattle.rc_counter_bag.specs.declared.update.BagUpdate.{BagUpdate}
 use Rattle.rc_counter_bag.specs.declared.update.BagUpdate.TheVariants.{Add, Remove}
 use Rattle.rc_counter_bag.proofs.Counts.{count-refused}
@@ -27,7 +27,7 @@ module _ {T : Type 0} (cmp : T → T → Ordering) where
     missing = r.missing;
   }
 
-  by_removal : (start i : ℕ) (x : T) (rest : List (BagUpdate T)) (pairs : List (T × ℕ)) (left : Option (List (T × ℕ))) → removed cmp x pairs ≡ left
+  by_removal : (start i : ℕ) (x : T) (rest : List (BagUpdate T)) (pairs : List (T × ℕ)) (left : Option (List (T × ℕ))) → with_one_less cmp x pairs ≡ left
       → ((after : List (T × ℕ)) → replayed cmp (start + 1) rest after ≡ Err i → IsRefusedAt (start + 1) i rest after)
       → and_then start left (replayed cmp (start + 1) rest) ≡ Err i → IsRefusedAt start i (Remove x ∷ rest) pairs
   by_removal start i x rest pairs None gone more e =
@@ -37,5 +37,5 @@ module _ {T : Type 0} (cmp : T → T → Ordering) where
 
   pub refused_at : (start : ℕ) (updates : List (BagUpdate T)) (pairs : List (T × ℕ)) (i : ℕ) → replayed cmp start updates pairs ≡ Err i → IsRefusedAt start i updates pairs
   refused_at start [] pairs i e = absurd (cc)
-  refused_at start (Add x ∷ rest) pairs i e = step start i (Add x) rest pairs (added cmp x pairs) refl (refused_at (start + 1) rest (added cmp x pairs) i e)
-  refused_at start (Remove x ∷ rest) pairs i e = by_removal start i x rest pairs (removed cmp x pairs) refl (λ after. refused_at (start + 1) rest after i) e
+  refused_at start (Add x ∷ rest) pairs i e = step start i (Add x) rest pairs (with_one_more cmp x pairs) refl (refused_at (start + 1) rest (with_one_more cmp x pairs) i e)
+  refused_at start (Remove x ∷ rest) pairs i e = by_removal start i x rest pairs (with_one_less cmp x pairs) refl (λ after. refused_at (start + 1) rest after i) e

@@ -1,9 +1,6 @@
 -- What an update leaves of a counter, and what a merge of updates does.
-use Rattle.std.specs.Prelude.{◌^◌, Bool, ◌&&◌, if◌then◌else◌, ℤ, pos, ◌+ℤ◌, neg_ℤ, int_le, int_lt, List, fold, Option, Some, None}
-
--- from -2^60 to 2^60 - 1
-abbrev pub is_small_integer : ℤ → Bool
-is_small_integer n = int_le (neg_ℤ (pos (2 ^ 60))) n && int_lt n (pos (2 ^ 60))
+use Rattle.std.specs.Prelude.{if◌then◌else◌, ℤ, pos, ◌+ℤ◌, List, fold, Option, Some, None}
+use Rattle.profile.specs.SmallInteger.{is_small_integer}
 
 -- the number, where it is a SmallInteger
 abbrev pub small_integer : ℤ → Option ℤ
@@ -17,6 +14,7 @@ total updates = fold ◌+ℤ◌ (pos 0) updates
 abbrev pub updated : ℤ → ℤ → Option ℤ
 updated by value = small_integer (value +ℤ by)
 
--- What a commit makes of updates that were made at the view: the place's value plus their sum, or None where the merge is refused.
+-- What a commit makes of updates that were made at the view: the place's value plus their sum, or
+-- None where the merge is refused.
 abbrev pub merged : ℤ → ℤ → List ℤ → Option ℤ
 merged view place updates = small_integer (place +ℤ total updates)

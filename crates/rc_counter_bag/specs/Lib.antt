@@ -1,3 +1,4 @@
 pub mod Bag
 pub mod Counter
+pub mod Fault
 pub mod Turns

@@ -1,3 +1,4 @@
+//! The bag.
 ghost use Rattle.std.specs.Prelude.{◌≡◌, ◌↔◌, ◌⊎◌, ℕ, List, true, Some, None, Ok, Err, IsSome, IfOk, IfSome, OnOk, OnErr, IsErrOf};
 ghost use Rattle.rc_counter_bag.specs.Bag.{IsBag, size, count, updated, adds_new, merged};
 
@@ -45,14 +46,14 @@ impl<T: Ord + Clone + Drop> Bag<T> {
         &self.pairs
     }
 
-    /// How often the item occurs. A count stands still at 2^64 - 1.
+    /// How often the item occurs. A count stays at 2^64 - 1 once it is there.
     pub fn count(&self, item: &T) -> u64
         ensures { result ≡ count T.cmp item.now self.now }
     {
         pairs::count(&self.pairs, item)
     }
 
-    /// All occurrences of all items. The sum stands still at 2^64 - 1.
+    /// All occurrences of all items. It is 2^64 - 1 at most.
     pub fn size(&self) -> u64
         ensures { result ≡ size self.now }
     {
@@ -75,7 +76,8 @@ impl<T: Ord + Clone + Drop> Bag<T> {
     /// doesn't occur yet found no memory. After either the bag is as before.
     pub fn apply(&mut self, update: BagUpdate<T>) -> Result<(), BagFault>
         ensures applied { OnOk result (updated T.cmp update self.old ≡ Some self.new) }
-        ensures missing { IsErrOf result (BagFault.Missing 0) ↔ (updated T.cmp update self.old ≡ None) }
+        ensures missing { IsErrOf result (BagFault.Missing 0)
+            ↔ (updated T.cmp update self.old ≡ None) }
         ensures index { (at : ℕ) → IsErrOf result (BagFault.Missing at) → at ≡ 0 }
         ensures memory { IsErrOf result BagFault.NoMemory → adds_new T.cmp update self.old ≡ true }
         ensures unchanged { OnErr result (self.new ≡ self.old) }
@@ -96,14 +98,15 @@ impl<T: Ord + Clone + Drop> Bag<T> {
     /// are applied in order.
     ///
     /// `Missing`: the index of the first removal that finds no occurrence. `NoMemory` may come in
-    /// place of any answer.
+    /// place of any answer, since the place's pairs are copied first.
     pub fn merge(
         at_view: &Bag<T>,
         at_place: &Bag<T>,
         updates: &[BagUpdate<T>],
     ) -> Result<Bag<T>, BagFault>
         requires { (x y : T) → T.is_clone x y → y ≡ x }
-        ensures ok { IfOk result (λ bag. merged T.cmp at_view.now at_place.now updates.now ≡ Ok bag) }
+        ensures ok { IfOk result (λ bag.
+            merged T.cmp at_view.now at_place.now updates.now ≡ Ok bag) }
         ensures missing { (at : ℕ) → IsErrOf result (BagFault.Missing at)
             → merged T.cmp at_view.now at_place.now updates.now ≡ Err at }
         ensures refuses { (at : ℕ) → merged T.cmp at_view.now at_place.now updates.now ≡ Err at

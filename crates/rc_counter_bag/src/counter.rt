@@ -1,19 +1,33 @@
+//! The counter.
 ghost use Rattle.std.specs.Prelude.{◌≡◌, ◌*◌, ◌^◌, length, pos, neg_ℤ, ◌≤ℤ◌, Some, None, MatchResult};
 ghost use Rattle.rc_counter_bag.specs.Counter.{small_integer, updated, merged, total};
 
-use thiserror::Error;
+use profile::{LARGEST_INTEGER, SMALLEST_INTEGER};
+use std::error::Error;
+use std::fmt;
 
 /// A number that sessions raise and lower side by side.
 #[derive(Clone, Copy, Debug, PartialEq, Eq)]
 pub struct Counter {
-    /// A SmallInteger, from -2^60 to 2^60 - 1, after each update and merge.
+    /// An integer of the language after each update and merge.
     pub value: i64,
 }
 
-/// The sum isn't a SmallInteger, from -2^60 to 2^60 - 1.
-#[derive(Clone, Copy, Debug, PartialEq, Eq, Error)]
-#[error("the counter leaves the range of SmallInteger")]
+/// The sum isn't a SmallInteger, an integer of the language.
+#[derive(Clone, Copy, Debug, PartialEq, Eq)]
 pub struct CounterRange;
+
+impl fmt::Display for CounterRange {
+    ghost use Rattle.std.specs.Prelude.{codes};
+
+    ghost output = { λ _. Some (codes "the counter leaves the range of SmallInteger") };
+
+    fn fmt<W: fmt::Write>(&self, f: &mut fmt::Formatter<W>) -> fmt::Result {
+        f.write_str("the counter leaves the range of SmallInteger")
+    }
+}
+
+impl Error for CounterRange {}
 
 impl Counter {
     /// The counter raised by this number.
@@ -50,7 +64,7 @@ fn small(value: i128) -> Result<Counter, CounterRange>
         (λ counter. small_integer value ≡ Some counter.value)
         (λ _. small_integer value ≡ None) }
 {
-    if (-(1 << 60)..1 << 60).contains(&value) {
+    if i128::from(SMALLEST_INTEGER) <= value && value <= i128::from(LARGEST_INTEGER) {
         Ok(Counter {
             value: value as i64,
         })

@@ -1,5 +1,6 @@
+//! What a bag does to its list of pairs.
 ghost use Rattle.std.specs.Prelude.{◌≡◌, ◌↔◌, ◌<◌, ℕ, false, Some, None, Ok, Err, IsTrue, OnOk, OnErr, IsErrOf};
-ghost use Rattle.rc_counter_bag.specs.Bag.{IsBag, one_less, size, count, added, removed, replayed};
+ghost use Rattle.rc_counter_bag.specs.Bag.{IsBag, one_less, size, count, with_one_more, with_one_less, replayed};
 
 use crate::update::{BagFault, BagUpdate};
 use sorted_pairs::{ascend, place};
@@ -16,10 +17,11 @@ pub(crate) fn count<T: Ord>(pairs: &[(T, u64)], item: &T) -> u64
     }
 }
 
-// Adds one occurrence. Memory is needed, and may be missing, only for an item that doesn't occur yet.
+// Adds one occurrence. Memory is needed, and may be missing, only for an item that doesn't occur
+// yet.
 pub(crate) fn add<T: Ord + Drop>(pairs: &mut Vec<(T, u64)>, item: T) -> Result<(), AllocError>
     requires { IsBag T.cmp pairs.old.items }
-    ensures added { OnOk result (pairs.new.items ≡ added T.cmp item pairs.old.items) }
+    ensures added { OnOk result (pairs.new.items ≡ with_one_more T.cmp item pairs.old.items) }
     ensures bag { IsBag T.cmp pairs.new.items }
     ensures memory { OnErr result (count T.cmp item pairs.old.items ≡ 0) }
     ensures unchanged { OnErr result (pairs.new.items ≡ pairs.old.items) }
@@ -37,9 +39,10 @@ pub(crate) fn add<T: Ord + Drop>(pairs: &mut Vec<(T, u64)>, item: T) -> Result<(
 // Takes one occurrence away. False, and nothing changes, where there is none.
 pub(crate) fn remove<T: Ord + Drop>(pairs: &mut Vec<(T, u64)>, item: &T) -> bool
     requires { IsBag T.cmp pairs.old.items }
-    ensures removed { IsTrue result → removed T.cmp item.now pairs.old.items ≡ Some pairs.new.items }
+    ensures removed { IsTrue result
+        → with_one_less T.cmp item.now pairs.old.items ≡ Some pairs.new.items }
     ensures bag { IsBag T.cmp pairs.new.items }
-    ensures missing { result ≡ false → removed T.cmp item.now pairs.old.items ≡ None }
+    ensures missing { result ≡ false → with_one_less T.cmp item.now pairs.old.items ≡ None }
     ensures unchanged { result ≡ false → pairs.new.items ≡ pairs.old.items }
 {
     let Ok(at) = place(pairs, item) else {
@@ -67,16 +70,18 @@ fn one_less(occurrences: u64) -> u64
     }
 }
 
-// Applies the updates in order, up to the first that is refused.
+// Applies the updates in order, until one is refused.
 pub(crate) fn replay<T: Ord + Clone + Drop>(
     pairs: &mut Vec<(T, u64)>,
     updates: &[BagUpdate<T>],
 ) -> Result<(), BagFault>
     requires bag { IsBag T.cmp pairs.old.items }
     requires clones { (x y : T) → T.is_clone x y → y ≡ x }
-    ensures replayed { OnOk result (replayed T.cmp 0 updates.now pairs.old.items ≡ Ok pairs.new.items) }
+    ensures replayed { OnOk result
+        (replayed T.cmp 0 updates.now pairs.old.items ≡ Ok pairs.new.items) }
     ensures bag { IsBag T.cmp pairs.new.items }
-    ensures missing { (at : ℕ) → IsErrOf result (BagFault.Missing at) → replayed T.cmp 0 updates.now pairs.old.items ≡ Err at }
+    ensures missing { (at : ℕ) → IsErrOf result (BagFault.Missing at)
+        → replayed T.cmp 0 updates.now pairs.old.items ≡ Err at }
 {
     for (at, update) in updates.iter().enumerate() {
         match update {
@@ -98,7 +103,7 @@ pub(crate) fn is_bag<T: Ord>(pairs: &[(T, u64)]) -> bool
     ascend(pairs) && pairs.iter().all(|pair| pair.1 > 0)
 }
 
-// The sum of the occurrences, which stands still at its end.
+// The sum of the occurrences, 2^64 - 1 at most.
 pub(crate) fn size<T>(pairs: &[(T, u64)]) -> u64
     ensures { result ≡ size pairs.now }
 {

@@ -1,8 +1,11 @@
-ghost use Rattle.std.specs.Prelude.{◌≡◌};
+//! The updates of a bag, and why one is refused.
+ghost use Rattle.std.specs.Prelude.{◌≡◌, Some};
+ghost use Rattle.rc_counter_bag.specs.Fault.{fault_text};
 ghost use Rattle.rc_counter_bag.specs.declared.update.BagFault.TheVariants.{NoMemory};
 
 use std::alloc::{AllocError, AllocFailed};
-use thiserror::Error;
+use std::error::Error;
+use std::fmt;
 
 /// One change of a bag.
 #[derive(Debug, Drop)]
@@ -14,15 +17,26 @@ pub enum BagUpdate<T> {
 }
 
 /// Why a bag refused an update or a merge.
-#[derive(Clone, Copy, Debug, PartialEq, Eq, Error)]
+#[derive(Clone, Copy, Debug, PartialEq, Eq)]
 pub enum BagFault {
     /// The removal at this index of the updates finds no occurrence.
-    #[error("the removal at index {0} finds no occurrence")]
     Missing(u64),
     /// Memory ran out.
-    #[error("out of memory")]
     NoMemory,
 }
+
+impl fmt::Display for BagFault {
+    ghost output = { λ fault. Some (fault_text fault) };
+
+    fn fmt<W: fmt::Write>(&self, f: &mut fmt::Formatter<W>) -> fmt::Result {
+        match *self {
+            BagFault::Missing(at) => write!(f, "the removal at index {at} finds no occurrence"),
+            BagFault::NoMemory => f.write_str("out of memory"),
+        }
+    }
+}
+
+impl Error for BagFault {}
 
 impl From<AllocError> for BagFault {
     ghost from_gives = { λ _ fault. fault ≡ NoMemory };

@@ -1,15 +1,10 @@
 -- What an edit at the place that a search found does to a dictionary.
-use Rattle.std.proofs.Common.{◌≡◌, ℕ, zero, suc, true, false, cond, List, [], ◌∷◌, get_or, set, Some, None, Result, Ok, Err, OnErr, Ordering, refl, ap, ◌∙◌}
+use Rattle.std.proofs.Common.{◌≡◌, ℕ, zero, suc, true, false, cond, List, [], ◌∷◌, get_or, set, Some, None, Ordering, refl, ap, ◌∙◌}
 use Rattle.std.specs.List.{AllByRecursion, insert, remove}
 use Rattle.std.specs.Ordering.{is_eq, match_ordering}
 use Rattle.std.specs.declared.cmp.Ordering.TheVariants.{Less, Equal, Greater}
 use Rattle.rc_dict.specs.Dict.{entry, put, without}
 use Rattle.sorted_pairs.specs.Place.{StandsAt, FitsAt}
-
--- what holds holds on an error too
-pub on_error : {X E : Type 0} (r : Result X E) (P : Type 0) → P → OnErr r P
-on_error (Ok x) P h = tt
-on_error (Err e) P h = h
 
 module _ {K T : Type 0} (cmp : K → K → Ordering) (key : K) where
   -- ---- what a definition says of the first pair

@@ -1,21 +1,17 @@
 -- What an update leaves at each key.
 use Rattle.std.proofs.Common.{◌≡◌, true, false, cond, List, [], ◌∷◌, Option, Some, None, Ordering, refl, sym, ap, ◌∙◌}
 use Rattle.std.specs.Cmp.{IsTotalOrder, Equal-is}
-use Rattle.std.specs.Ordering.{is_eq, ordering_reverse}
+use Rattle.std.specs.Ordering.{is_eq}
 use Rattle.std.specs.declared.cmp.Ordering.TheVariants.{Equal}
 use Rattle.rc_dict.specs.Dict.{IsDict, key_of, value_of, entry, put, without, settled, all_settled, last_entry}
 use Rattle.rc_dict.specs.declared.update.DictUpdate.{DictUpdate}
 use Rattle.rc_dict.specs.declared.update.DictUpdate.TheVariants.{Put, Remove}
 use Rattle.rc_dict.proofs.Edits.{entry-here, entry-past, put-past, put-here, put-before, without-here, without-past}
-use Rattle.rc_dict.proofs.Kept.{by_ordering, by_test, IsBelow, first_below, rest_dict, IsDict-settled}
+use Rattle.rc_dict.proofs.Kept.{first_below, rest_dict, IsDict-settled}
+use Rattle.sorted_pairs.proofs.Below.{IsBelow}
+use Rattle.sorted_pairs.proofs.Cases.{by_ordering, by_test, tie_flip}
 
--- ties go both ways
-pub flip_eq : {K : Type 0} {cmp : K → K → Ordering} → IsTotalOrder cmp → (x y : K) → is_eq (cmp x y) ≡ is_eq (cmp y x)
-flip_eq {cmp = cmp} total x y = by_ordering (cmp y x)
-    (λ e. ap is_eq (total.antisymm x y ∙ ap ordering_reverse e) ∙ sym (ap is_eq e))
-    (λ e. ap is_eq (total.antisymm x y ∙ ap ordering_reverse e) ∙ sym (ap is_eq e))
-    (λ e. ap is_eq (total.antisymm x y ∙ ap ordering_reverse e) ∙ sym (ap is_eq e))
-
+-- a test that passes for equal
 pub tie : (o : Ordering) → is_eq o ≡ true → o ≡ Equal
 tie o h = (Equal-is o).0 h
 
@@ -35,14 +31,14 @@ module _ {K T : Type 0} (cmp : K → K → Ordering) (total : IsTotalOrder cmp) 
     pub entry-below : (x : K) (pairs : List (K × T)) → IsBelow cmp x pairs → cmp x z ≡ Equal → entry cmp z pairs ≡ None
     entry-below x [] below e = refl
     entry-below x (pair ∷ rest) below e =
-        let differ : is_eq (cmp pair.0 z) ≡ false = flip_eq total pair.0 z ∙ ap is_eq (sym (total.congr x z pair.0 e) ∙ below.0) in
+        let differ : is_eq (cmp pair.0 z) ≡ false = tie_flip total pair.0 z ∙ ap is_eq (sym (total.congr x z pair.0 e) ∙ below.0) in
         entry-past cmp z pair rest differ ∙ entry-below x rest below.1 e
 
     pub entry-put : (x : K) (value : T) (pairs : List (K × T)) → entry cmp z (put cmp x value pairs) ≡ cond (is_eq (cmp x z)) (Some value) (entry cmp z pairs)
     entry-put x value [] = refl
     entry-put x value (pair ∷ rest) = by_ordering (cmp pair.0 x)
         (λ e. ap (entry cmp z) (put-past cmp x value pair rest e) ∙ by_test (is_eq (cmp pair.0 z))
-        (λ h. let apart : is_eq (cmp x z) ≡ false = flip_eq total x z ∙ ap is_eq (sym (total.congr pair.0 z x (tie (cmp pair.0 z) h)) ∙ e) in
+        (λ h. let apart : is_eq (cmp x z) ≡ false = tie_flip total x z ∙ ap is_eq (sym (total.congr pair.0 z x (tie (cmp pair.0 z) h)) ∙ e) in
         entry-here cmp z pair (put cmp x value rest) h ∙ sym (at_z-apart x (Some value) (entry cmp z (pair ∷ rest)) apart ∙ entry-here cmp z pair rest h))
         (λ h. entry-past cmp z pair (put cmp x value rest) h ∙ entry-put x value rest ∙ ap (at_z x (Some value)) (sym (entry-past cmp z pair rest h))))
         (λ e. ap (entry cmp z) (put-here cmp x value pair rest e) ∙ by_test (is_eq (cmp x z))
@@ -62,7 +58,7 @@ module _ {K T : Type 0} (cmp : K → K → Ordering) (total : IsTotalOrder cmp) 
         (λ h. let past : is_eq (cmp pair.0 z) ≡ false = ap is_eq (total.congr pair.0 x z (tie (cmp pair.0 x) here)) ∙ h in
         sym (at_z-apart x None (entry cmp z (pair ∷ rest)) h ∙ entry-past cmp z pair rest past)))
         (λ past. ap (entry cmp z) (without-past cmp x pair rest past) ∙ by_test (is_eq (cmp pair.0 z))
-        (λ h. let apart : is_eq (cmp x z) ≡ false = flip_eq total x z ∙ ap is_eq (sym (total.congr pair.0 z x (tie (cmp pair.0 z) h))) ∙ past in
+        (λ h. let apart : is_eq (cmp x z) ≡ false = tie_flip total x z ∙ ap is_eq (sym (total.congr pair.0 z x (tie (cmp pair.0 z) h))) ∙ past in
         entry-here cmp z pair (without cmp x rest) h ∙ sym (at_z-apart x None (entry cmp z (pair ∷ rest)) apart ∙ entry-here cmp z pair rest h))
         (λ h. entry-past cmp z pair (without cmp x rest) h ∙ entry-without x rest (rest_dict cmp pair rest dict) ∙ ap (at_z x None) (sym (entry-past cmp z pair rest h))))
 

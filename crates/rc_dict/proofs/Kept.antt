@@ -1,32 +1,18 @@
 -- A dictionary stays one.
-use Rattle.std.proofs.Common.{◌≡◌, Bool, true, false, List, [], ◌∷◌, map, Ordering, refl, sym, ap, ◌∙◌, subst}
+use Rattle.std.proofs.Common.{◌≡◌, List, [], ◌∷◌, Ordering, sym, ap, ◌∙◌, subst}
 use Rattle.std.specs.Cmp.{IsTotalOrder}
-use Rattle.std.specs.List.{AllByRecursion}
 use Rattle.std.specs.List.Sorted.{IsStrictlySortedBy}
 use Rattle.std.specs.Ordering.{is_eq, ordering_reverse}
-use Rattle.std.specs.declared.cmp.Ordering.TheVariants.{Less, Equal, Greater}
+use Rattle.std.specs.declared.cmp.Ordering.TheVariants.{Less}
+use Rattle.sorted_pairs.proofs.Below.{IsBelow, all_over, all_tied}
+use Rattle.sorted_pairs.proofs.Cases.{by_ordering, by_test}
 use Rattle.rc_dict.specs.Dict.{IsDict, put, without, settled, all_settled}
 use Rattle.rc_dict.specs.declared.update.DictUpdate.{DictUpdate}
 use Rattle.rc_dict.specs.declared.update.DictUpdate.TheVariants.{Put, Remove}
 use Rattle.rc_dict.proofs.Edits.{put-past, put-here, put-before, without-here, without-past}
 
--- each answer of a comparison
-pub by_ordering : {P : Type 0} (o : Ordering) → (o ≡ Less → P) → (o ≡ Equal → P) → (o ≡ Greater → P) → P
-by_ordering Less below tied above = below refl
-by_ordering Equal below tied above = tied refl
-by_ordering Greater below tied above = above refl
-
--- each answer of a test
-pub by_test : {P : Type 0} (b : Bool) → (b ≡ true → P) → (b ≡ false → P) → P
-by_test true passed failed = passed refl
-by_test false passed failed = failed refl
-
 module _ {K T : Type 0} (cmp : K → K → Ordering) where
-  -- the key is below each of the pairs
-  abbrev pub IsBelow : K → List (K × T) → Type 0
-  IsBelow x pairs = AllByRecursion (λ y. cmp x y ≡ Less) (map (λ pair. pair.0) pairs)
-
-  pub first_below : (pair : K × T) (rest : List (K × T)) → IsDict cmp (pair ∷ rest) → IsBelow pair.0 rest
+  pub first_below : (pair : K × T) (rest : List (K × T)) → IsDict cmp (pair ∷ rest) → IsBelow cmp pair.0 rest
   unfolding IsStrictlySortedBy
   first_below pair rest dict = dict.0
 
@@ -34,26 +20,18 @@ module _ {K T : Type 0} (cmp : K → K → Ordering) where
   unfolding IsStrictlySortedBy
   rest_dict pair rest dict = dict.1
 
-  pub cons_dict : (pair : K × T) (rest : List (K × T)) → IsBelow pair.0 rest → IsDict cmp rest → IsDict cmp (pair ∷ rest)
+  pub cons_dict : (pair : K × T) (rest : List (K × T)) → IsBelow cmp pair.0 rest → IsDict cmp rest → IsDict cmp (pair ∷ rest)
   unfolding IsStrictlySortedBy
   cons_dict pair rest below dict = (below, dict)
 
   module _ (total : IsTotalOrder cmp) where
-    pub all_over : (x y : K) (pairs : List (K × T)) → cmp x y ≡ Less → IsBelow y pairs → IsBelow x pairs
-    all_over x y [] h below = tt
-    all_over x y (pair ∷ rest) h below = (total.trans x y pair.0 h below.0, all_over x y rest h below.1)
-
-    all_tied : (x y : K) (pairs : List (K × T)) → cmp x y ≡ Equal → IsBelow x pairs → IsBelow y pairs
-    all_tied x y [] e below = tt
-    all_tied x y (pair ∷ rest) e below = (sym (total.congr x y pair.0 e) ∙ below.0, all_tied x y rest e below.1)
-
     module _ (key : K) (value : T) where
-      below-put : (x : K) (pairs : List (K × T)) → cmp x key ≡ Less → IsBelow x pairs → IsBelow x (put cmp key value pairs)
+      below-put : (x : K) (pairs : List (K × T)) → cmp x key ≡ Less → IsBelow cmp x pairs → IsBelow cmp x (put cmp key value pairs)
       below-put x [] h below = (h, tt)
       below-put x (pair ∷ rest) h below = by_ordering (cmp pair.0 key)
-          (λ e. subst (IsBelow x) (sym (put-past cmp key value pair rest e)) (below.0, below-put x rest h below.1))
-          (λ e. subst (IsBelow x) (sym (put-here cmp key value pair rest e)) (h, below.1))
-          (λ e. subst (IsBelow x) (sym (put-before cmp key value pair rest e)) (h, below))
+          (λ e. subst (IsBelow cmp x) (sym (put-past cmp key value pair rest e)) (below.0, below-put x rest h below.1))
+          (λ e. subst (IsBelow cmp x) (sym (put-here cmp key value pair rest e)) (h, below.1))
+          (λ e. subst (IsBelow cmp x) (sym (put-before cmp key value pair rest e)) (h, below))
 
       pub IsDict-put : (pairs : List (K × T)) → IsDict cmp pairs → IsDict cmp (put cmp key value pairs)
       IsDict-put [] dict = cons_dict (key, value) [] tt dict
@@ -61,17 +39,17 @@ module _ {K T : Type 0} (cmp : K → K → Ordering) where
           (λ e. subst (IsDict cmp) (sym (put-past cmp key value pair rest e))
           (cons_dict pair (put cmp key value rest) (below-put pair.0 rest e (first_below pair rest dict)) (IsDict-put rest (rest_dict pair rest dict))))
           (λ e. subst (IsDict cmp) (sym (put-here cmp key value pair rest e))
-          (cons_dict (key, value) rest (all_tied pair.0 key rest e (first_below pair rest dict)) (rest_dict pair rest dict)))
+          (cons_dict (key, value) rest (all_tied cmp total pair.0 key rest e (first_below pair rest dict)) (rest_dict pair rest dict)))
           (λ e. let below : cmp key pair.0 ≡ Less = total.antisymm key pair.0 ∙ ap ordering_reverse e in
           subst (IsDict cmp) (sym (put-before cmp key value pair rest e))
-          (cons_dict (key, value) (pair ∷ rest) (below, all_over key pair.0 rest below (first_below pair rest dict)) dict))
+          (cons_dict (key, value) (pair ∷ rest) (below, all_over cmp total key pair.0 rest below (first_below pair rest dict)) dict))
 
   module _ (key : K) where
-    below-without : (x : K) (pairs : List (K × T)) → IsBelow x pairs → IsBelow x (without cmp key pairs)
+    below-without : (x : K) (pairs : List (K × T)) → IsBelow cmp x pairs → IsBelow cmp x (without cmp key pairs)
     below-without x [] below = tt
     below-without x (pair ∷ rest) below = by_test (is_eq (cmp pair.0 key))
-        (λ h. subst (IsBelow x) (sym (without-here cmp key pair rest h)) below.1)
-        (λ h. subst (IsBelow x) (sym (without-past cmp key pair rest h)) (below.0, below-without x rest below.1))
+        (λ h. subst (IsBelow cmp x) (sym (without-here cmp key pair rest h)) below.1)
+        (λ h. subst (IsBelow cmp x) (sym (without-past cmp key pair rest h)) (below.0, below-without x rest below.1))
 
     pub IsDict-without : (pairs : List (K × T)) → IsDict cmp pairs → IsDict cmp (without cmp key pairs)
     IsDict-without [] dict = dict

@@ -9,8 +9,9 @@ use Rattle.rc_dict.specs.Dict.{IsDict, key_of, value_of, entry, without, settled
 use Rattle.rc_dict.specs.Turns.{AreApart, merged_after, merged_twice}
 use Rattle.rc_dict.specs.declared.update.DictUpdate.{DictUpdate}
 use Rattle.rc_dict.specs.declared.update.DictUpdate.TheVariants.{Put, Remove}
-use Rattle.rc_dict.proofs.Entries.{flip_eq, tie, entry-all_settled}
-use Rattle.rc_dict.proofs.Kept.{by_test, IsDict-all_settled}
+use Rattle.rc_dict.proofs.Entries.{tie, entry-all_settled}
+use Rattle.rc_dict.proofs.Kept.{IsDict-all_settled}
+use Rattle.sorted_pairs.proofs.Cases.{by_test, tie_flip}
 use Rattle.rc_dict.proofs.Told.{told}
 
 -- what an update that isn't refused leaves
@@ -49,7 +50,7 @@ module _ {K T : Type 0} (cmp : K → K → Ordering) (total : IsTotalOrder cmp) 
 
   row_flip : (one : DictUpdate K T) (updates : List (DictUpdate K T)) → IsUntouched (key_of one) updates → AllByRecursion (λ other. is_eq (cmp (key_of one) (key_of other)) ≡ false) updates
   row_flip one [] apart = tt
-  row_flip one (other ∷ rest) apart = (flip_eq total (key_of one) (key_of other) ∙ apart.0, row_flip one rest apart.1)
+  row_flip one (other ∷ rest) apart = (tie_flip total (key_of one) (key_of other) ∙ apart.0, row_flip one rest apart.1)
 
   apart_flip : (first second : List (DictUpdate K T)) → AreApart cmp first second → AreApart cmp second first
   apart_flip first [] apart = tt
@@ -60,7 +61,7 @@ module _ {K T : Type 0} (cmp : K → K → Ordering) (total : IsTotalOrder cmp) 
   untouched_past : (key : K) (one : DictUpdate K T) (second : List (DictUpdate K T)) → cmp (key_of one) key ≡ Equal → AllByRecursion (λ other. is_eq (cmp (key_of one) (key_of other)) ≡ false) second → IsUntouched key second
   untouched_past key one [] tied apart = tt
   untouched_past key one (other ∷ rest) tied apart =
-      (flip_eq total (key_of other) key ∙ ap is_eq (sym (total.congr (key_of one) key (key_of other) tied)) ∙ apart.0, untouched_past key one rest tied apart.1)
+      (tie_flip total (key_of other) key ∙ ap is_eq (sym (total.congr (key_of one) key (key_of other) tied)) ∙ apart.0, untouched_past key one rest tied apart.1)
 
   by_one : (key : K) (first second : List (DictUpdate K T)) → AreApart cmp first second → IsUntouched key first ⊎ IsUntouched key second
   by_one key [] second apart = inl tt

@@ -8,7 +8,9 @@ use Rattle.std.specs.declared.cmp.Ordering.TheVariants.{Less, Equal}
 use Rattle.rc_dict.specs.Dict.{IsDict, entry}
 use Rattle.rc_dict.proofs.Edits.{entry-here, entry-past}
 use Rattle.rc_dict.proofs.Entries.{tie, entry-below}
-use Rattle.rc_dict.proofs.Kept.{by_ordering, by_test, all_over, first_below, rest_dict}
+use Rattle.rc_dict.proofs.Kept.{first_below, rest_dict}
+use Rattle.sorted_pairs.proofs.Below.{all_over}
+use Rattle.sorted_pairs.proofs.Cases.{by_ordering, by_test}
 
 module _ {K T : Type 0} (cmp : K → K → Ordering) (total : IsTotalOrder cmp) where
   entry-own : (pair : K × T) (rest : List (K × T)) → entry cmp pair.0 (pair ∷ rest) ≡ Some pair.1

@@ -1,2 +1,3 @@
 pub mod Dict
+pub mod Fault
 pub mod Turns

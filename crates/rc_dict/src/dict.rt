@@ -1,3 +1,4 @@
+//! The dictionary.
 ghost use Rattle.std.specs.Prelude.{◌≡◌, ◌↔◌, ℕ, List, true, length, option_copied, Some, None, Ok, Err, IsSome, IfOk, IfSome, OnOk, OnErr, IsErrOf};
 ghost use Rattle.rc_dict.specs.Dict.{IsDict, entry, updated, puts_new, last_entry, merged};
 
@@ -106,9 +107,10 @@ impl<K: Ord + Clone + Drop, T: Ord + Clone + Drop> KeyDict<K, T> {
     ) -> Result<KeyDict<K, T>, DictFault>
         requires keys { (x y : K) → K.is_clone x y → y ≡ x }
         requires values { (x y : T) → T.is_clone x y → y ≡ x }
-        ensures ok { IfOk result (λ dict. merged K.cmp T.cmp at_view.now at_place.now updates.now ≡ Ok dict) }
-        ensures last { IfOk result (λ dict. (key : K) →
-            entry K.cmp key dict ≡ last_entry K.cmp key updates.now (entry K.cmp key at_place.now)) }
+        ensures ok { IfOk result (λ dict.
+            merged K.cmp T.cmp at_view.now at_place.now updates.now ≡ Ok dict) }
+        ensures last { IfOk result (λ dict. (key : K) → entry K.cmp key dict
+            ≡ last_entry K.cmp key updates.now (entry K.cmp key at_place.now)) }
         ensures changed { (at : ℕ) → IsErrOf result (DictFault.Key at)
             ↔ (merged K.cmp T.cmp at_view.now at_place.now updates.now ≡ Err at) }
     {

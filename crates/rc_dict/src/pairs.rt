@@ -1,3 +1,4 @@
+//! What a dictionary does to its list of pairs.
 ghost use Rattle.std.specs.Prelude.{◌≡◌, false, None, OnOk, OnErr, is_some, option_copied};
 ghost use Rattle.rc_dict.specs.Dict.{IsDict, entry, put, without, all_settled, same_entry, first_changed};
 
@@ -62,7 +63,8 @@ pub(crate) fn settle<K: Ord + Clone + Drop, T: Clone + Drop>(
     requires dict { IsDict K.cmp pairs.old.items }
     requires keys { (x y : K) → K.is_clone x y → y ≡ x }
     requires values { (x y : T) → T.is_clone x y → y ≡ x }
-    ensures settled { OnOk result (pairs.new.items ≡ all_settled K.cmp updates.now pairs.old.items) }
+    ensures settled { OnOk result
+        (pairs.new.items ≡ all_settled K.cmp updates.now pairs.old.items) }
     ensures dict { IsDict K.cmp pairs.new.items }
 {
     for update in updates {

@@ -6,7 +6,7 @@ use Rattle.std.specs.List.{AllZip}
 use Rattle.std.specs.Ordering.{is_eq}
 use Rattle.std.specs.declared.cmp.Ordering.TheVariants.{Equal}
 use Rattle.rc_queue.specs.Contents.{Contents}
-use Rattle.rc_queue.specs.Update.{removed_since, replayed, merged, one_more, added_items, removed_items}
+use Rattle.rc_queue.specs.Update.{removed_since, replayed, merged, one_removal_more, added_items, removed_items}
 use Rattle.rc_queue.specs.declared.update.QueueUpdate.{QueueUpdate}
 use Rattle.rc_queue.specs.declared.update.QueueUpdate.TheVariants.{Add, Remove}
 use Rattle.rc_queue.proofs.Replay.{went_on, not_refused}
@@ -26,7 +26,7 @@ module _ {T : Type 0} (cmp : T → T → Ordering) where
   parts at (Remove x ∷ rest) removed [] after e = absurd (cc)
   parts at (Remove x ∷ rest) removed (front ∷ items) after e =
       let w = went_on (is_eq (cmp front x)) at _ _ after e in
-      let p = parts (at + 1) rest (one_more removed) items after w.1 in
+      let p = parts (at + 1) rest (one_removal_more removed) items after w.1 in
       (front ∷ p.0, ap (λ l. front ∷ l) p.1, ((Equal-is (cmp front x)).0 w.0, p.2))
 
   counts : (at : ℕ) (updates : List (QueueUpdate T)) (removed : ℕ) (items : List T) (after : Contents T)
@@ -38,7 +38,7 @@ module _ {T : Type 0} (cmp : T → T → Ordering) where
   counts at (Remove x ∷ rest) removed [] after e fits = absurd (cc)
   counts at (Remove x ∷ rest) removed (front ∷ items) after e fits =
       let w = went_on (is_eq (cmp front x)) at _ _ after e in
-      omega (arith, counts (at + 1) rest (one_more removed) items after w.1 (omega arith))
+      omega (arith, counts (at + 1) rest (one_removal_more removed) items after w.1 (omega arith))
 
   module _ (view place after : Contents T) (updates : List (QueueUpdate T)) (e : merged cmp view place updates ≡ Ok after) where
     replay : replayed cmp 0 updates place ≡ Ok after

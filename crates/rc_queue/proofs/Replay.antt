@@ -6,7 +6,7 @@ use borrow.Author.Tests.{eqb-true}
 use Rattle.std.specs.Ordering.{is_eq}
 use Rattle.std.specs.Result.{is_ok}
 use Rattle.rc_queue.specs.Contents.{Contents}
-use Rattle.rc_queue.specs.Update.{is_removal, first_removal, removed_since, unless_refused, and_then, replayed, merged, one_more}
+use Rattle.rc_queue.specs.Update.{is_removal, first_removal, removed_since, unless_refused, and_then, replayed, merged, one_removal_more}
 use Rattle.rc_queue.specs.Turns.{merged_after, merged_twice}
 use Rattle.rc_queue.specs.declared.update.QueueUpdate.{QueueUpdate}
 use Rattle.rc_queue.specs.declared.update.QueueUpdate.TheVariants.{Add, Remove}
@@ -55,7 +55,7 @@ module _ {T : Type 0} where
     replayed-longer at (x ∷ xs) removed [] added after e = absurd (cc)
     replayed-longer at (x ∷ xs) removed (front ∷ rest) added after e =
         let w = went_on (is_eq (cmp front x)) at _ _ after e in
-        rw w.0 (replayed-longer (at + 1) xs (one_more removed) rest added after w.1)
+        rw w.0 (replayed-longer (at + 1) xs (one_removal_more removed) rest added after w.1)
 
     -- the count of removals never falls
     pub removed-rises : (at : ℕ) (updates : List (QueueUpdate T)) (removed : ℕ) (items : List T) (after : Contents T)
@@ -65,7 +65,7 @@ module _ {T : Type 0} where
     removed-rises at (Remove x ∷ rest) removed [] after e fits = absurd (cc)
     removed-rises at (Remove x ∷ rest) removed (front ∷ items) after e fits =
         let w = went_on (is_eq (cmp front x)) at _ _ after e in
-        omega (arith, removed-rises (at + 1) rest (one_more removed) items after w.1 (omega arith))
+        omega (arith, removed-rises (at + 1) rest (one_removal_more removed) items after w.1 (omega arith))
 
     -- and a removal raises it
     pub removal_raises : (at : ℕ) (updates : List (QueueUpdate T)) (removed : ℕ) (items : List T) (after : Contents T) (i : ℕ)
@@ -75,7 +75,7 @@ module _ {T : Type 0} where
     removal_raises at (Remove x ∷ rest) removed [] after i e below found = absurd (cc)
     removal_raises at (Remove x ∷ rest) removed (front ∷ items) after i e below found =
         let w = went_on (is_eq (cmp front x)) at _ _ after e in
-        omega (arith, removed-rises (at + 1) rest (one_more removed) items after w.1 (omega arith))
+        omega (arith, removed-rises (at + 1) rest (one_removal_more removed) items after w.1 (omega arith))
 
     module _ (view : Contents T) where
       -- adds merge, and go to the back
@@ -135,8 +135,8 @@ module _ {T : Type 0} where
       pub before : IsOk (replayed cmp start (take place updates) (record { removed = removed; items = items }))
 
     refused_by : (b : Bool) (start i : ℕ) (x front : T) (rest : List (QueueUpdate T)) (removed : ℕ) (items : List T) → is_eq (cmp front x) ≡ b
-        → (b ≡ true → IsRefusedAt (start + 1) i rest (one_more removed) items)
-        → and_then start (cond b (Some (record { removed = one_more removed; items = items })) None) (replayed cmp (start + 1) rest) ≡ Err i
+        → (b ≡ true → IsRefusedAt (start + 1) i rest (one_removal_more removed) items)
+        → and_then start (cond b (Some (record { removed = one_removal_more removed; items = items })) None) (replayed cmp (start + 1) rest) ≡ Err i
         → IsRefusedAt start i (Remove x ∷ rest) removed (front ∷ items)
     refused_by true start i x front rest removed items test went e =
         let r = went refl in
@@ -153,7 +153,7 @@ module _ {T : Type 0} where
     refused_at start (Remove x ∷ rest) removed [] i e =
         let same : start ≡ i = cc in record { place = 0; counted = omega arith; removes = refl; before = refl }
     refused_at start (Remove x ∷ rest) removed (front ∷ items) i e =
-        refused_by (is_eq (cmp front x)) start i x front rest removed items refl (λ test. refused_at (start + 1) rest (one_more removed) items i (went_err _ start _ _ i test e)) e
+        refused_by (is_eq (cmp front x)) start i x front rest removed items refl (λ test. refused_at (start + 1) rest (one_removal_more removed) items i (went_err _ start _ _ i test e)) e
 
     -- a merge is refused beforehand, at its first removal, or by the replay
     since_or_replayed : (refusal : Option ℕ) (answer : Result (Contents T) ℕ) (i : ℕ) → unless_refused refusal answer ≡ Err i → (refusal ≡ Some i) ⊎ ((refusal ≡ None) × (answer ≡ Err i))

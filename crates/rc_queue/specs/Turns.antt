@@ -11,10 +11,13 @@ module _ {T : Type 0} (cmp : T → T → Ordering) where
   updated_twice first second queue = option_and_then (updated cmp second) (updated cmp first queue)
 
   -- the merge at the place that an earlier merge made, or that merge's refusal
-  abbrev pub merged_after : Result (Contents T) ℕ → Contents T → List (QueueUpdate T) → Result (Contents T) ℕ
+  abbrev pub merged_after : Result (Contents T) ℕ → Contents T → List (QueueUpdate T)
+      → Result (Contents T) ℕ
   merged_after (Err at) view updates = Err at
   merged_after (Ok place) view updates = merged cmp view place updates
 
-  -- the merge of the first session's updates and then that of the second's, where both worked at the view
-  abbrev pub merged_twice : Contents T → Contents T → List (QueueUpdate T) → List (QueueUpdate T) → Result (Contents T) ℕ
+  -- the merge of the first session's updates and then that of the second's, where both worked at
+  -- the view
+  abbrev pub merged_twice : Contents T → Contents T → List (QueueUpdate T)
+      → List (QueueUpdate T) → Result (Contents T) ℕ
   merged_twice view place first second = merged_after (merged cmp view place first) view second

@@ -1,6 +1,7 @@
+//! The queue.
 ghost use Rattle.std.specs.Prelude.{◌≡◌, ◌↔◌, ◌⊎◌, ℕ, length, slice_get, option_copied, Some, None, IsTrue, false, IfOk, OnOk, OnErr, IsErrOf, Err, Ok};
 ghost use Rattle.rc_queue.specs.Contents.{Contents};
-ghost use Rattle.rc_queue.specs.Update.{updated, merged, first_removal, replayed, is_removal};
+ghost use Rattle.rc_queue.specs.Update.{updated, merged, first_removal, removed_since, replayed, is_removal};
 
 use crate::update::{QueueFault, QueueUpdate};
 use std::alloc::AllocError;
@@ -33,7 +34,7 @@ impl<T: Ord + Clone + Drop> Queue<T> {
         }
     }
 
-    /// How often the front was removed. The count stands still at 2^64 - 1.
+    /// How often the front was removed. The count stays at 2^64 - 1 once it is there.
     pub fn removed(&self) -> u64
         ensures { result ≡ self.now.removed }
     {
@@ -78,7 +79,8 @@ impl<T: Ord + Clone + Drop> Queue<T> {
     /// After either the queue is as before.
     pub fn apply(&mut self, update: QueueUpdate<T>) -> Result<(), QueueFault>
         ensures applied { OnOk result (updated T.cmp update self.old ≡ Some self.new) }
-        ensures refused { IsErrOf result (QueueFault.Remove 0) ↔ (updated T.cmp update self.old ≡ None) }
+        ensures refused { IsErrOf result (QueueFault.Remove 0)
+            ↔ (updated T.cmp update self.old ≡ None) }
         ensures index { (at : ℕ) → IsErrOf result (QueueFault.Remove at) → at ≡ 0 }
         ensures memory { IsErrOf result QueueFault.NoMemory → is_removal update ≡ false }
         ensures unchanged { OnErr result (self.new ≡ self.old) }
@@ -98,19 +100,22 @@ impl<T: Ord + Clone + Drop> Queue<T> {
     /// What the updates, made by a session at its view, make of the queue at the commit's place.
     ///
     /// `Remove`: the index of the first removal, where the place's removal count isn't the view's,
-    /// or of the first removal that meets another front or none. `NoMemory` may come in place of
-    /// any answer.
+    /// which takes no memory; or else of the first removal that meets another front or none.
+    /// `NoMemory` may come in place of any answer but the first.
     pub fn merge(
         at_view: &Queue<T>,
         at_place: &Queue<T>,
         updates: &[QueueUpdate<T>],
     ) -> Result<Queue<T>, QueueFault>
         requires { (x y : T) → T.is_clone x y → y ≡ x }
-        ensures ok { IfOk result (λ queue. merged T.cmp at_view.now at_place.now updates.now ≡ Ok queue) }
+        ensures ok { IfOk result (λ queue.
+            merged T.cmp at_view.now at_place.now updates.now ≡ Ok queue) }
         ensures refused { (at : ℕ) → IsErrOf result (QueueFault.Remove at)
             → merged T.cmp at_view.now at_place.now updates.now ≡ Err at }
         ensures refuses { (at : ℕ) → merged T.cmp at_view.now at_place.now updates.now ≡ Err at
             → IsErrOf result (QueueFault.Remove at) ⊎ IsErrOf result QueueFault.NoMemory }
+        ensures since { (at : ℕ) → removed_since at_view.now at_place.now updates.now ≡ Some at
+            → IsErrOf result (QueueFault.Remove at) }
     {
         if at_view.removed != at_place.removed {
             if let Some(at) = first_removal(updates) {
@@ -124,8 +129,10 @@ impl<T: Ord + Clone + Drop> Queue<T> {
 
     // Takes the front away where it is this item, and else changes nothing.
     fn remove(&mut self, item: &T) -> bool
-        ensures done { IsTrue result → updated T.cmp (QueueUpdate.Remove item.now) self.old ≡ Some self.new }
-        ensures refused { result ≡ false → updated T.cmp (QueueUpdate.Remove item.now) self.old ≡ None }
+        ensures done { IsTrue result
+            → updated T.cmp (QueueUpdate.Remove item.now) self.old ≡ Some self.new }
+        ensures refused { result ≡ false
+            → updated T.cmp (QueueUpdate.Remove item.now) self.old ≡ None }
         ensures unchanged { result ≡ false → self.new ≡ self.old }
     {
         match self.front() {
@@ -138,11 +145,12 @@ impl<T: Ord + Clone + Drop> Queue<T> {
         }
     }
 
-    // Applies the updates in order, up to the first that is refused.
+    // Applies the updates in order, until one is refused.
     fn replay(&mut self, updates: &[QueueUpdate<T>]) -> Result<(), QueueFault>
         requires { (x y : T) → T.is_clone x y → y ≡ x }
         ensures ok { OnOk result (replayed T.cmp 0 updates.now self.old ≡ Ok self.new) }
-        ensures refused { (at : ℕ) → IsErrOf result (QueueFault.Remove at) → replayed T.cmp 0 updates.now self.old ≡ Err at }
+        ensures refused { (at : ℕ) → IsErrOf result (QueueFault.Remove at)
+            → replayed T.cmp 0 updates.now self.old ≡ Err at }
     {
         for (at, update) in updates.iter().enumerate() {
             match update {

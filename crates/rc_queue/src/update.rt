@@ -1,8 +1,11 @@
-ghost use Rattle.std.specs.Prelude.{◌≡◌};
+//! The updates of a queue, and why one is refused.
+ghost use Rattle.std.specs.Prelude.{◌≡◌, Some};
+ghost use Rattle.rc_queue.specs.Fault.{fault_text};
 ghost use Rattle.rc_queue.specs.declared.update.QueueFault.TheVariants.{NoMemory};
 
 use std::alloc::{AllocError, AllocFailed};
-use thiserror::Error;
+use std::error::Error;
+use std::fmt;
 
 /// One change of a queue.
 #[derive(Debug, Drop)]
@@ -14,15 +17,28 @@ pub enum QueueUpdate<T> {
 }
 
 /// Why a queue refused an update or a merge.
-#[derive(Clone, Copy, Debug, PartialEq, Eq, Error)]
+#[derive(Clone, Copy, Debug, PartialEq, Eq)]
 pub enum QueueFault {
     /// The removal at this index of the updates doesn't apply.
-    #[error("the removal at index {0} meets another front or none")]
     Remove(u64),
     /// Memory ran out.
-    #[error("out of memory")]
     NoMemory,
 }
+
+impl fmt::Display for QueueFault {
+    ghost output = { λ fault. Some (fault_text fault) };
+
+    fn fmt<W: fmt::Write>(&self, f: &mut fmt::Formatter<W>) -> fmt::Result {
+        match *self {
+            QueueFault::Remove(at) => {
+                write!(f, "the removal at index {at} meets another front or none")
+            }
+            QueueFault::NoMemory => f.write_str("out of memory"),
+        }
+    }
+}
+
+impl Error for QueueFault {}
 
 impl From<AllocError> for QueueFault {
     ghost from_gives = { λ _ fault. fault ≡ NoMemory };

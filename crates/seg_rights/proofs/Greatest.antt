@@ -6,9 +6,9 @@ use Rattle.std.proofs.lemmas.Bool.Decides.{Decides-eqb, Decides-and, Decides-or,
 use Rattle.std.proofs.lemmas.List.Folds.{Any-from_list_any, list_any-from_Any}
 use Rattle.seg_rights.specs.Right.{rank_of, IsAtMost}
 use Rattle.seg_rights.specs.Rights.{is_among, Gives, as_owner, as_member, as_anybody, IsGreatestRight, gives, greatest_right}
-use Rattle.seg_rights.specs.declared.Right.{Right}
-use Rattle.seg_rights.specs.declared.Right.TheVariants.{None, Read, Write}
-use Rattle.seg_rights.specs.declared.Rights.{Rights}
+use Rattle.seg_rights.specs.declared.right.Right.{Right}
+use Rattle.seg_rights.specs.declared.right.Right.TheVariants.{None, Read, Write}
+use Rattle.seg_rights.specs.declared.rights.Rights.{Rights}
 
 -- each right has a rank of its own
 same_from_rank : (right other : Right) → rank_of right ≡ rank_of other → right ≡ other

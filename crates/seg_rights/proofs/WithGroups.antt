@@ -5,9 +5,9 @@ use Rattle.std.proofs.lemmas.List.{at_drop_more}
 use Rattle.seg_rights.specs.Right.{IsAtMost, greater_of}
 use Rattle.seg_rights.specs.Rights.{is_among, Gives, as_owner, as_member, as_anybody, IsGreatestRight}
 use Rattle.seg_rights.specs.WithGroups.{with_groups}
-use Rattle.seg_rights.specs.declared.Right.{Right}
-use Rattle.seg_rights.specs.declared.Right.TheVariants.{None, Read, Write}
-use Rattle.seg_rights.specs.declared.Rights.{Rights}
+use Rattle.seg_rights.specs.declared.right.Right.{Right}
+use Rattle.seg_rights.specs.declared.right.Right.TheVariants.{None, Read, Write}
+use Rattle.seg_rights.specs.declared.rights.Rights.{Rights}
 
 -- the greater right is no less than either
 first_below : (right other : Right) → IsAtMost right (greater_of right other)

@@ -1,7 +1,7 @@
 -- The rights in their order.
 use Rattle.std.specs.Prelude.{ℕ, ◌≤◌, Bool, true, false}
-use Rattle.seg_rights.specs.declared.Right.{Right}
-use Rattle.seg_rights.specs.declared.Right.TheVariants.{None, Read, Write}
+use Rattle.seg_rights.specs.declared.right.Right.{Right}
+use Rattle.seg_rights.specs.declared.right.Right.TheVariants.{None, Read, Write}
 
 -- the place of a right in the order: no right, then reading, then reading and writing
 abbrev pub rank_of : Right → ℕ

@@ -2,8 +2,9 @@
 use Rattle.std.proofs.Common.{◌≡◌, ℕ, ◌+◌, ◌≤◌, false, List, [], ◌∷◌, ◌++◌, length, refl, arith, sym, ◌∙◌, ap, append_assoc, append-nil, length-append, codes}
 use Rattle.std.specs.List.{AllByRecursion, list_all}
 use Rattle.std.proofs.lemmas.List.{flat_map_more}
-use Rattle.st_tree.specs.Trees.{Bytes}
-use Rattle.shell_words.specs.Lines.{text_of_lines, IsInner, IsBody}
+use Rattle.texts.specs.Bytes.{Bytes}
+use Rattle.texts.specs.Lines.{text_of_lines}
+use Rattle.shell_words.specs.Lines.{IsInner, IsBody}
 use Rattle.shell_words.specs.ScriptGrammar.{IsPlain, is_script_byte, HasOtherByte}
 
 pub more_of_all : {A : Type 0} (P : A → Type 0) (xs : List A) (x : A) → AllByRecursion P xs → P x → AllByRecursion P (xs ++ x ∷ [])

@@ -1,3 +1,4 @@
+pub mod Empty
 mod LineFronts
 mod Bodies
 mod Drafts

@@ -1,22 +1,14 @@
 -- The lines of a text and the words of a line, from the front.
 use Rattle.std.proofs.Common.{◌≡◌, ℕ, ◌+◌, ◌-◌, ◌<◌, ◌≤◌, Bool, true, false, not, cond, ◌==◌, List, [], ◌∷◌, ◌++◌, length, take, drop, refl, ap, arith, sym, ◌∙◌, length-drop, append-nil, eq-eqb}
 use Rattle.std.specs.List.{position_or_len, slice_split, onto_first}
-use Rattle.std.proofs.lemmas.List.{length-map, drop-drop, take-append-drop}
+use Rattle.std.proofs.lemmas.List.{nil_from_length, length-map, drop-drop, take-append-drop}
 use Rattle.std.proofs.lemmas.List.Sums.{prefix_len-le-length, fails_before_first}
 use Rattle.std.proofs.lemmas.List.Splits.{slice_split_first, slice_split_none}
 use Rattle.std.proofs.lemmas.Bool.Decides.{nat_tests}
-use Rattle.st_tree.specs.Trees.{Bytes}
+use Rattle.texts.specs.Bytes.{Bytes}
 use Rattle.shell_words.specs.Lines.{is_line_feed, full_parts, without_return, lines_of}
 
-no_items : (xs : Bytes) → length xs ≡ 0 → xs ≡ []
-no_items [] h = refl
-no_items (x ∷ xs) h = absurd (omega arith)
-
-pub empty_if : {A : Type 0} (xs : List A) → (length xs == 0) ≡ true → xs ≡ []
-empty_if [] h = refl
-empty_if (x ∷ xs) h = absurd (grind (arith, nat_tests))
-
--- where an element passes, the first part stands before it, and the rest behind it
+-- where an element passes, the first part stands before it, and the rest after it
 pub parts_at_first : (p : ℕ → Bool) (text part rest : Bytes) (n x : ℕ) → n ≡ position_or_len p text → part ≡ take n text → drop n text ≡ x ∷ rest
     → slice_split p text ≡ part ∷ slice_split p rest
 parts_at_first p text part rest n x first is left =
@@ -31,7 +23,7 @@ parts_at_first p text part rest n x first is left =
 pub one_part_at_end : (p : ℕ → Bool) (text part rest : Bytes) (n : ℕ) → n ≡ position_or_len p text → part ≡ take n text → rest ≡ drop n text
     → length rest ≡ 0 → (slice_split p text ≡ part ∷ []) × (part ≡ text) × (rest ≡ [])
 one_part_at_end p text part rest n first is left over =
-    let none : rest ≡ [] = no_items rest over in
+    let none : rest ≡ [] = nil_from_length rest over in
     let gone : drop n text ≡ [] = sym left ∙ none in
     let size : length text - n ≡ 0 = sym (length-drop n text) ∙ ap length gone in
     let within : n ≤ length text = rw first (prefix_len-le-length (λ b. not (p b)) text) in

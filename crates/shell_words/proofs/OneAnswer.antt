@@ -2,15 +2,19 @@
 use Rattle.std.proofs.Common.{◌≡◌, ℕ, zero, suc, ◌+◌, ◌<◌, ◌≤◌, Bool, true, false, nat_lt, nat_le, List, [], ◌∷◌, ◌++◌, length, refl, arith, sym, ◌∙◌, ap, length-append, ◌⊎◌, inl, inr}
 use Rattle.std.specs.List.{AllByRecursion, list_all}
 use Rattle.std.proofs.lemmas.Bool.Decides.{nat_tests}
-use Rattle.st_tree.specs.Trees.{Bytes}
-use Rattle.shell_words.specs.Lines.{lines_of, text_of_lines, IsBody}
-use Rattle.shell_words.specs.Script.{SessionCommands, most_sessions, most_bytes, most_script_bytes, takes_commands}
-use Rattle.shell_words.specs.ScriptGrammar.{is_user_name, Says, Adds, empty_line, session_line, command_line, chunk_lines, Leads, at_once, after, BreaksAt, none_of_table, command_outside, chunk_outside, chunk_without_end, long_chunk, one_session_more, no_user_name, is_script_byte, IsPlain, ReadsScript, HasOtherByte, StopsAt, BreaksRule, long_script, other_byte, at_line}
+use Rattle.texts.specs.Bytes.{Bytes}
+use Rattle.texts.specs.Lines.{text_of_lines}
+use Rattle.profile.specs.declared.limits.TheConstants.{SESSION_LIMIT, CHUNK_LIMIT, SCRIPT_LIMIT}
+use Rattle.shell_words.specs.Lines.{lines_of, IsBody}
+use Rattle.shell_words.specs.Names.{is_user_name}
+use Rattle.shell_words.specs.Script.{SessionCommands, takes_commands}
+use Rattle.shell_words.specs.ScriptGrammar.{BeginsSession, SaysCommand, Adds, empty_line, session_line, command_line, chunk_lines, Leads, at_once, after, BreaksAt, command_outside, chunk_outside, chunk_without_end, long_chunk, one_session_more, no_user_name, is_script_byte, IsPlain, ReadsScript, HasOtherByte, StopsAtLine, BreaksRule, long_script, other_byte, at_line}
+use Rattle.shell_words.specs.Reading.{command_of, LineSays}
 use Rattle.shell_words.specs.declared.script.Command.{Command}
 use Rattle.shell_words.specs.declared.table.Opening.{Opening}
-use Rattle.shell_words.specs.declared.table.Line.TheVariants.{OfSession, Opens, Orders}
+use Rattle.shell_words.specs.declared.table.ScriptLine.TheVariants.{Session, Opening as Opens, Command as Orders}
 use Rattle.shell_words.proofs.Progress.{leads_front}
-use Rattle.shell_words.proofs.Outcomes.{ends, goes_on, broken, outcome, adds_outcome, breaks_outcome, same, same-true, not_empty, Decision, decide_line, none_says, BodyDecision, decide_body}
+use Rattle.shell_words.proofs.Outcomes.{ends, goes_on, broken, outcome, adds_outcome, breaks_outcome, same, same-true, not_empty, Decision, decide_line, none_says, of_no_table, of_any_text, is_chunk_line, BodyDecision, decide_body}
 
 -- nothing follows
 Stuck : List SessionCommands → List Bytes → Type 0
@@ -61,47 +65,47 @@ Next script line rest =
     ((longer : List SessionCommands) × (left : List Bytes) × Adds script (line ∷ rest) longer left × (length left ≤ length rest))
     ⊎ ((rule : ℕ) × BreaksAt script line rest rule)
 
-next_session : (script : List SessionCommands) (line : Bytes) (rest : List Bytes) (name : Bytes) → Says line (OfSession name) → (a b : Bool) → is_user_name name ≡ a
-    → nat_lt (length script) most_sessions ≡ b → Next script line rest
+next_session : (script : List SessionCommands) (line : Bytes) (rest : List Bytes) (name : Bytes) → BeginsSession line name → (a b : Bool) → is_user_name name ≡ a
+    → nat_lt (length script) SESSION_LIMIT ≡ b → Next script line rest
 unfolding Next
 next_session script line rest name says false b user room = inr (6, no_user_name name says user refl)
 next_session script line rest name says true true user room =
-    let few : length script < most_sessions = grind (arith, nat_tests) in
+    let few : length script < SESSION_LIMIT = grind (arith, nat_tests) in
     inl (_, rest, session_line line name refl says user few refl, omega arith)
 next_session script line rest name says true false user room =
-    let many : most_sessions ≤ length script = grind (arith, nat_tests) in
+    let many : SESSION_LIMIT ≤ length script = grind (arith, nat_tests) in
     inr (5, one_session_more name says user many refl)
 
-next_command : (script : List SessionCommands) (line : Bytes) (rest : List Bytes) (command : Command) → Says line (Orders command) → (a : Bool)
+next_command : (script : List SessionCommands) (line : Bytes) (rest : List Bytes) (command : Command) → SaysCommand line command → (a : Bool)
     → takes_commands script ≡ a → Next script line rest
 unfolding Next
 next_command script line rest command says true takes = inl (_, rest, command_line line command refl says takes refl, omega arith)
 next_command script line rest command says false takes = inr (2, command_outside command says takes refl)
 
-next_body : (script : List SessionCommands) (line : Bytes) (rest : List Bytes) (opening : Opening) → Says line (Opens opening) → takes_commands script ≡ true
-    → (body left : List Bytes) → IsBody rest body left → length left ≤ length rest → (a : Bool) → nat_le (length (text_of_lines body)) most_bytes ≡ a
+next_body : (script : List SessionCommands) (line : Bytes) (rest : List Bytes) (opening : Opening) → LineSays line (Opens opening) → takes_commands script ≡ true
+    → (body left : List Bytes) → IsBody rest body left → length left ≤ length rest → (a : Bool) → nat_le (length (text_of_lines body)) CHUNK_LIMIT ≡ a
     → Next script line rest
 unfolding Next
 next_body script line rest opening says takes body left found less true size =
-    let short : length (text_of_lines body) ≤ most_bytes = grind (arith, nat_tests) in
-    inl (_, left, chunk_lines line opening rest body refl says takes found short refl, less)
+    let short : length (text_of_lines body) ≤ CHUNK_LIMIT = grind (arith, nat_tests) in
+    inl (_, left, chunk_lines line (command_of opening (text_of_lines body)) rest body refl (of_any_text line (text_of_lines body) opening says) takes found short refl, less)
 next_body script line rest opening says takes body left found less false size =
-    let long : most_bytes < length (text_of_lines body) = grind (arith, nat_tests) in
-    inr (4, long_chunk opening body left says takes found long refl)
+    let long : CHUNK_LIMIT < length (text_of_lines body) = grind (arith, nat_tests) in
+    inr (4, long_chunk body left (is_chunk_line line opening says) takes found long refl)
 
-next_chunk : (script : List SessionCommands) (line : Bytes) (rest : List Bytes) (opening : Opening) → Says line (Opens opening) → (a : Bool)
+next_chunk : (script : List SessionCommands) (line : Bytes) (rest : List Bytes) (opening : Opening) → LineSays line (Opens opening) → (a : Bool)
     → takes_commands script ≡ a → BodyDecision rest → Next script line rest
 unfolding Next BodyDecision
-next_chunk script line rest opening says false takes found = inr (2, chunk_outside opening says takes refl)
+next_chunk script line rest opening says false takes found = inr (2, chunk_outside (is_chunk_line line opening says) takes refl)
 next_chunk script line rest opening says true takes (inl (body, left, found, less)) = next_body script line rest opening says takes body left found less _ refl
-next_chunk script line rest opening says true takes (inr inner) = inr (3, chunk_without_end opening says takes inner refl)
+next_chunk script line rest opening says true takes (inr inner) = inr (3, chunk_without_end (is_chunk_line line opening says) takes inner refl)
 
 next_said : (script : List SessionCommands) (line : Bytes) (rest : List Bytes) → same line [] ≡ false → Decision line → Next script line rest
 unfolding Next Decision
-next_said script line rest some (inl (OfSession name, says)) = next_session script line rest name says _ _ refl refl
+next_said script line rest some (inl (Session name, says)) = next_session script line rest name says _ _ refl refl
 next_said script line rest some (inl (Opens opening, says)) = next_chunk script line rest opening says _ refl (decide_body rest)
 next_said script line rest some (inl (Orders command, says)) = next_command script line rest command says _ refl
-next_said script line rest some (inr none) = inr (1, none_of_table (not_empty line some) (none_says line none) refl)
+next_said script line rest some (inr none) = inr (1, of_no_table line (not_empty line some) (none_says line none))
 
 next_if : (script : List SessionCommands) (line : Bytes) (rest : List Bytes) (a : Bool) → same line [] ≡ a → Next script line rest
 unfolding Next
@@ -202,7 +206,7 @@ no_other : {lines : List Bytes} {n : ℕ} → AllByRecursion IsPlain lines → H
 no_other all h = other_not_plain _ h.before h.rest h.line h.whole all h.other
 
 -- a stop is at one place
-one_stop : {lines : List Bytes} {m n rule broken_rule : ℕ} → StopsAt lines m rule → StopsAt lines n broken_rule → (m ≡ n) × (rule ≡ broken_rule)
+one_stop : {lines : List Bytes} {m n rule broken_rule : ℕ} → StopsAtLine lines m rule → StopsAtLine lines n broken_rule → (m ≡ n) × (rule ≡ broken_rule)
 one_stop {lines = lines} {rule = rule} {broken_rule = broken_rule} h k =
     let place = one_place h.read k.read (stuck_where_broken h.script h.line h.rest rule h.breaks) (stuck_where_broken k.script k.line k.rest broken_rule k.breaks) in
     let e : broken rule ≡ broken broken_rule = sym (breaks_outcome h.breaks) ∙ (there (sym place.0) (sym place.1) ∙ breaks_outcome k.breaks) in
@@ -213,7 +217,7 @@ one_stop {lines = lines} {rule = rule} {broken_rule = broken_rule} h k =
     let n_is = k.numbered in
     (omega (arith, left, first, second, m_is, n_is), same_rule e)
 
-no_stop : {lines : List Bytes} {script : List SessionCommands} {n rule : ℕ} → Leads [] lines script [] → StopsAt lines n rule → ⊥
+no_stop : {lines : List Bytes} {script : List SessionCommands} {n rule : ℕ} → Leads [] lines script [] → StopsAtLine lines n rule → ⊥
 no_stop {script = script} {rule = rule} leads h =
     let place = one_place leads h.read (stuck_at_end script) (stuck_where_broken h.script h.line h.rest rule h.breaks) in
     let none : [] ≡ h.line ∷ h.rest = place.1 in
@@ -242,7 +246,7 @@ never_both text script line rule h (at_line short plain stops) = no_stop h.read 
 Answer : Bytes → Type 0
 Answer text = ((script : List SessionCommands) × ReadsScript text script) ⊎ ((line rule : ℕ) × BreaksRule text line rule)
 
-answer_last : (text : Bytes) → length text ≤ most_script_bytes → AllByRecursion IsPlain (lines_of text) → Last [] (lines_of text) → Answer text
+answer_last : (text : Bytes) → length text ≤ SCRIPT_LIMIT → AllByRecursion IsPlain (lines_of text) → Last [] (lines_of text) → Answer text
 unfolding Last Answer
 answer_last text short plain (inl (script, leads)) = inl (script, record { short = short; plain = plain; read = leads })
 answer_last text short plain (inr (script, line, rest, rule, leads, breaks)) =
@@ -262,15 +266,15 @@ answer_last text short plain (inr (script, line, rest, rule, leads, breaks)) =
       }),
     )
 
-answer_plain : (text : Bytes) → length text ≤ most_script_bytes → OtherDecision (lines_of text) → Answer text
+answer_plain : (text : Bytes) → length text ≤ SCRIPT_LIMIT → OtherDecision (lines_of text) → Answer text
 unfolding OtherDecision Answer
 answer_plain text short (inl plain) = answer_last text short plain (last_of (length (lines_of text)) [] (lines_of text) (omega arith))
 answer_plain text short (inr (number, other)) = inr (number, 8, other_byte short other refl)
 
-answer_if : (text : Bytes) (a : Bool) → nat_le (length text) most_script_bytes ≡ a → Answer text
+answer_if : (text : Bytes) (a : Bool) → nat_le (length text) SCRIPT_LIMIT ≡ a → Answer text
 unfolding Answer
-answer_if text true size = let short : length text ≤ most_script_bytes = grind (arith, nat_tests) in answer_plain text short (decide_other (lines_of text))
-answer_if text false size = let long : most_script_bytes < length text = grind (arith, nat_tests) in inr (0, 7, long_script long refl refl)
+answer_if text true size = let short : length text ≤ SCRIPT_LIMIT = grind (arith, nat_tests) in answer_plain text short (decide_other (lines_of text))
+answer_if text false size = let long : SCRIPT_LIMIT < length text = grind (arith, nat_tests) in inr (0, 7, long_script long refl refl)
 
 pub always : (text : Bytes) → ((script : List SessionCommands) × ReadsScript text script) ⊎ ((line rule : ℕ) × BreaksRule text line rule)
 unfolding Answer

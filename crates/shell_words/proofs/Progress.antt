@@ -1,6 +1,6 @@
 -- Where the reader of lines stands.
 use Rattle.std.proofs.Common.{◌≡◌, ◌+◌, ◌<◌, List, [], ◌∷◌, ◌++◌, length, None, refl, arith, sym, ◌∙◌, ap, subst, length-append, append_assoc}
-use Rattle.st_tree.specs.Trees.{Bytes}
+use Rattle.texts.specs.Bytes.{Bytes}
 use Rattle.shell_words.specs.Script.{SessionCommands}
 use Rattle.shell_words.specs.ScriptGrammar.{Adds, empty_line, session_line, command_line, chunk_lines, Leads, at_once, after}
 use Rattle.shell_words.specs.Reading.{sessions_of, IsReading, FaultAt, FaultIn}

@@ -1,14 +1,17 @@
 -- No word is longer than its line.
 use Rattle.std.proofs.Common.{◌≡◌, ℕ, ◌+◌, ◌≤◌, Bool, true, false, cond, List, [], ◌∷◌, length, arith, subst}
 use Rattle.std.specs.List.{AllByRecursion, onto_first}
-use Rattle.st_tree.specs.Trees.{Bytes}
-use Rattle.shell_words.specs.Lines.{is_space, words_of}
-use Rattle.shell_words.specs.Script.{HasShortText, most_script_bytes}
-use Rattle.shell_words.specs.ScriptGrammar.{SaysOpening, SaysCommand, command_of}
+use Rattle.texts.specs.Bytes.{Bytes}
+use Rattle.profile.specs.declared.limits.TheConstants.{SCRIPT_LIMIT}
+use Rattle.shell_words.specs.Lines.{is_space, line_words}
+use Rattle.shell_words.specs.Script.{HasShortText}
+use Rattle.shell_words.specs.ScriptGrammar.{SaysCommand}
+use Rattle.shell_words.specs.Reading.{command_of, LineSays}
 use Rattle.shell_words.specs.declared.script.Command.{Command}
 use Rattle.shell_words.specs.declared.script.Command.TheVariants.{Chunk, Method, Commit, Abort, Logout, Lock, Unlock}
 use Rattle.shell_words.specs.declared.table.Opening.{Opening}
-use Rattle.shell_words.specs.declared.table.Opening.TheVariants.{OfChunk, OfMethod}
+use Rattle.shell_words.specs.declared.table.Opening.TheVariants.{Chunk as OfChunk, Method as OfMethod}
+use Rattle.shell_words.specs.declared.table.ScriptLine.TheVariants.{Opening as Opens}
 
 -- the words have so many bytes at most
 IsUpTo : ℕ → List Bytes → Type 0
@@ -25,15 +28,15 @@ up_to_if true b n words all = (omega arith, up_to_more n words all)
 up_to_if false b n [] all = (omega arith, tt)
 up_to_if false b n (w ∷ ws) all = let first = all.0 in (omega (arith, first), up_to_more n ws all.1)
 
-words_up_to : (line : Bytes) → IsUpTo (length line) (words_of line)
+words_up_to : (line : Bytes) → IsUpTo (length line) (line_words line)
 unfolding IsUpTo
 words_up_to [] = (omega arith, tt)
 words_up_to (b ∷ bs) =
     let size : length bs + 1 ≡ length (b ∷ bs) = omega arith in
-    let P : ℕ → Type 0 = λ n. IsUpTo n (words_of (b ∷ bs)) in
-    subst P size (up_to_if (is_space b) b (length bs) (words_of bs) (words_up_to bs))
+    let P : ℕ → Type 0 = λ n. IsUpTo n (line_words (b ∷ bs)) in
+    subst P size (up_to_if (is_space b) b (length bs) (line_words bs) (words_up_to bs))
 
-second : (line w name : Bytes) → words_of line ≡ w ∷ name ∷ [] → length line ≤ most_script_bytes → length name ≤ most_script_bytes
+second : (line w name : Bytes) → line_words line ≡ w ∷ name ∷ [] → length line ≤ SCRIPT_LIMIT → length name ≤ SCRIPT_LIMIT
 unfolding IsUpTo
 second line w name is size =
     let P : List Bytes → Type 0 = λ ws. AllByRecursion (λ v. length v ≤ length line) ws in
@@ -41,7 +44,7 @@ second line w name is size =
     let fits = all.1.0 in
     omega (arith, fits, size)
 
-third : (line w m name : Bytes) → words_of line ≡ w ∷ m ∷ name ∷ [] → length line ≤ most_script_bytes → length name ≤ most_script_bytes
+third : (line w m name : Bytes) → line_words line ≡ w ∷ m ∷ name ∷ [] → length line ≤ SCRIPT_LIMIT → length name ≤ SCRIPT_LIMIT
 unfolding IsUpTo
 third line w m name is size =
     let P : List Bytes → Type 0 = λ ws. AllByRecursion (λ v. length v ≤ length line) ws in
@@ -49,7 +52,7 @@ third line w m name is size =
     let fits = all.1.1.0 in
     omega (arith, fits, size)
 
-pub short_command : (line : Bytes) (command : Command) → SaysCommand line command → length line ≤ most_script_bytes → HasShortText command
+pub short_command : (line : Bytes) (command : Command) → SaysCommand line command → length line ≤ SCRIPT_LIMIT → HasShortText command
 short_command line (Chunk prints text) says size = absurd says
 short_command line (Method class_side class text) says size = absurd says
 short_command line Commit says size = tt
@@ -59,7 +62,8 @@ short_command line (Lock true name) says size = third line _ _ name says.0 size
 short_command line (Lock false name) says size = third line _ _ name says.0 size
 short_command line (Unlock name) says size = second line _ name says.0 size
 
-pub short_opening : (line : Bytes) (opening : Opening) → SaysOpening line opening → length line ≤ most_script_bytes → HasShortText (command_of opening [])
-short_opening line (OfChunk prints) says size = omega arith
+pub short_opening : (line : Bytes) (opening : Opening) → LineSays line (Opens opening) → length line ≤ SCRIPT_LIMIT → HasShortText (command_of opening [])
+short_opening line (OfChunk true) says size = omega arith
+short_opening line (OfChunk false) says size = omega arith
 short_opening line (OfMethod true class) says size = (second line _ class says.0 size, omega arith)
 short_opening line (OfMethod false class) says size = (second line _ class says.0 size, omega arith)

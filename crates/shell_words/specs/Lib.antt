@@ -1,4 +1,6 @@
 pub mod Lines
+pub mod Names
 pub mod Script
 pub mod ScriptGrammar
+pub mod Rules
 pub mod Reading

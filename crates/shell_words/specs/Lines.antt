@@ -1,7 +1,7 @@
--- The lines of a text, the words of a line, and the text of lines.
+-- The lines of a text, and the words of a line.
 use Rattle.std.specs.Prelude.{◌≡◌, ◌≢◌, ℕ, Bool, ◌==◌, codes, List, [], ◌∷◌, ◌++◌, length, map, if◌then◌else◌}
-use Rattle.std.specs.List.{AllByRecursion, slice_split, flat_map}
-use Rattle.st_tree.specs.Trees.{Bytes}
+use Rattle.std.specs.List.{AllByRecursion, slice_split}
+use Rattle.texts.specs.Bytes.{Bytes}
 
 -- whether a byte is LF
 abbrev pub is_line_feed : ℕ → Bool
@@ -19,21 +19,18 @@ without_return [] = []
 without_return (b ∷ []) = if b == 13 then [] else b ∷ []
 without_return (b ∷ c ∷ bs) = b ∷ without_return (c ∷ bs)
 
--- The lines of a text. A line ends with LF or with the end of the text, and a CR just before either is dropped.
+-- The lines of a text. A line ends with LF or with the end of the text, and a CR just before either
+-- is dropped.
 abbrev pub lines_of : Bytes → List Bytes
 lines_of text = map without_return (full_parts (slice_split is_line_feed text))
-
--- the lines, each with LF at its end
-abbrev pub text_of_lines : List Bytes → Bytes
-text_of_lines lines = flat_map (λ line. line ++ 10 ∷ []) lines
 
 -- whether a byte is a space
 abbrev pub is_space : ℕ → Bool
 is_space b = b == 32
 
--- The words of a line, which single spaces separate. What stands between two spaces is an empty word.
-abbrev pub words_of : Bytes → List Bytes
-words_of line = slice_split is_space line
+-- The words of a line, which single spaces separate. Between two spaces stands an empty word.
+abbrev pub line_words : Bytes → List Bytes
+line_words line = slice_split is_space line
 
 -- the line is not the one that ends a chunk
 abbrev pub IsInner : Bytes → Type 0

@@ -1,56 +1,44 @@
 -- Scripts, as plain data, and their limits.
-use Rattle.std.specs.Prelude.{ℕ, Bool, true, false, not, ◌<◌, ◌≤◌, List, [], ◌∷◌, ◌++◌, length}
+use Rattle.std.specs.Prelude.{◌≡◌, Bool, true, false, not, ◌&&◌, ◌<◌, ◌≤◌, List, [], ◌∷◌, ◌++◌, length}
 use Rattle.std.specs.List.{AllByRecursion, list_all}
-use Rattle.st_tree.specs.Trees.{Bytes}
+use Rattle.texts.specs.Bytes.{Bytes}
+use Rattle.profile.specs.declared.limits.TheConstants.{SCRIPT_LIMIT, CHUNK_LIMIT, COMMAND_LIMIT}
+use Rattle.shell_words.specs.Names.{is_user_name}
 use Rattle.shell_words.specs.declared.script.Command.{Command}
-use Rattle.shell_words.specs.declared.script.Command.TheVariants.{Chunk, Method, Commit, Abort, Logout, Lock, Unlock}
+use Rattle.shell_words.specs.declared.script.Command.TheVariants.{Chunk, Method, Logout, Lock, Unlock}
 
 -- what a script asks of one session
 pub record SessionCommands : Type 0 where
   pub user : Bytes
   pub commands : List Command
 
--- the most sessions of a script
-abbrev pub most_sessions : ℕ
-most_sessions = 16
-
--- the number that the commands of a session stay below
-abbrev pub command_limit : ℕ
-command_limit = 1048576
-
--- the most bytes of a user name, a chunk and a method
-abbrev pub most_bytes : ℕ
-most_bytes = 65536
-
--- the most bytes of a script, and so of a name in it
-abbrev pub most_script_bytes : ℕ
-most_script_bytes = 1048576
-
--- the command has no text that is too long
+-- The command has no text that is too long. A name may be as long as a script.
 abbrev pub HasShortText : Command → Type 0
-HasShortText (Chunk prints text) = length text ≤ most_bytes
-HasShortText (Method class_side class text) = (length class ≤ most_script_bytes) × (length text ≤ most_bytes)
-HasShortText Commit = Unit {0}
-HasShortText Abort = Unit {0}
-HasShortText Logout = Unit {0}
-HasShortText (Lock write name) = length name ≤ most_script_bytes
-HasShortText (Unlock name) = length name ≤ most_script_bytes
-
--- What a script's limits ask of each session.
-pub record IsWithinLimits (session : SessionCommands) : Type 0 where
-  pub user : length session.user ≤ most_bytes
-  pub count : length session.commands < command_limit
-  pub texts : AllByRecursion HasShortText session.commands
+HasShortText (Chunk prints text) = length text ≤ CHUNK_LIMIT
+HasShortText (Method class_side class text) =
+    (length class ≤ SCRIPT_LIMIT) × (length text ≤ CHUNK_LIMIT)
+HasShortText (Lock write name) = length name ≤ SCRIPT_LIMIT
+HasShortText (Unlock name) = length name ≤ SCRIPT_LIMIT
+HasShortText _ = Unit {0}
 
 -- whether the command ends its session
 abbrev pub is_logout : Command → Bool
-is_logout (Chunk prints text) = false
-is_logout (Method class_side class text) = false
-is_logout Commit = false
-is_logout Abort = false
 is_logout Logout = true
-is_logout (Lock write name) = false
-is_logout (Unlock name) = false
+is_logout _ = false
+
+-- whether no command follows a logout
+abbrev pub logout_is_last : List Command → Bool
+logout_is_last [] = true
+logout_is_last (command ∷ []) = true
+logout_is_last (command ∷ next ∷ commands) =
+    not (is_logout command) && logout_is_last (next ∷ commands)
+
+-- What a script's limits ask of each session.
+pub record IsWithinLimits (session : SessionCommands) : Type 0 where
+  pub user : is_user_name session.user ≡ true
+  pub count : length session.commands < COMMAND_LIMIT
+  pub texts : AllByRecursion HasShortText session.commands
+  pub logout : logout_is_last session.commands ≡ true
 
 -- whether the last of these sessions takes a command: there is one, and it has no logout yet
 abbrev pub takes_commands : List SessionCommands → Bool
@@ -59,7 +47,9 @@ takes_commands (session ∷ []) = list_all (λ command. not (is_logout command))
 takes_commands (session ∷ next ∷ sessions) = takes_commands (next ∷ sessions)
 
 -- the sessions with one more command of the last
-abbrev pub with_command : List SessionCommands → Command → List SessionCommands
-with_command [] command = []
-with_command (session ∷ []) command = record { user = session.user; commands = session.commands ++ command ∷ [] } ∷ []
-with_command (session ∷ next ∷ sessions) command = session ∷ with_command (next ∷ sessions) command
+abbrev pub with_next_command : List SessionCommands → Command → List SessionCommands
+with_next_command [] command = []
+with_next_command (session ∷ []) command =
+    record { user = session.user; commands = session.commands ++ command ∷ [] } ∷ []
+with_next_command (session ∷ next ∷ sessions) command =
+    session ∷ with_next_command (next ∷ sessions) command

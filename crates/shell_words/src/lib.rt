@@ -1,18 +1,19 @@
-//! The reader of scripts: it reads what a script asks of its sessions, or says at which line the text breaks which rule.
+//! Room: sessions and server. Takes a text; gives its sessions, each a user and commands, or the
+//! line and the rule that it breaks first. Knows nothing of what a command does.
 #![tactic(auto)]
 
 mod fault;
 pub mod laws;
 mod pieces;
 mod reading;
+mod rule;
 mod script;
 mod table;
 #[cfg(test)]
 mod tests;
 
 pub use fault::ScriptFault;
+pub use profile::{CHUNK_LIMIT, SCRIPT_LIMIT, SESSION_LIMIT, USER_LIMIT};
 pub use reading::read_script;
-pub use script::{
-    CHUNK_LIMIT, Command, SCRIPT_LIMIT, SESSION_LIMIT, Script, SessionScript, USER_LIMIT,
-};
-pub use table::{Line, Opening};
+pub use rule::ScriptRule;
+pub use script::{Command, Script, SessionScript};

@@ -1,8 +1,9 @@
 //! Lines and words, cut off the front of a text.
 ghost use Rattle.std.specs.Prelude.{◌≡◌, ℕ, ◌+◌, ◌^◌, ◌<◌, ◌≤◌, List, [], ◌∷◌, ◌++◌, length, take, drop, codes, IfOk, IfSome, MatchOption, map};
 ghost use Rattle.std.specs.List.{AllByRecursion, position_or_len, slice_split};
-ghost use Rattle.st_tree.specs.Trees.{Bytes};
-ghost use Rattle.shell_words.specs.Lines.{is_line_feed, full_parts, without_return, lines_of, text_of_lines, is_space, words_of, IsInner, IsBody};
+ghost use Rattle.texts.specs.Bytes.{Bytes};
+ghost use Rattle.texts.specs.Lines.{text_of_lines};
+ghost use Rattle.shell_words.specs.Lines.{is_line_feed, full_parts, without_return, lines_of, is_space, line_words, IsInner, IsBody};
 
 use std::alloc::{AllocError, Global};
 
@@ -20,7 +21,8 @@ pub(crate) fn split_line(text: &[u8]) -> (&[u8], &[u8])
 // What stands before the first LF, and what follows that.
 fn split_part(text: &[u8]) -> (&[u8], &[u8])
     requires { 0 < length text.now }
-    ensures parts { full_parts (slice_split is_line_feed text.now) ≡ result.0.now ∷ full_parts (slice_split is_line_feed result.1.now) }
+    ensures parts { full_parts (slice_split is_line_feed text.now)
+        ≡ result.0.now ∷ full_parts (slice_split is_line_feed result.1.now) }
     ensures shorter { length result.1.now < length text.now }
     ensures within { length result.0.now ≤ length text.now }
 {
@@ -49,9 +51,10 @@ fn without_return(part: &[u8]) -> &[u8]
     }
 }
 
-// The first word, and what follows the space behind it.
+// The first word, and what follows the space after it.
 pub(crate) fn split_word(line: &[u8]) -> (&[u8], Option<&[u8]>)
-    ensures { MatchOption result.1 (words_of line.now ≡ result.0.now ∷ []) (λ rest. words_of line.now ≡ result.0.now ∷ words_of rest.now) }
+    ensures { MatchOption result.1 (line_words line.now ≡ result.0.now ∷ [])
+        (λ rest. line_words line.now ≡ result.0.now ∷ line_words rest.now) }
 {
     let (word, rest) = line.split_at(word_len(line));
     match rest.split_first() {
@@ -68,7 +71,7 @@ fn word_len(line: &[u8]) -> usize
     line.iter().take_while(|byte| **byte != b' ').count()
 }
 
-// The lines of a chunk: their text, how many lines there are with the line `%`, and what follows that.
+// The lines of a chunk: their text, how many there are with the line `%`, and what follows that.
 #[derive(Drop)]
 pub(crate) struct Body<'a> {
     pub(crate) text: Vec<u8>,
@@ -79,9 +82,12 @@ pub(crate) struct Body<'a> {
 // The lines up to a line `%`, or `None` where there is none.
 pub(crate) fn split_body(alloc: Global, text: &[u8]) -> Result<Option<Body<'_>>, AllocError>
     requires { length (lines_of text.now) < 2 ^ 32 }
-    ensures body { IfOk result (λ found. MatchOption found (AllByRecursion IsInner (lines_of text.now)) (λ b. (body : List Bytes)
-        × IsBody (lines_of text.now) body (lines_of b.rest.now) × (b.text.items ≡ text_of_lines body) × (b.lines ≡ length body + 1))) }
-    ensures shorter { IfOk result (λ found. IfSome found (λ b. length b.rest.now < length text.now)) }
+    ensures body { IfOk result (λ found. MatchOption found
+        (AllByRecursion IsInner (lines_of text.now))
+        (λ b. (body : List Bytes) × IsBody (lines_of text.now) body (lines_of b.rest.now)
+        × (b.text.items ≡ text_of_lines body) × (b.lines ≡ length body + 1))) }
+    ensures shorter { IfOk result (λ found. IfSome found
+        (λ b. length b.rest.now < length text.now)) }
 {
     let mut body = Vec::new(alloc);
     let mut lines = 0;

@@ -1,18 +1,23 @@
 //! The reader of scripts, line by line.
-ghost use Rattle.std.specs.Prelude.{◌≡◌, ℕ, ◌+◌, ◌<◌, ◌≤◌, true, List, [], ◌∷◌, ◌++◌, length, is_some, IsSome, None, IfSome, IfOk, IfErr, OnOk, MatchOption, MatchResult};
+ghost use Rattle.std.specs.Prelude.{◌≡◌, ℕ, ◌+◌, ◌<◌, ◌≤◌, true, List, [], ◌∷◌, ◌++◌, length, IsSome, None, IfSome, IfOk, IfErr, OnOk, MatchOption, MatchResult};
 ghost use Rattle.std.specs.List.{AllByRecursion, list_all};
-ghost use Rattle.st_tree.specs.Trees.{Bytes};
+ghost use Rattle.texts.specs.Bytes.{Bytes};
+ghost use Rattle.profile.specs.declared.limits.TheConstants.{COMMAND_LIMIT};
 ghost use Rattle.shell_words.specs.Lines.{lines_of};
-ghost use Rattle.shell_words.specs.Script.{SessionCommands, HasShortText, most_sessions, command_limit, most_script_bytes, is_logout, takes_commands, with_command};
-ghost use Rattle.shell_words.specs.ScriptGrammar.{Says, Adds, Leads, ReadsScript, HasOtherByte, IsPlain, is_user_name, is_script_byte, command_of};
-ghost use Rattle.shell_words.specs.Reading.{sessions_of, IsDraft, IsReading, FaultAt, FaultIn, IsFault};
+ghost use Rattle.shell_words.specs.Names.{is_user_name};
+ghost use Rattle.shell_words.specs.Script.{HasShortText, is_logout, with_next_command};
+ghost use Rattle.shell_words.specs.ScriptGrammar.{BeginsSession, Adds, Leads, ReadsScript, HasOtherByte, IsPlain, is_script_byte};
+ghost use Rattle.shell_words.specs.Rules.{IsScriptFault};
+ghost use Rattle.shell_words.specs.Reading.{command_of, LineSays, sessions_of, IsDraft, IsReading, FaultAt, FaultIn};
 
 use crate::fault::ScriptFault;
 use crate::pieces::{split_body, split_line};
-use crate::script::{CHUNK_LIMIT, Command, SCRIPT_LIMIT, SESSION_LIMIT, Script, SessionScript};
-use crate::table::{Line, Opening, is_user_name, line_of};
-use st_tree::Text;
+use crate::rule::ScriptRule;
+use crate::script::{Command, Script, SessionScript};
+use crate::table::{Opening, ScriptLine, is_user_name, line_of};
+use profile::{CHUNK_LIMIT, SCRIPT_LIMIT, SESSION_LIMIT};
 use std::alloc::{AllocError, Global};
+use texts::Text;
 
 // A session that takes commands.
 #[derive(Drop)]
@@ -32,23 +37,28 @@ struct Reading {
 /// Reads a script. The text may have any bytes.
 ///
 /// # Errors
-/// `Rule` exactly where the text is no script: the line and the rule that it breaks first. `NoMemory` where memory ran out.
+/// `Rule` exactly where the text is no script: the line and the rule that it breaks first.
+/// `NoMemory` where memory ran out.
 pub fn read_script(alloc: Global, text: &[u8]) -> Result<Script, ScriptFault>
-    ensures { MatchResult result (λ script. ReadsScript text.now script) (λ fault. IsFault text.now fault) }
+    ensures { MatchResult result (ReadsScript text.now) (IsScriptFault text.now) }
 {
     if text.len() > SCRIPT_LIMIT {
-        return Err(ScriptFault::Rule { line: 0, rule: 7 });
+        return Err(ScriptFault::too_long());
     }
     if let Some(line) = other_byte(text) {
-        return Err(ScriptFault::Rule { line, rule: 8 });
+        return Err(ScriptFault::Rule {
+            line,
+            rule: ScriptRule::ScriptBytes,
+        });
     }
     read_lines(alloc, text)
 }
 
 // The number of the first line with a byte that no script has.
 fn other_byte(text: &[u8]) -> Option<u32>
-    requires { length text.now ≤ most_script_bytes }
-    ensures { MatchOption result (AllByRecursion IsPlain (lines_of text.now)) (λ line. HasOtherByte (lines_of text.now) line) }
+    requires { length text.now ≤ SCRIPT_LIMIT }
+    ensures { MatchOption result (AllByRecursion IsPlain (lines_of text.now))
+        (HasOtherByte (lines_of text.now)) }
 {
     let mut number = 0;
     let mut rest = text;
@@ -76,8 +86,9 @@ fn is_script_byte(byte: u8) -> bool
 }
 
 fn read_lines(alloc: Global, text: &[u8]) -> Result<Script, ScriptFault>
-    requires { length text.now ≤ most_script_bytes }
-    ensures { MatchResult result (λ script. Leads [] (lines_of text.now) script []) (λ fault. FaultIn (lines_of text.now) fault) }
+    requires { length text.now ≤ SCRIPT_LIMIT }
+    ensures { MatchResult result (λ script. Leads [] (lines_of text.now) script [])
+        (FaultIn (lines_of text.now)) }
 {
     let mut reading = Reading {
         lines: 0,
@@ -102,13 +113,17 @@ impl Reading {
         after: &'a [u8],
     ) -> Result<&'a [u8], ScriptFault>
         requires reading { IsReading self.old }
-        requires size { length line.now ≤ most_script_bytes }
-        requires count { self.old.lines + length (lines_of after.now) < most_script_bytes }
-        ensures ok { IfOk result (λ rest. Adds (sessions_of self.old) (line.now ∷ lines_of after.now) (sessions_of self.new) (lines_of rest.now)) }
+        requires size { length line.now ≤ SCRIPT_LIMIT }
+        requires count { self.old.lines + length (lines_of after.now) < SCRIPT_LIMIT }
+        ensures ok { IfOk result (λ rest. Adds
+            (sessions_of self.old) (line.now ∷ lines_of after.now)
+            (sessions_of self.new) (lines_of rest.now)) }
         ensures reading { OnOk result (IsReading self.new) }
-        ensures lines { IfOk result (λ rest. self.new.lines + length (lines_of rest.now) ≡ self.old.lines + 1 + length (lines_of after.now)) }
+        ensures lines { IfOk result (λ rest. self.new.lines + length (lines_of rest.now)
+            ≡ self.old.lines + 1 + length (lines_of after.now)) }
         ensures shorter { IfOk result (λ rest. length rest.now ≤ length after.now) }
-        ensures err { IfErr result (λ fault. FaultAt (self.old.lines + 1) (sessions_of self.old) line.now (lines_of after.now) fault) }
+        ensures err { IfErr result (FaultAt (self.old.lines + 1) (sessions_of self.old) line.now
+            (lines_of after.now)) }
     {
         let number = self.lines + 1;
         if line.is_empty() {
@@ -118,23 +133,23 @@ impl Reading {
         match line_of(alloc, line)? {
             None => Err(ScriptFault::Rule {
                 line: number,
-                rule: 1,
+                rule: ScriptRule::KnownLine,
             }),
-            Some(Line::OfSession(user)) => {
+            Some(ScriptLine::Session(user)) => {
                 self.begin(alloc, user)?;
                 Ok(after)
             }
-            Some(Line::Orders(command)) => {
+            Some(ScriptLine::Command(command)) => {
                 if self.current.is_none() {
                     return Err(ScriptFault::Rule {
                         line: number,
-                        rule: 2,
+                        rule: ScriptRule::InSession,
                     });
                 }
                 self.order(command, 1)?;
                 Ok(after)
             }
-            Some(Line::Opens(opening)) => self.read_chunk(alloc, opening, after),
+            Some(ScriptLine::Opening(opening)) => self.read_chunk(alloc, opening, after),
         }
     }
 
@@ -147,22 +162,37 @@ impl Reading {
     ) -> Result<&'a [u8], ScriptFault>
         requires reading { IsReading self.old }
         requires name { HasShortText (command_of opening []) }
-        requires count { self.old.lines + length (lines_of after.now) < most_script_bytes }
-        ensures ok { (line : Bytes) → Says line (Line.Opens opening) → IfOk result (λ rest. Adds (sessions_of self.old) (line ∷ lines_of after.now) (sessions_of self.new) (lines_of rest.now)) }
+        requires count { self.old.lines + length (lines_of after.now) < SCRIPT_LIMIT }
+        ensures ok { (line : Bytes) → LineSays line (ScriptLine.Opening opening)
+            → IfOk result (λ rest. Adds
+            (sessions_of self.old) (line ∷ lines_of after.now)
+            (sessions_of self.new) (lines_of rest.now)) }
         ensures reading { OnOk result (IsReading self.new) }
-        ensures lines { IfOk result (λ rest. self.new.lines + length (lines_of rest.now) ≡ self.old.lines + 1 + length (lines_of after.now)) }
+        ensures lines { IfOk result (λ rest. self.new.lines + length (lines_of rest.now)
+            ≡ self.old.lines + 1 + length (lines_of after.now)) }
         ensures shorter { IfOk result (λ rest. length rest.now ≤ length after.now) }
-        ensures err { (line : Bytes) → Says line (Line.Opens opening) → IfErr result (λ fault. FaultAt (self.old.lines + 1) (sessions_of self.old) line (lines_of after.now) fault) }
+        ensures err { (line : Bytes) → LineSays line (ScriptLine.Opening opening)
+            → IfErr result (FaultAt (self.old.lines + 1) (sessions_of self.old) line
+            (lines_of after.now)) }
     {
         let line = self.lines + 1;
         if self.current.is_none() {
-            return Err(ScriptFault::Rule { line, rule: 2 });
+            return Err(ScriptFault::Rule {
+                line,
+                rule: ScriptRule::InSession,
+            });
         }
         let Some(body) = split_body(alloc, after)? else {
-            return Err(ScriptFault::Rule { line, rule: 3 });
+            return Err(ScriptFault::Rule {
+                line,
+                rule: ScriptRule::ChunkEnd,
+            });
         };
         if body.text.len() > CHUNK_LIMIT {
-            return Err(ScriptFault::Rule { line, rule: 4 });
+            return Err(ScriptFault::Rule {
+                line,
+                rule: ScriptRule::ChunkSize,
+            });
         }
         self.order(command_of(opening, Text::of(body.text)), 1 + body.lines)?;
         Ok(body.rest)
@@ -174,8 +204,9 @@ impl Reading {
         requires current { IsSome self.old.current }
         requires short { HasShortText command }
         requires some { 0 < lines }
-        requires count { self.old.lines + lines ≤ most_script_bytes }
-        ensures sessions { OnOk result (sessions_of self.new ≡ with_command (sessions_of self.old) command) }
+        requires count { self.old.lines + lines ≤ SCRIPT_LIMIT }
+        ensures sessions { OnOk result (sessions_of self.new
+            ≡ with_next_command (sessions_of self.old) command) }
         ensures reading { OnOk result (IsReading self.new) }
         ensures lines { OnOk result (self.new.lines ≡ self.old.lines + lines) }
     {
@@ -195,21 +226,29 @@ impl Reading {
     // Begins a session, and ends the one that is open.
     fn begin(&mut self, alloc: Global, user: Text) -> Result<(), ScriptFault>
         requires reading { IsReading self.old }
-        requires count { self.old.lines < most_script_bytes }
+        requires count { self.old.lines < SCRIPT_LIMIT }
         ensures user { OnOk result (is_user_name user ≡ true) }
-        ensures room { OnOk result (length (sessions_of self.old) < most_sessions) }
-        ensures sessions { OnOk result (sessions_of self.new ≡ sessions_of self.old ++ record { user = user; commands = [] } ∷ []) }
+        ensures room { OnOk result (length (sessions_of self.old) < SESSION_LIMIT) }
+        ensures sessions { OnOk result (sessions_of self.new
+            ≡ sessions_of self.old ++ record { user = user; commands = [] } ∷ []) }
         ensures reading { OnOk result (IsReading self.new) }
         ensures lines { OnOk result (self.new.lines ≡ self.old.lines + 1) }
-        ensures err { (line : Bytes) (rest : List Bytes) → Says line (Line.OfSession user) → IfErr result (λ fault. FaultAt (self.old.lines + 1) (sessions_of self.old) line rest fault) }
+        ensures err { (line : Bytes) (rest : List Bytes) → BeginsSession line user
+            → IfErr result (FaultAt (self.old.lines + 1) (sessions_of self.old) line rest) }
     {
         let line = self.lines + 1;
         if !is_user_name(user.bytes()) {
-            return Err(ScriptFault::Rule { line, rule: 6 });
+            return Err(ScriptFault::Rule {
+                line,
+                rule: ScriptRule::UserName,
+            });
         }
         self.close()?;
         if self.ended.len() == SESSION_LIMIT {
-            return Err(ScriptFault::Rule { line, rule: 5 });
+            return Err(ScriptFault::Rule {
+                line,
+                rule: ScriptRule::SessionCount,
+            });
         }
         self.lines = line;
         self.current = Some(Draft {
@@ -222,7 +261,7 @@ impl Reading {
     // Ends the session that is open, if there is one.
     fn close(&mut self) -> Result<(), AllocError>
         requires draft { IsDraft self.old.lines self.old.current }
-        requires count { self.old.lines ≤ command_limit }
+        requires count { self.old.lines ≤ COMMAND_LIMIT }
         ensures sessions { OnOk result (self.new.ended.items ≡ sessions_of self.old) }
         ensures current { OnOk result (self.new.current ≡ None) }
         ensures lines { self.new.lines ≡ self.old.lines }
@@ -246,8 +285,8 @@ fn command_of(opening: Opening, text: Text) -> Command
     ensures { result ≡ command_of opening text }
 {
     match opening {
-        Opening::OfChunk { prints } => Command::Chunk { prints, text },
-        Opening::OfMethod { class_side, class } => Command::Method {
+        Opening::Chunk { prints } => Command::Chunk { prints, text },
+        Opening::Method { class_side, class } => Command::Method {
             class_side,
             class,
             text,

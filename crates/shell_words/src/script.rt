@@ -1,21 +1,10 @@
 //! Scripts, as they are read.
-ghost use Rattle.std.specs.Prelude.{◌≡◌, ◌<◌, ◌≤◌, length};
-ghost use Rattle.shell_words.specs.Script.{SessionCommands, most_sessions, IsWithinLimits};
+ghost use Rattle.std.specs.Prelude.{◌≡◌, ◌≤◌, length};
+ghost use Rattle.profile.specs.declared.limits.TheConstants.{SESSION_LIMIT};
+ghost use Rattle.shell_words.specs.Script.{IsWithinLimits};
 
-use st_tree::Text;
 use std::marker::Model;
-
-/// How many bytes a script has at most.
-pub const SCRIPT_LIMIT: usize = 1_048_576;
-
-/// How many sessions a script has at most.
-pub const SESSION_LIMIT: usize = 16;
-
-/// How many bytes a user name has at most.
-pub const USER_LIMIT: usize = 64;
-
-/// How many bytes the text of a chunk or a method has at most.
-pub const CHUNK_LIMIT: usize = 65_536;
+use texts::Text;
 
 /// A command of a session.
 #[derive(Debug, Drop)]
@@ -25,20 +14,22 @@ pub enum Command {
         prints: bool,
         text: Text,
     },
-    /// Compiles the method whose source is the text into the class that the name refers to, on the class side where
-    /// `class_side` is true.
+    /// Compiles the method whose source is the text into the class that the name refers to, on the
+    /// class side where `class_side` is true.
     Method {
         class_side: bool,
         class: Text,
         text: Text,
     },
-    /// Asks the Stone to keep what the transaction did. Where it does, or nothing was written, the transaction ends.
+    /// Asks the Stone to keep what the transaction did. Where it does, or nothing was written, the
+    /// transaction ends.
     Commit,
     /// Ends the transaction and forgets what it did.
     Abort,
     /// Ends the session.
     Logout,
-    /// Locks the object that the name refers to: for writing where `write` is true, otherwise for reading.
+    /// Locks the object that the name refers to: for writing where `write` is true, otherwise for
+    /// reading.
     Lock {
         write: bool,
         name: Text,
@@ -51,8 +42,8 @@ pub enum Command {
 
 /// What a script asks of one session: a user and the commands in order.
 ///
-/// A contract sees it as a `SessionCommands`. There are fewer than 1,048,576 commands, and no user name, chunk or
-/// method has more than 65,536 bytes.
+/// A contract sees it as a `SessionCommands`. The user name is one, there are fewer than 1,048,576
+/// commands, no chunk or method has more than 65,536 bytes, and no command follows a logout.
 #[derive(Debug, Drop)]
 pub struct SessionScript {
     user: Text,
@@ -103,19 +94,20 @@ pub struct Script {
 
 impl Model for Script {
     ghost use Rattle.std.specs.Prelude.{◌≤◌, List, length};
-    ghost use Rattle.shell_words.specs.Script.{SessionCommands, most_sessions};
+    ghost use Rattle.profile.specs.declared.limits.TheConstants.{SESSION_LIMIT};
+    ghost use Rattle.shell_words.specs.Script.{SessionCommands};
 
     ghost Value = { List SessionCommands };
 
     ghost view = { λ script. script.sessions.items };
 
-    ghost invariant = { λ script. length script.sessions.items ≤ most_sessions };
+    ghost invariant = { λ script. length script.sessions.items ≤ SESSION_LIMIT };
 }
 
 impl Script {
     /// The script of these sessions. It keeps the vector, so it takes no memory.
     pub fn of(sessions: Vec<SessionScript>) -> Script
-        requires { length sessions.items ≤ most_sessions }
+        requires { length sessions.items ≤ SESSION_LIMIT }
         ensures { result ≡ sessions.items }
     {
         Script { sessions }
@@ -124,7 +116,7 @@ impl Script {
     /// The sessions, in order.
     pub fn sessions(&self) -> &[SessionScript]
         ensures sessions { result.now ≡ self.now }
-        ensures limit { length self.now ≤ most_sessions }
+        ensures limit { length self.now ≤ SESSION_LIMIT }
     {
         self.sessions.as_slice()
     }

@@ -1,40 +1,41 @@
 //! The lines that a script may have outside its chunks.
-ghost use Rattle.std.specs.Prelude.{◌≡◌, ◌≢◌, ◌≤◌, List, [], ◌∷◌, length, codes, IfOk, MatchOption};
+ghost use Rattle.std.specs.Prelude.{◌≡◌, ◌∷◌, [], codes, IfOk, MatchOption};
 ghost use Rattle.std.specs.List.{list_all};
 ghost use Rattle.std.specs.Char.{is_ascii_alphanumeric};
-ghost use Rattle.st_tree.specs.Trees.{Bytes};
-ghost use Rattle.st_tree.specs.Tokens.{starts_name, is_name_byte};
-ghost use Rattle.shell_words.specs.Lines.{words_of};
-ghost use Rattle.shell_words.specs.ScriptGrammar.{is_identifier, is_letters_and_digits, is_user_name, Says, command_of};
+ghost use Rattle.texts.specs.Bytes.{Bytes};
+ghost use Rattle.shell_words.specs.Lines.{line_words};
+ghost use Rattle.shell_words.specs.Names.{is_name, is_letters_and_digits, is_user_name};
+ghost use Rattle.shell_words.specs.Reading.{SaysNothing, LineSays};
 
 use crate::pieces::split_word;
-use crate::script::{Command, USER_LIMIT};
-use st_tree::Text;
+use crate::script::Command;
+use profile::USER_LIMIT;
 use std::alloc::{AllocError, Global};
+use texts::{Text, are_name_bytes, starts_name};
 
-/// How a chunk begins.
-#[derive(Debug, Drop)]
-pub enum Opening {
-    /// `printit` where `prints` is true, otherwise `run`.
-    OfChunk { prints: bool },
-    /// `classmethod: NAME` where `class_side` is true, otherwise `method: NAME`.
-    OfMethod { class_side: bool, class: Text },
+// How a chunk begins.
+#[derive(Drop)]
+pub(crate) enum Opening {
+    // `printit` where `prints` is true, otherwise `run`.
+    Chunk { prints: bool },
+    // `classmethod: NAME` where `class_side` is true, otherwise `method: NAME`.
+    Method { class_side: bool, class: Text },
 }
 
-/// A line of a script outside its chunks.
-#[derive(Debug, Drop)]
-pub enum Line {
-    /// `session NAME`, which begins a session of this user.
-    OfSession(Text),
-    /// The first line of a chunk.
-    Opens(Opening),
-    /// A command of one line.
-    Orders(Command),
+// A line of a script outside its chunks.
+#[derive(Drop)]
+pub(crate) enum ScriptLine {
+    // `session NAME`, which begins a session of this user.
+    Session(Text),
+    // The first line of a chunk.
+    Opening(Opening),
+    // A command of one line.
+    Command(Command),
 }
 
 // What the line says, or `None` where it is none of the table's.
-pub(crate) fn line_of(alloc: Global, line: &[u8]) -> Result<Option<Line>, AllocError>
-    ensures { IfOk result (λ found. MatchOption found ((said : Line) → Says line.now said → ⊥) (λ said. Says line.now said)) }
+pub(crate) fn line_of(alloc: Global, line: &[u8]) -> Result<Option<ScriptLine>, AllocError>
+    ensures { IfOk result (λ found. MatchOption found (SaysNothing line.now) (LineSays line.now)) }
 {
     let (first, rest) = split_word(line);
     let Some(rest) = rest else {
@@ -51,58 +52,61 @@ pub(crate) fn line_of(alloc: Global, line: &[u8]) -> Result<Option<Line>, AllocE
     }
 }
 
-fn word_line(word: &[u8]) -> Option<Line>
-    ensures { (line : Bytes) → words_of line ≡ word.now ∷ [] → MatchOption result ((said : Line) → Says line said → ⊥) (λ said. Says line said) }
+fn word_line(word: &[u8]) -> Option<ScriptLine>
+    ensures { (line : Bytes) → line_words line ≡ word.now ∷ []
+        → MatchOption result (SaysNothing line) (LineSays line) }
 {
     if word == b"printit".as_slice() {
-        Some(Line::Opens(Opening::OfChunk { prints: true }))
+        Some(ScriptLine::Opening(Opening::Chunk { prints: true }))
     } else if word == b"run".as_slice() {
-        Some(Line::Opens(Opening::OfChunk { prints: false }))
+        Some(ScriptLine::Opening(Opening::Chunk { prints: false }))
     } else if word == b"commit".as_slice() {
-        Some(Line::Orders(Command::Commit))
+        Some(ScriptLine::Command(Command::Commit))
     } else if word == b"abort".as_slice() {
-        Some(Line::Orders(Command::Abort))
+        Some(ScriptLine::Command(Command::Abort))
     } else if word == b"logout".as_slice() {
-        Some(Line::Orders(Command::Logout))
+        Some(ScriptLine::Command(Command::Logout))
     } else {
         None
     }
 }
 
-fn name_line(alloc: Global, word: &[u8], name: &[u8]) -> Result<Option<Line>, AllocError>
-    ensures { (line : Bytes) → words_of line ≡ word.now ∷ name.now ∷ [] → IfOk result (λ found. MatchOption found ((said : Line) → Says line said → ⊥) (λ said. Says line said)) }
+fn name_line(alloc: Global, word: &[u8], name: &[u8]) -> Result<Option<ScriptLine>, AllocError>
+    ensures { (line : Bytes) → line_words line ≡ word.now ∷ name.now ∷ []
+        → IfOk result (λ found. MatchOption found (SaysNothing line) (LineSays line)) }
 {
     if word == b"session".as_slice() {
         return session_line(alloc, name);
     }
-    if !is_identifier(name) {
+    if !is_name(name) {
         return Ok(None);
     }
-    let name = text_of(alloc, name)?;
+    let name = Text::copy_of(alloc, name)?;
     if word == b"method:".as_slice() {
-        Ok(Some(Line::Opens(Opening::OfMethod {
+        Ok(Some(ScriptLine::Opening(Opening::Method {
             class_side: false,
             class: name,
         })))
     } else if word == b"classmethod:".as_slice() {
-        Ok(Some(Line::Opens(Opening::OfMethod {
+        Ok(Some(ScriptLine::Opening(Opening::Method {
             class_side: true,
             class: name,
         })))
     } else if word == b"unlock".as_slice() {
-        Ok(Some(Line::Orders(Command::Unlock { name })))
+        Ok(Some(ScriptLine::Command(Command::Unlock { name })))
     } else {
         Ok(None)
     }
 }
 
-fn session_line(alloc: Global, name: &[u8]) -> Result<Option<Line>, AllocError>
-    ensures { (line : Bytes) → words_of line ≡ codes "session" ∷ name.now ∷ [] → IfOk result (λ found. MatchOption found ((said : Line) → Says line said → ⊥) (λ said. Says line said)) }
+fn session_line(alloc: Global, name: &[u8]) -> Result<Option<ScriptLine>, AllocError>
+    ensures { (line : Bytes) → line_words line ≡ codes "session" ∷ name.now ∷ []
+        → IfOk result (λ found. MatchOption found (SaysNothing line) (LineSays line)) }
 {
     if name.is_empty() {
         return Ok(None);
     }
-    Ok(Some(Line::OfSession(text_of(alloc, name)?)))
+    Ok(Some(ScriptLine::Session(Text::copy_of(alloc, name)?)))
 }
 
 fn lock_line(
@@ -110,32 +114,25 @@ fn lock_line(
     word: &[u8],
     mode: &[u8],
     name: &[u8],
-) -> Result<Option<Line>, AllocError>
-    ensures { (line : Bytes) → words_of line ≡ word.now ∷ mode.now ∷ name.now ∷ [] → IfOk result (λ found. MatchOption found ((said : Line) → Says line said → ⊥) (λ said. Says line said)) }
+) -> Result<Option<ScriptLine>, AllocError>
+    ensures { (line : Bytes) → line_words line ≡ word.now ∷ mode.now ∷ name.now ∷ []
+        → IfOk result (λ found. MatchOption found (SaysNothing line) (LineSays line)) }
 {
-    if word != b"lock".as_slice() || !is_identifier(name) {
+    if word != b"lock".as_slice() || !is_name(name) {
         return Ok(None);
     }
-    let name = text_of(alloc, name)?;
+    let name = Text::copy_of(alloc, name)?;
     if mode == b"write".as_slice() {
-        Ok(Some(Line::Orders(Command::Lock { write: true, name })))
+        Ok(Some(ScriptLine::Command(Command::Lock { write: true, name })))
     } else if mode == b"read".as_slice() {
-        Ok(Some(Line::Orders(Command::Lock { write: false, name })))
+        Ok(Some(ScriptLine::Command(Command::Lock { write: false, name })))
     } else {
         Ok(None)
     }
 }
 
-fn text_of(alloc: Global, bytes: &[u8]) -> Result<Text, AllocError>
-    ensures { IfOk result (λ text. text ≡ bytes.now) }
-{
-    let mut copy = Vec::new(alloc);
-    copy.extend_from_slice(bytes)?;
-    Ok(Text::of(copy))
-}
-
-fn is_identifier(name: &[u8]) -> bool
-    ensures { result ≡ is_identifier name.now }
+fn is_name(name: &[u8]) -> bool
+    ensures { result ≡ is_name name.now }
 {
     match name.split_first() {
         Some((first, rest)) => starts_name(*first) && are_name_bytes(rest),
@@ -143,7 +140,7 @@ fn is_identifier(name: &[u8]) -> bool
     }
 }
 
-// A letter with letters and digits after it, up to 64.
+// A letter with letters and digits after it, at most 64 in all.
 pub(crate) fn is_user_name(name: &[u8]) -> bool
     ensures { result ≡ is_user_name name.now }
 {
@@ -159,26 +156,8 @@ fn is_letters_and_digits(name: &[u8]) -> bool
     }
 }
 
-fn are_name_bytes(bytes: &[u8]) -> bool
-    ensures { result ≡ list_all is_name_byte bytes.now }
-{
-    bytes.iter().all(|byte| is_name_byte(*byte))
-}
-
 fn are_letters_and_digits(bytes: &[u8]) -> bool
     ensures { result ≡ list_all is_ascii_alphanumeric bytes.now }
 {
     bytes.iter().all(|byte| byte.is_ascii_alphanumeric())
-}
-
-fn starts_name(byte: u8) -> bool
-    ensures { result ≡ starts_name byte }
-{
-    byte.is_ascii_alphabetic() || byte == b'_'
-}
-
-fn is_name_byte(byte: u8) -> bool
-    ensures { result ≡ is_name_byte byte }
-{
-    starts_name(byte) || byte.is_ascii_digit()
 }

@@ -58,7 +58,7 @@ fn shown(alloc: Global, text: &[u8]) -> Result<Vec<u8>, ScriptFault> {
 // The line and the rule that a text breaks.
 fn broken(alloc: Global, text: &[u8]) -> Option<(u32, u8)> {
     match read_script(alloc, text) {
-        Err(ScriptFault::Rule { line, rule }) => Some((line, rule)),
+        Err(ScriptFault::Rule { line, rule }) => Some((line, rule.number())),
         _ => None,
     }
 }

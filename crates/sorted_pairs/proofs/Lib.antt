@@ -1,2 +1,4 @@
+pub mod Below
+pub mod Cases
+mod Found
 mod Places
-mod Search

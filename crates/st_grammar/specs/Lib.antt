@@ -1,2 +1,4 @@
-pub mod Machine
-pub mod TreeOf
+pub mod Tokens
+pub mod Lexed
+pub mod Grammar
+pub mod Fails

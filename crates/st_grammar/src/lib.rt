@@ -1,4 +1,2 @@
-//! The grammar of Smalltalk's chunks and methods as a machine that reads one token after another.
+//! Room: language. Says what tokens and what tree a text has, or where and why it fails. No code.
 #![tactic(auto)]
-
-pub mod laws;

@@ -1,7 +1,7 @@
 -- The spans of a text's tokens ascend.
 use Rattle.std.proofs.Common.{◌≡◌, ℕ, ◌+◌, ◌<◌, ◌≤◌, List, [], ◌∷◌, length, drop, subst, arith, length-drop}
-use Rattle.st_tree.specs.Trees.{Bytes}
-use Rattle.st_tree.specs.Tokens.{Token, Lexes, at_end, after_gap, after_token}
+use Rattle.texts.specs.Bytes.{Bytes}
+use Rattle.st_grammar.specs.Tokens.{Token, Lexes, at_end, after_gap, after_token}
 use Rattle.st_lexer.specs.Spans.{SpansAscend}
 use Rattle.st_lexer.proofs.Sizes.{Inside, inside}
 

@@ -1,4 +1,4 @@
--- A token stays what it is where the text is cut behind it, or behind a token that follows, and a space is put there.
+-- A token stays what it is where the text is cut after it, or after a token that follows, and a space is put there.
 use Rattle.std.proofs.Common.{◌≡◌, ℕ, suc, ◌+◌, ◌<◌, ◌≤◌, ◌^◌, Bool, true, false, not, cond, [], ◌∷◌, ◌++◌, length, take, drop, refl, sym, ap, ◌∙◌, subst, arith, length-drop}
 use Rattle.std.proofs.lemmas.List.{take-append-le, drop-append-le}
 use Rattle.std.proofs.lemmas.Bool.{eqb-true}
@@ -6,11 +6,13 @@ use Rattle.std.proofs.Math.Seq.{drop-drop}
 use Rattle.std.specs.Prelude.{nat_lt, ◌==◌, ◌&&◌, ◌||◌}
 use Rattle.std.specs.List.{prefix_len}
 use Rattle.std.specs.Char.{is_ascii_digit}
-use Rattle.st_tree.specs.Trees.{Bytes}
-use Rattle.st_tree.specs.Tokens.{Kind, Piece, token, bad, p3, number, keyword, identifier, assign, colon, begins, begins_with, is_keyword_end, starts_name, is_name_byte, word, ends_number, number_before, number_in, number_after, number_at, value_of, are_digits, is_radix_digit, piece}
+use Rattle.texts.specs.Bytes.{Bytes}
+use Rattle.texts.specs.NameBytes.{starts_name, is_name_byte}
+use Rattle.profile.specs.declared.integers.TheConstants.{INTEGER_LIMIT}
+use Rattle.st_grammar.specs.Tokens.{Kind, Piece, token, bad, p3, number, keyword, identifier, assign, colon, begins, begins_with, is_keyword_end, word, ends_number, number_before, number_in, number_after, number_at, value_of, are_digits, is_radix_digit, piece}
 use Rattle.st_lexer.proofs.Sizes.{on_cond, and_left}
 
--- what stands behind a token up to the cut begins with the same piece as before
+-- what stands after a token up to the cut begins with the same piece as before
 abbrev pub Follows : Bytes → Bytes → Bytes → Type 0
 Follows [] back more = Unit {0}
 Follows (c ∷ g) back more = piece (c ∷ g ++ 32 ∷ more) ≡ piece (c ∷ g ++ back)
@@ -93,12 +95,12 @@ bad_is_none k n e = cc
 
 before_cut : (m value : ℕ) (g back more : Bytes) (k : Kind) (n : ℕ) → number_before m value (g ++ back) ≡ token k n → number_before m value (g ++ 32 ∷ more) ≡ token k n
 before_cut m value g back more k n h =
-    cond_along (ends_number (g ++ back)) (ends_number (g ++ 32 ∷ more)) (nat_lt value (2 ^ 60)) (token number m) (bad p3) (token k n) (ends_stays g back more) (bad_is_none k n) h
+    cond_along (ends_number (g ++ back)) (ends_number (g ++ 32 ∷ more)) (nat_lt value INTEGER_LIMIT) (token number m) (bad p3) (token k n) (ends_stays g back more) (bad_is_none k n) h
 
 before_len : (m value : ℕ) (after : Bytes) (k : Kind) (n : ℕ) → number_before m value after ≡ token k n → m ≡ n
 before_len m value after k n =
     let P : Piece → Type 0 = λ q. q ≡ token k n → m ≡ n in
-    on_cond P (ends_number after && nat_lt value (2 ^ 60)) (token number m) (bad p3) (λ _ e. token_len number k m n e) (λ _ e. absurd (bad_is_none k n e))
+    on_cond P (ends_number after && nat_lt value INTEGER_LIMIT) (token number m) (bad p3) (λ _ e. token_len number k m n e) (λ _ e. absurd (bad_is_none k n e))
 
 -- a number in a radix, of which so many digits and what follows them are known
 abbrev read_in : (radix m d : ℕ) (digits after : Bytes) → Piece

@@ -2,13 +2,13 @@
 use Rattle.std.proofs.Common.{◌≡◌, ℕ, ◌+◌, ◌<◌, ◌≤◌, List, [], ◌∷◌, ◌++◌, length, take, drop, refl, sym, ap, ◌∙◌, subst, arith, add_assoc, length-drop, length-take, take-append-drop}
 use Rattle.std.proofs.lemmas.List.{drop-append-le}
 use Rattle.std.specs.Prelude.{map}
-use Rattle.st_tree.specs.Trees.{Bytes}
-use Rattle.st_tree.specs.Tokens.{Kind, Token, Piece, gap, token, piece, Lexes, at_end, after_gap, after_token, end_after, moved}
+use Rattle.texts.specs.Bytes.{Bytes}
+use Rattle.st_grammar.specs.Tokens.{Kind, Token, Piece, gap, token, piece, Lexes, at_end, after_gap, after_token, end_after, moved}
 use Rattle.st_lexer.proofs.Sizes.{Inside, inside}
 use Rattle.st_lexer.proofs.Cuts.{Follows}
 use Rattle.st_lexer.proofs.PieceCuts.{token_cut, gap_cut}
 
--- the same text behind so many more bytes
+-- the same text after so many more bytes
 same_moved : (k at n : ℕ) (kind : Kind) (text : Bytes) (ts : List Token) → Lexes (k + at) text (record { kind = kind; from = k + at; to = (k + at) + n } ∷ ts) → Lexes (k + at) text (record { kind = kind; from = k + at; to = k + (at + n) } ∷ ts)
 same_moved k at n kind text ts h = subst (λ (m : ℕ). Lexes (k + at) text (record { kind = kind; from = k + at; to = m } ∷ ts)) (add_assoc k at n) h
 

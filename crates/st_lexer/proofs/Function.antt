@@ -1,8 +1,8 @@
 -- The function that gives a text's tokens gives what the relations say.
 use Rattle.std.proofs.Common.{◌≡◌, ℕ, zero, suc, ◌+◌, ◌-◌, ◌<◌, List, [], ◌∷◌, length, drop, refl, ap, subst, ◌∙◌, arith, Ok, Err}
-use Rattle.st_tree.specs.Trees.{Bytes}
-use Rattle.st_tree.specs.Tokens.{Token, Lexes, at_end, after_gap, after_token, Stops, here, past_gap, past_token, Rule, Piece, gap, token}
-use Rattle.st_tree.specs.Lexed.{onto_tokens, behind_piece, tokens_behind}
+use Rattle.texts.specs.Bytes.{Bytes}
+use Rattle.st_grammar.specs.Tokens.{Token, Lexes, at_end, after_gap, after_token, Stops, here, past_gap, past_token, TokenRule, Piece, gap, token}
+use Rattle.st_grammar.specs.Lexed.{onto_tokens, behind_piece, tokens_behind}
 use Rattle.st_lexer.proofs.Sizes.{Inside, inside}
 
 plus_zero : (n : ℕ) → n ≡ n + 0
@@ -40,7 +40,7 @@ gives_tokens {at = at} {text = b ∷ rest} (after_token {n = n} {k = k} e h) =
     ap (λ p. behind_piece at p (λ skip. tokens_behind (suc at) skip rest)) e
     ∙ ap (onto_tokens (record { kind = k; from = at; to = at + n })) (past at n b rest fits.0 ∙ gives_tokens h)
 
-pub gives_fault : {at : ℕ} {text : Bytes} {place : ℕ} {r : Rule} → Stops at text place r → tokens_behind at 0 text ≡ Err (record { place = place; rule = r })
+pub gives_fault : {at : ℕ} {text : Bytes} {place : ℕ} {r : TokenRule} → Stops at text place r → tokens_behind at 0 text ≡ Err (record { place = place; rule = r })
 gives_fault {text = []} (here e) = absurd cc
 gives_fault {at = at} {text = b ∷ rest} (here e) = ap (λ p. behind_piece at p (λ skip. tokens_behind (suc at) skip rest)) e
 gives_fault {text = []} (past_gap e h) = absurd cc

@@ -3,8 +3,9 @@ use Rattle.std.proofs.Common.{◌≡◌, ℕ, suc, ◌+◌, ◌<◌, Bool, true,
 use Rattle.std.specs.Prelude.{nat_lt, ◌&&◌}
 use Rattle.std.specs.List.{prefix_len}
 use Rattle.std.proofs.lemmas.Bool.{ne_eqb, lt-ltb}
-use Rattle.st_tree.specs.Trees.{Bytes}
-use Rattle.st_tree.specs.Tokens.{keywords, name_goes_on, is_keyword_end, starts_name, is_name_byte}
+use Rattle.texts.specs.Bytes.{Bytes}
+use Rattle.texts.specs.NameBytes.{starts_name, is_name_byte}
+use Rattle.st_grammar.specs.Tokens.{keywords, name_goes_on, is_keyword_end}
 
 goes_on : (here b : ℕ) → 0 < here → name_goes_on here b ≡ is_name_byte b
 goes_on here b some = ap (λ v. cond v (starts_name b) (is_name_byte b)) (ne_eqb here 0 (λ e. omega arith))
@@ -13,7 +14,7 @@ and_false : (a : Bool) → (a && false) ≡ false
 and_false true = refl
 and_false false = refl
 
--- what stands behind the name that a text begins with
+-- what stands after the name that a text begins with
 abbrev pub behind_name : Bytes → Bytes
 behind_name text = drop (prefix_len is_name_byte text) text
 
@@ -25,7 +26,7 @@ behind_cons b bs h =
 behind_none : (b : ℕ) (bs : Bytes) → is_name_byte b ≡ false → behind_name (b ∷ bs) ≡ b ∷ bs
 behind_none b bs h = ap (λ v. drop (cond v (1 + prefix_len is_name_byte bs) 0) (b ∷ bs)) h
 
--- a name that has begun makes a keyword exactly where a keyword's end stands behind it
+-- a name that has begun makes a keyword exactly where a keyword's end stands after it
 keyword_by : (here b : ℕ) (bs : Bytes) (v : Bool) → 0 < here → is_name_byte b ≡ v → keywords here (b ∷ bs) ≡ cond v (keywords (here + 1) bs) (cond (nat_lt 0 here && is_keyword_end (b ∷ bs)) (here + 1 + keywords 0 bs) 0)
 keyword_by here b bs v some e = ap (λ t. cond t (keywords (here + 1) bs) (cond (nat_lt 0 here && is_keyword_end (b ∷ bs)) (here + 1 + keywords 0 bs) 0)) (goes_on here b some ∙ e)
 

@@ -12,3 +12,4 @@ pub mod SymbolCuts
 pub mod PieceCuts
 pub mod Fronts
 pub mod Ascending
+pub mod NumberTokens

@@ -1,10 +1,13 @@
--- Each piece of a text stays what it is where the text is cut behind it, or behind a token that follows.
+-- Each piece of a text stays what it is where the text is cut after it, or after a token that follows.
 use Rattle.std.proofs.Common.{◌≡◌, ℕ, zero, suc, ◌+◌, ◌<◌, ◌≤◌, ◌^◌, false, Option, Some, None, [], ◌∷◌, ◌++◌, length, take, drop, refl, ap, ◌∙◌, subst, arith}
 use Rattle.std.specs.Prelude.{nat_lt, nat_le, ◌==◌, ◌&&◌}
 use Rattle.std.specs.List.{prefix_len}
 use Rattle.std.specs.Char.{is_ascii_digit}
-use Rattle.st_tree.specs.Trees.{Bytes}
-use Rattle.st_tree.specs.Tokens.{Kind, Piece, end, gap, token, bad, p2, p3, string, binary, character, colon, assign, symbol, keyword, identifier, number, Class, blank, comment, name, digit, quote, dollar, hash, operator, colon_mark, other, begins, begins_with, comment_end, string_end, string_bytes, is_keyword_end, starts_name, is_name_byte, is_operator, is_radix_digit, word, ends_number, number_before, number_in, number_after, number_at, value_of, are_digits, sized, symbol_name, quoted_symbol, binary_len, symbol_at, character_at, comment_to, string_to, colon_before, mark, class_of, piece_in, piece}
+use Rattle.texts.specs.Bytes.{Bytes}
+use Rattle.texts.specs.NameBytes.{starts_name, is_name_byte}
+use Rattle.profile.specs.declared.integers.TheConstants.{INTEGER_LIMIT}
+use Rattle.profile.specs.declared.limits.TheConstants.{SYMBOL_LIMIT}
+use Rattle.st_grammar.specs.Tokens.{Kind, Piece, end, gap, token, bad, p2, p3, string, binary, character, colon, assign, symbol, keyword, identifier, number, Class, blank, comment, name, digit, quote, dollar, hash, operator, colon_mark, other, begins, begins_with, comment_end, string_end, string_bytes, is_keyword_end, is_operator, is_radix_digit, word, ends_number, number_before, number_in, number_after, number_at, value_of, are_digits, sized, symbol_name, quoted_symbol, binary_len, symbol_at, character_at, comment_to, string_to, colon_before, mark, class_of, piece_in, piece}
 use Rattle.st_lexer.proofs.Sizes.{on_cond, Inside, inside}
 use Rattle.st_lexer.proofs.Cuts.{Follows, token_len, word_cut, number_cut}
 use Rattle.st_lexer.proofs.QuoteCuts.{SameString, string_cut, comment_cut}
@@ -76,7 +79,7 @@ solid_word : (text : Bytes) → Solid (word text)
 solid_word text = on_cond Solid (is_keyword_end (drop (prefix_len is_name_byte text) text)) (token keyword (prefix_len is_name_byte text + 1)) (token identifier (prefix_len is_name_byte text)) (λ _. tt) (λ _. tt)
 
 solid_before : (n value : ℕ) (after : Bytes) → Solid (number_before n value after)
-solid_before n value after = on_cond Solid (ends_number after && nat_lt value (2 ^ 60)) (token number n) (bad p3) (λ _. tt) (λ _. tt)
+solid_before n value after = on_cond Solid (ends_number after && nat_lt value INTEGER_LIMIT) (token number n) (bad p3) (λ _. tt) (λ _. tt)
 
 solid_in : (radix n : ℕ) (rest : Bytes) → Solid (number_in radix n rest)
 solid_in radix n rest = on_cond Solid (are_digits radix (take (prefix_len is_radix_digit rest) rest))
@@ -92,7 +95,7 @@ solid_string (Some n) = tt
 solid_string None = tt
 
 solid_sized : (size n : ℕ) → Solid (sized size n)
-solid_sized size n = on_cond Solid (nat_le size 1000) (token symbol n) (bad p3) (λ _. tt) (λ _. tt)
+solid_sized size n = on_cond Solid (nat_le size SYMBOL_LIMIT) (token symbol n) (bad p3) (λ _. tt) (λ _. tt)
 
 solid_quoted : (size : ℕ) (o : Option ℕ) → Solid (quoted_symbol size o)
 solid_quoted size (Some n) = solid_sized size (n + 2)

@@ -1,8 +1,8 @@
--- What ends in quotes stays what it is where the text is cut behind it.
+-- What ends in quotes stays what it is where the text is cut after it.
 use Rattle.std.proofs.Common.{◌≡◌, ℕ, suc, ◌+◌, ◌<◌, ◌≤◌, Bool, true, false, cond, Option, Some, None, [], ◌∷◌, ◌++◌, length, refl, sym, ap, ◌∙◌, arith}
 use Rattle.std.specs.Prelude.{◌==◌}
-use Rattle.st_tree.specs.Trees.{Bytes}
-use Rattle.st_tree.specs.Tokens.{later, comment_end, string_end, string_bytes}
+use Rattle.texts.specs.Bytes.{Bytes}
+use Rattle.st_grammar.specs.Tokens.{later, comment_end, string_end, string_bytes}
 use Rattle.st_lexer.proofs.Sizes.{on_cond}
 
 some_is : (a b : ℕ) → Some a ≡ Some b → a ≡ b
@@ -32,7 +32,7 @@ comment_cut (c ∷ f) back other m e fits =
       | false ↦ λ h. let k = later_one (comment_end (f ++ back)) m h in ap (later 1) (comment_cut f back other k.0 k.1.0 (omega (arith, k.1.1))) ∙ ap Some k.1.1
     ] e
 
--- a string that ends in the front of a text ends there whatever follows a space behind that front
+-- a string that ends in the front of a text ends there whatever follows a space after that front
 pub record SameString (quoted : Bool) (f back more : Bytes) (m : ℕ) : Type 0 where
   pub ends : string_end quoted (f ++ 32 ∷ more) ≡ Some m
   pub bytes : string_bytes quoted (f ++ 32 ∷ more) ≡ string_bytes quoted (f ++ back)
@@ -50,7 +50,7 @@ plain_bytes : (v : Bool) (c : ℕ) (f back more : Bytes) → string_bytes v (f +
 plain_bytes true c f back more h = h
 plain_bytes false c f back more h = ap (λ l. c ∷ l) h
 
--- the same behind a quote, by whether another follows
+-- the same after a quote, by whether another follows
 abbrev SameBy : Bool → Bytes → Bytes → Bytes → ℕ → Type 0
 SameBy v f back more m = (cond v (later 1 (string_end false (f ++ 32 ∷ more))) (Some 0) ≡ Some m) × (cond v (39 ∷ string_bytes false (f ++ 32 ∷ more)) [] ≡ cond v (39 ∷ string_bytes false (f ++ back)) [])
 

@@ -2,8 +2,8 @@
 use Rattle.std.proofs.Common.{◌≡◌, ℕ, ◌+◌, ◌<◌, ◌≤◌, Bool, true, false, cond, Option, Some, None, [], ◌∷◌, length, get_or, drop, refl, sym, ap, ◌∙◌, arith, zero-add, add_assoc}
 use Rattle.std.specs.Prelude.{nat_lt, ◌==◌, ◌&&◌}
 use Rattle.std.proofs.Math.ListN.{drop_of_length-le}
-use Rattle.st_tree.specs.Trees.{Bytes}
-use Rattle.st_tree.specs.Tokens.{later, string_end, string_bytes, keywords, name_goes_on, is_keyword_end}
+use Rattle.texts.specs.Bytes.{Bytes}
+use Rattle.st_grammar.specs.Tokens.{later, string_end, string_bytes, keywords, name_goes_on, is_keyword_end}
 use Rattle.st_lexer.proofs.Places.{from_place}
 
 pub later_zero : (o : Option ℕ) → o ≡ later 0 o
@@ -63,7 +63,7 @@ string_quote text i size h e s =
       small = omega (arith, s.small);
     }
 
--- a quote behind it, so that both are one
+-- a quote after it, so that both are one
 pub string_doubled : (text : Bytes) (i size : ℕ) → i < length text → (get_or text i 0 == 39) ≡ true → InString text i size true → InString text (i + 1) (size + 1) false
 string_doubled text i size h e s =
     let ends : string_end true (drop i text) ≡ later 1 (string_end false (drop (i + 1) text)) = ends_quoted text i h ∙ ap (λ q. cond q (later 1 (string_end false (drop (i + 1) text))) (Some 0)) e in
@@ -75,7 +75,7 @@ string_doubled text i size h e s =
       small = omega (arith, s.small);
     }
 
--- another byte behind it, so that it was the end
+-- another byte after it, so that it was the end
 pub string_ended : (text : Bytes) (i size : ℕ) → i < length text → (get_or text i 0 == 39) ≡ false → InString text i size true → (string_end false text ≡ Some i) × (length (string_bytes false text) ≡ size)
 string_ended text i size h e s =
     let ends : string_end true (drop i text) ≡ Some 0 = ends_quoted text i h ∙ ap (λ q. cond q (later 1 (string_end false (drop (i + 1) text))) (Some 0)) e in

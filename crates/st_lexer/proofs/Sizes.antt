@@ -4,8 +4,11 @@ use Rattle.std.specs.Prelude.{nat_lt, nat_le, ◌==◌, ◌&&◌}
 use Rattle.std.specs.List.{prefix_len}
 use Rattle.std.specs.Char.{is_ascii_digit}
 use Rattle.std.proofs.lemmas.List.Sums.{prefix_len-le-length}
-use Rattle.st_tree.specs.Trees.{Bytes}
-use Rattle.st_tree.specs.Tokens.{Piece, end, gap, token, bad, Class, blank, comment, name, digit, quote, dollar, hash, operator, colon_mark, other, later, begins, begins_with, comment_end, string_end, string_bytes, keywords, name_goes_on, is_keyword_end, starts_name, is_name_byte, is_blank, is_operator, is_second, word, number_before, number_in, number_after, value_of, are_digits, ends_number, is_radix_digit, sized, symbol_name, quoted_symbol, binary_len, symbol_at, character_at, comment_to, string_to, colon_before, mark, class_of, piece_in, piece, keyword, identifier}
+use Rattle.texts.specs.Bytes.{Bytes}
+use Rattle.texts.specs.NameBytes.{starts_name, is_name_byte}
+use Rattle.profile.specs.declared.integers.TheConstants.{INTEGER_LIMIT}
+use Rattle.profile.specs.declared.limits.TheConstants.{SYMBOL_LIMIT}
+use Rattle.st_grammar.specs.Tokens.{Piece, end, gap, token, bad, Class, blank, comment, name, digit, quote, dollar, hash, operator, colon_mark, other, later, begins, begins_with, comment_end, string_end, string_bytes, keywords, name_goes_on, is_keyword_end, is_blank, is_operator, is_second, word, number_before, number_in, number_after, value_of, are_digits, ends_number, is_radix_digit, sized, symbol_name, quoted_symbol, binary_len, symbol_at, character_at, comment_to, string_to, colon_before, mark, class_of, piece_in, piece, keyword, identifier}
 
 -- a choice has what both its sides have
 pub on_cond : {X : Type 0} (P : X → Type 0) (t : Bool) (x y : X) → (t ≡ true → P x) → (t ≡ false → P y) → P (cond t x y)
@@ -88,7 +91,7 @@ word_inside b rest h =
     (λ _. (some, most))
 
 number_before_inside : (len n value : ℕ) (after : Bytes) → 0 < n → n ≤ len → Inside len (number_before n value after)
-number_before_inside len n value after some most = on_cond (Inside len) (ends_number after && nat_lt value (2 ^ 60)) _ _ (λ _. (some, most)) (λ _. tt)
+number_before_inside len n value after some most = on_cond (Inside len) (ends_number after && nat_lt value INTEGER_LIMIT) _ _ (λ _. (some, most)) (λ _. tt)
 
 number_in_inside : (len radix n : ℕ) (rest : Bytes) → 0 < n → n + length rest ≤ len → Inside len (number_in radix n rest)
 number_in_inside len radix n rest some most =
@@ -104,7 +107,7 @@ number_after_inside n text some most = on_cond (Inside (length text)) (begins_wi
     (λ _. number_before_inside (length text) n (value_of 10 (take n text)) (drop n text) some most)
 
 sized_inside : (len size n : ℕ) → 0 < n → n ≤ len → Inside len (sized size n)
-sized_inside len size n some most = on_cond (Inside len) (nat_le size 1000) _ _ (λ _. (some, most)) (λ _. tt)
+sized_inside len size n some most = on_cond (Inside len) (nat_le size SYMBOL_LIMIT) _ _ (λ _. (some, most)) (λ _. tt)
 
 symbol_name_fits : (rest : Bytes) → symbol_name rest ≤ length rest
 symbol_name_fits rest = let P : ℕ → Type 0 = λ n. n ≤ length rest in

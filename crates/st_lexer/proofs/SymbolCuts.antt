@@ -1,11 +1,13 @@
--- A symbol stays what it is where the text is cut behind it, or behind a token that follows.
+-- A symbol stays what it is where the text is cut after it, or after a token that follows.
 use Rattle.std.proofs.Common.{◌≡◌, ℕ, zero, suc, ◌+◌, ◌<◌, ◌≤◌, Bool, true, false, cond, Option, Some, None, [], ◌∷◌, ◌++◌, length, drop, refl, sym, ap, ◌∙◌, subst, arith}
 use Rattle.std.proofs.lemmas.List.{drop-append-le}
 use Rattle.std.proofs.lemmas.Bool.{eqb-true}
 use Rattle.std.specs.Prelude.{nat_lt, nat_le, ◌==◌, ◌&&◌, ◌||◌}
 use Rattle.std.specs.List.{prefix_len}
-use Rattle.st_tree.specs.Trees.{Bytes}
-use Rattle.st_tree.specs.Tokens.{Kind, Rule, Piece, token, bad, p2, p3, symbol, open_array, keyword, identifier, Class, name, begins, begins_with, string_end, string_bytes, keywords, name_goes_on, is_keyword_end, starts_name, is_name_byte, is_blank, is_operator, is_second, word, sized, symbol_name, quoted_symbol, binary_len, symbol_at, class_of, piece_in, piece}
+use Rattle.texts.specs.Bytes.{Bytes}
+use Rattle.texts.specs.NameBytes.{starts_name, is_name_byte}
+use Rattle.profile.specs.declared.limits.TheConstants.{SYMBOL_LIMIT}
+use Rattle.st_grammar.specs.Tokens.{Kind, TokenRule, Piece, token, bad, p2, p3, symbol, open_array, keyword, identifier, Class, name, begins, begins_with, string_end, string_bytes, keywords, name_goes_on, is_keyword_end, is_blank, is_operator, is_second, word, sized, symbol_name, quoted_symbol, binary_len, symbol_at, class_of, piece_in, piece}
 use Rattle.st_lexer.proofs.Sizes.{on_cond, binary_some, first_counts}
 use Rattle.st_lexer.proofs.Cuts.{Follows, token_len, prefix_cut, keyword_end_stays, keyword_end_stays_none}
 use Rattle.st_lexer.proofs.QuoteCuts.{SameString, string_cut}
@@ -36,7 +38,7 @@ name_class c h = let P : Class → Type 0 = λ k. k ≡ name in
     on_cond P (c == 34) _ _ (λ e. absurd (not_at c 34 refl h e)) (λ _.
     on_cond P (starts_name c) _ _ (λ _. refl) (λ e. absurd (true_not_false (starts_name c) h e))))
 
--- the keywords behind a byte that begins a name
+-- the keywords after a byte that begins a name
 first_is : (c : ℕ) (bs : Bytes) → starts_name c ≡ true → keywords 0 (c ∷ bs) ≡ keywords 1 bs
 first_is c bs h = ap (λ v. cond v (keywords 1 bs) 0) h
 
@@ -121,7 +123,7 @@ keywords_cut here (c ∷ f) back more (suc m) e some fits same =
           (λ p. let deep : keywords 0 (f ++ 32 ∷ more) ≡ 0 + m = keywords_cut 0 f back more m (omega (arith, l)) (omega arith) (omega arith) same in omega (arith, deep)) l same)
     ] e
 
--- names and keywords behind a `#`
+-- names and keywords after a `#`
 positive : (k : ℕ) → (k == 0) ≡ false → 0 < k
 positive zero h = absurd (true_not_false true refl h)
 positive (suc k) h = omega arith
@@ -145,12 +147,12 @@ name_by false c g back more n t starts h fits same =
     let not_none : (n == 0) ≡ false = subst (λ (k : ℕ). (k == 0) ≡ false) h t in
     ap (λ k. cond (k == 0) (prefix_len is_name_byte (c ∷ g ++ 32 ∷ more)) k) is ∙ ap (λ v. cond v (prefix_len is_name_byte (c ∷ g ++ 32 ∷ more)) n) not_none
 
-pub bad_none : (r : Rule) (k : Kind) (n : ℕ) → bad r ≡ token k n → ⊥
+pub bad_none : (r : TokenRule) (k : Kind) (n : ℕ) → bad r ≡ token k n → ⊥
 bad_none r k n e = cc
 
 sized_len : (size n : ℕ) (k : Kind) (m : ℕ) → sized size n ≡ token k m → n ≡ m
 sized_len size n k m h = let P : Piece → Type 0 = λ q. q ≡ token k m → n ≡ m in
-    on_cond P (nat_le size 1000) (token symbol n) (bad p3) (λ _ e. token_len symbol k n m e) (λ _ e. absurd (bad_none p3 k m e)) h
+    on_cond P (nat_le size SYMBOL_LIMIT) (token symbol n) (bad p3) (λ _ e. token_len symbol k n m e) (λ _ e. absurd (bad_none p3 k m e)) h
 
 named_cut : (c : ℕ) (g back more : Bytes) (k : Kind) (m : ℕ) → starts_name c ≡ true → sized (symbol_name (c ∷ g ++ back)) (symbol_name (c ∷ g ++ back) + 1) ≡ token k (suc m)
     → m ≤ length (c ∷ g) → Follows (drop m (c ∷ g)) back more → sized (symbol_name (c ∷ g ++ 32 ∷ more)) (symbol_name (c ∷ g ++ 32 ∷ more) + 1) ≡ token k (suc m)
@@ -161,7 +163,7 @@ named_cut c g back more k m starts h fits same =
     let both : symbol_name (c ∷ g ++ 32 ∷ more) ≡ symbol_name (c ∷ g ++ back) = new ∙ sym is in
     ap (λ s. sized s (s + 1)) both ∙ h
 
--- strings and operators behind a `#`
+-- strings and operators after a `#`
 quoted_cut : (o : Option ℕ) (g back more : Bytes) (k : Kind) (m : ℕ) → string_end false (g ++ back) ≡ o → quoted_symbol (length (string_bytes false (g ++ back))) o ≡ token k (suc m)
     → m ≤ suc (length g) → quoted_symbol (length (string_bytes false (g ++ 32 ∷ more))) (string_end false (g ++ 32 ∷ more)) ≡ token k (suc m)
 quoted_cut (Some j) g back more k m e h fits =

@@ -1,3 +1,4 @@
-pub use Rattle.st_tree.specs.Tokens as Tokens
+pub use Rattle.st_grammar.specs.Tokens as Tokens
 pub mod Views
 pub mod Spans
+pub mod Numbers

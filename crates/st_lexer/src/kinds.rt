@@ -1,3 +1,4 @@
+//! The kinds of token, tokens, and why a text has none.
 ghost use Rattle.std.specs.Prelude.{◌≡◌};
 ghost use Rattle.st_lexer.specs.declared.kinds.LexFault.TheVariants.{NoMemory};
 
@@ -45,28 +46,28 @@ pub enum TokenKind {
     OpenArray,
 }
 
-/// A token of a text: `start` is the offset of its first byte and `end` the one behind its last.
+/// A token of a text: `start` is the offset of its first byte and `end` the one after its last.
 #[derive(Clone, Copy, Debug, PartialEq, Eq)]
 pub struct Token {
     /// What kind of token it is.
     pub kind: TokenKind,
     /// The offset of its first byte.
     pub start: u32,
-    /// The offset behind its last byte.
+    /// The offset after its last byte.
     pub end: u32,
 }
 
 /// Why a text has no tokens.
 #[derive(Clone, Copy, Debug, PartialEq, Eq, Error)]
 pub enum LexFault {
-    /// A bad token begins at offset `at`. It breaks rule 1 (no token begins with this byte), rule 2 (a string,
-    /// comment, character or symbol without its end, or a `#` with which nothing begins) or rule 3 (a number
-    /// that isn't of the form or is too large, a symbol that is too long).
+    /// A bad token begins at offset `at`. P1: no token begins with this byte. P2: a string,
+    /// comment, character or symbol without its end, or a `#` with which nothing begins. P3: a
+    /// number that isn't of the form or is too large, or a symbol that is too long.
     #[error("P{rule} at {at}")]
     Bad {
         /// The offset where the bad token begins.
         at: u32,
-        /// 1, 2 or 3.
+        /// The number that is printed after `P`, 1 to 3.
         rule: u8,
     },
     /// Memory ran out.

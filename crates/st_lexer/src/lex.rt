@@ -1,6 +1,7 @@
+//! The tokens of a text, piece by piece.
 ghost use Rattle.std.specs.Prelude.{◌≡◌, ◌^◌, ◌<◌, length, IfOk, IfErr};
-ghost use Rattle.st_tree.specs.Tokens.{Lexes};
-ghost use Rattle.st_lexer.specs.Views.{tokens_of, IsFault};
+ghost use Rattle.st_grammar.specs.Tokens.{Lexes};
+ghost use Rattle.st_lexer.specs.Views.{tokens_seen, IsFault};
 
 use crate::kinds::{LexFault, Token};
 use crate::pieces::{Piece, piece_from};
@@ -10,11 +11,11 @@ use std::alloc::Global;
 ///
 /// # Errors
 ///
-/// `Bad` exactly where the text has a bad token: the first one's offset and its rule. `NoMemory` where memory ran
-/// out, of which the contract says no more.
+/// `Bad` exactly where the text has a bad token: the first one's offset and its rule. `NoMemory`
+/// where memory ran out, of which the contract says no more.
 pub fn tokens(alloc: Global, text: &[u8]) -> Result<Vec<Token>, LexFault>
     requires { length text.now < 2 ^ 32 }
-    ensures tokens { IfOk result (λ v. Lexes 0 text.now (tokens_of v.items)) }
+    ensures tokens { IfOk result (λ v. Lexes 0 text.now (tokens_seen v.items)) }
     ensures fault { IfErr result (IsFault text.now) }
 {
     let mut tokens = Vec::new(alloc);

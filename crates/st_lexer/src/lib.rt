@@ -1,4 +1,4 @@
-//! The lexer of Smalltalk: it cuts a text into its tokens, or says at which byte it can't and why.
+//! Room: language. Takes a text; gives its tokens, or the first bad one. Knows nothing of trees.
 #![tactic(auto)]
 
 mod kinds;
@@ -9,7 +9,9 @@ mod pieces;
 mod quotes;
 #[cfg(test)]
 mod tests;
+mod token_values;
 mod words;
 
 pub use kinds::{LexFault, Token, TokenKind};
 pub use lex::tokens;
+pub use token_values::{character_value, number_value, string_value, symbol_value};

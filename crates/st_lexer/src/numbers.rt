@@ -1,16 +1,18 @@
 //! Numbers.
-ghost use Rattle.std.specs.Prelude.{◌≡◌, ◌+◌, ◌^◌, ◌<◌, ◌≤◌, length, nat_lt, nat_le, ◌&&◌, MatchOption};
+ghost use Rattle.std.specs.Prelude.{◌≡◌, ◌+◌, ◌^◌, ◌<◌, ◌≤◌, length, nat_lt, nat_le, ◌&&◌};
+ghost use Rattle.std.specs.Prelude.{MatchOption};
 ghost use Rattle.std.specs.List.{prefix_len, list_all};
 ghost use Rattle.std.specs.Char.{is_ascii_digit};
-ghost use Rattle.st_tree.specs.Tokens.{is_radix_digit, digit_value, value_of, ends_number, number_before, are_digits, number_in, number_after, number_at};
+ghost use Rattle.profile.specs.declared.integers.TheConstants.{INTEGER_LIMIT};
+ghost use Rattle.st_grammar.specs.Tokens.{is_radix_digit, digit_value, value_of, ends_number};
+ghost use Rattle.st_grammar.specs.Tokens.{number_before, are_digits, number_in, number_after};
+ghost use Rattle.st_grammar.specs.Tokens.{number_at};
 ghost use Rattle.st_lexer.specs.Views.{piece_seen};
 
 use crate::kinds::TokenKind;
-use crate::pieces::{Piece, Rule};
+use crate::pieces::{Piece, TokenRule};
 use crate::words::{is_at, is_digit_at, starts_name_at};
-
-/// The largest number that a text can write.
-const LARGEST: u64 = 1_152_921_504_606_846_975;
+use profile::INTEGER_LIMIT;
 
 fn is_radix_digit(byte: u8) -> bool
     ensures { result ≡ is_radix_digit byte }
@@ -18,7 +20,7 @@ fn is_radix_digit(byte: u8) -> bool
     byte.is_ascii_digit() || byte.is_ascii_uppercase()
 }
 
-fn digits_len(text: &[u8]) -> usize
+pub(crate) fn digits_len(text: &[u8]) -> usize
     ensures len { result ≡ prefix_len is_ascii_digit text.now }
     ensures within { result ≤ length text.now }
 {
@@ -53,15 +55,16 @@ fn digit_value(byte: u8) -> u8
 }
 
 // The number that the digits stand for, or `None` where it is too large.
-fn value_of(radix: u64, digits: &[u8]) -> Option<u64>
+pub(crate) fn value_of(radix: u64, digits: &[u8]) -> Option<u64>
     requires low { 1 ≤ radix }
     requires high { radix ≤ 36 }
-    ensures { MatchOption result (2 ^ 60 ≤ value_of radix digits.now) (λ v. (value_of radix digits.now ≡ v) × (v < 2 ^ 60)) }
+    ensures { MatchOption result (INTEGER_LIMIT ≤ value_of radix digits.now)
+        (λ v. (value_of radix digits.now ≡ v) × (v < INTEGER_LIMIT)) }
 {
     let mut value = 0;
     for b in digits {
         let digit = u64::from(digit_value(*b));
-        if value > (LARGEST - digit) / radix {
+        if value > (INTEGER_LIMIT - 1 - digit) / radix {
             return None;
         }
         value = value * radix + digit;
@@ -72,7 +75,7 @@ fn value_of(radix: u64, digits: &[u8]) -> Option<u64>
 fn is_small(radix: u64, digits: &[u8]) -> bool
     requires low { 1 ≤ radix }
     requires high { radix ≤ 36 }
-    ensures { result ≡ nat_lt (value_of radix digits.now) (2 ^ 60) }
+    ensures { result ≡ nat_lt (value_of radix digits.now) INTEGER_LIMIT }
 {
     value_of(radix, digits).is_some()
 }
@@ -92,7 +95,7 @@ fn number_before(len: usize, radix: u64, digits: &[u8], after: &[u8]) -> Piece
     if ends_number(after) && is_small(radix, digits) {
         Piece::Word(TokenKind::Number, len)
     } else {
-        Piece::Wrong(Rule::NoForm)
+        Piece::Wrong(TokenRule::NoForm)
     }
 }
 
@@ -124,7 +127,7 @@ fn number_in(radix: u64, len: usize, rest: &[u8]) -> Piece
     if are_digits(radix, digits) {
         number_before(len + digits_len, radix, digits, after)
     } else {
-        Piece::Wrong(Rule::NoForm)
+        Piece::Wrong(TokenRule::NoForm)
     }
 }
 
@@ -139,7 +142,7 @@ fn number_after(len: usize, text: &[u8]) -> Piece
     }
     match value_of(10, &text[..len]) {
         Some(radix) => number_in(radix, len + 1, &text[len + 1..]),
-        None => Piece::Wrong(Rule::NoForm),
+        None => Piece::Wrong(TokenRule::NoForm),
     }
 }
 

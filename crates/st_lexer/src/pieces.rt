@@ -1,6 +1,9 @@
 //! What a text begins with: a gap, a token, or nothing that may stand there.
 ghost use Rattle.std.specs.Prelude.{◌≡◌, ◌^◌, ◌<◌, false, length, drop};
-ghost use Rattle.st_tree.specs.Tokens.{rule_number, piece, is_blank, class_of, mark, sized, quoted_symbol, symbol_at, character_at, comment_to, comment_end, string_to, string_end, string_bytes, colon_before, word};
+ghost use Rattle.st_grammar.specs.Tokens.{token_rule_number, piece, is_blank, class_of, mark};
+ghost use Rattle.st_grammar.specs.Tokens.{sized, quoted_symbol, symbol_at, character_at};
+ghost use Rattle.st_grammar.specs.Tokens.{comment_to, comment_end, string_to, string_end};
+ghost use Rattle.st_grammar.specs.Tokens.{string_bytes, colon_before, word};
 ghost use Rattle.st_lexer.specs.Views.{piece_seen, class_seen, rule_seen};
 
 use crate::kinds::TokenKind;
@@ -10,6 +13,7 @@ use crate::words::{
     binary_len, is_at, is_keyword_end, is_operator, is_operator_at, name_len, starts_name,
     starts_name_at, symbol_name_len,
 };
+use profile::SYMBOL_LIMIT;
 
 // What the first byte of a piece says of it.
 #[derive(Clone, Copy, Debug)]
@@ -28,21 +32,24 @@ enum Class {
 
 // The rules that a bad token breaks.
 #[derive(Clone, Copy, Debug)]
-pub(crate) enum Rule {
+pub(crate) enum TokenRule {
+    // P1: a byte that begins no token.
     NoToken,
+    // P2: no end of a string, comment, character or symbol, or a `#` with which nothing begins.
     NoEnd,
+    // P3: a number that isn't of the form or too large, or a symbol that is too long.
     NoForm,
 }
 
-impl Rule {
-    // The number by which callers know the rule.
+impl TokenRule {
+    // The number that is printed after `P`.
     pub(crate) fn number(self) -> u8
-        ensures { result ≡ rule_number (rule_seen self) }
+        ensures { result ≡ token_rule_number (rule_seen self) }
     {
         match self {
-            Rule::NoToken => 1,
-            Rule::NoEnd => 2,
-            Rule::NoForm => 3,
+            TokenRule::NoToken => 1,
+            TokenRule::NoEnd => 2,
+            TokenRule::NoForm => 3,
         }
     }
 }
@@ -55,10 +62,8 @@ pub(crate) enum Piece {
     // a token of so many bytes
     Word(TokenKind, usize),
     // a bad token
-    Wrong(Rule),
+    Wrong(TokenRule),
 }
-
-const LONGEST_SYMBOL: usize = 1000;
 
 fn is_blank(byte: u8) -> bool
     ensures { result ≡ is_blank byte }
@@ -112,7 +117,7 @@ fn mark(byte: u8) -> Piece
     } else if byte == b']' {
         TokenKind::CloseBracket
     } else {
-        return Piece::Wrong(Rule::NoToken);
+        return Piece::Wrong(TokenRule::NoToken);
     };
     Piece::Word(kind, 1)
 }
@@ -137,7 +142,7 @@ fn comment(rest: &[u8]) -> Piece
 {
     match comment_end(rest) {
         Some(len) => Piece::Gap(len + 1),
-        None => Piece::Wrong(Rule::NoEnd),
+        None => Piece::Wrong(TokenRule::NoEnd),
     }
 }
 
@@ -148,7 +153,7 @@ fn string(rest: &[u8]) -> Piece
 {
     match string_end(rest) {
         Some(quoted) => Piece::Word(TokenKind::Str, quoted.len + 1),
-        None => Piece::Wrong(Rule::NoEnd),
+        None => Piece::Wrong(TokenRule::NoEnd),
     }
 }
 
@@ -159,7 +164,7 @@ fn character(rest: &[u8]) -> Piece
     if !rest.is_empty() && 32 <= rest[0] && rest[0] <= 126 {
         Piece::Word(TokenKind::Character, 2)
     } else {
-        Piece::Wrong(Rule::NoEnd)
+        Piece::Wrong(TokenRule::NoEnd)
     }
 }
 
@@ -167,21 +172,22 @@ fn character(rest: &[u8]) -> Piece
 fn sized(size: usize, len: usize) -> Piece
     ensures { piece_seen result ≡ sized size len }
 {
-    if size <= LONGEST_SYMBOL {
+    if size <= SYMBOL_LIMIT {
         Piece::Word(TokenKind::Symbol, len)
     } else {
-        Piece::Wrong(Rule::NoForm)
+        Piece::Wrong(TokenRule::NoForm)
     }
 }
 
 // A symbol that is written as a string, whose first quote stands before the text.
 fn quoted_symbol(text: &[u8]) -> Piece
     requires { length text.now < 2 ^ 32 }
-    ensures { piece_seen result ≡ quoted_symbol (length (string_bytes false text.now)) (string_end false text.now) }
+    ensures { piece_seen result
+        ≡ quoted_symbol (length (string_bytes false text.now)) (string_end false text.now) }
 {
     match string_end(text) {
         Some(quoted) => sized(quoted.size, quoted.len + 2),
-        None => Piece::Wrong(Rule::NoEnd),
+        None => Piece::Wrong(TokenRule::NoEnd),
     }
 }
 
@@ -202,7 +208,7 @@ fn symbol(rest: &[u8]) -> Piece
     } else if is_at(rest, 0, b'(') {
         Piece::Word(TokenKind::OpenArray, 2)
     } else {
-        Piece::Wrong(Rule::NoEnd)
+        Piece::Wrong(TokenRule::NoEnd)
     }
 }
 

@@ -1,3 +1,4 @@
+//! Tokens, bad tokens and their places, worked out by hand.
 use crate::{LexFault, Token, TokenKind, tokens};
 use std::alloc::Global;
 use std::process::Abort;
@@ -16,7 +17,7 @@ fn bad(at: u32, rule: u8) -> LexFault {
     LexFault::Bad { at, rule }
 }
 
-// Each kind of token alone, behind a comment and a line feed and before a tab.
+// Each kind of token alone, after a comment and a line feed and before a tab.
 #[test]
 fn reads_each_kind(rt: HostRuntime) -> Result<(), Fail> {
     let table: [(&[u8], TokenKind); 37] = [

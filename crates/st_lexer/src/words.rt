@@ -2,7 +2,9 @@
 ghost use Rattle.std.specs.Prelude.{◌≡◌, ◌≤◌, length, drop};
 ghost use Rattle.std.specs.List.{prefix_len};
 ghost use Rattle.std.specs.Char.{is_ascii_digit};
-ghost use Rattle.st_tree.specs.Tokens.{starts_name, is_name_byte, is_operator, is_second, name_goes_on, is_keyword_end, keywords, begins, begins_with, symbol_name, binary_len};
+ghost use Rattle.texts.specs.NameBytes.{starts_name, is_name_byte};
+ghost use Rattle.st_grammar.specs.Tokens.{is_operator, is_second, name_goes_on, is_keyword_end};
+ghost use Rattle.st_grammar.specs.Tokens.{keywords, begins, begins_with, symbol_name, binary_len};
 
 const OPERATORS: &[u8] = b"+-*/\\~<>=@%&?,";
 
@@ -81,7 +83,7 @@ pub(crate) fn name_len(text: &[u8]) -> usize
     text.len()
 }
 
-// A colon stands at index `i` and no `=` behind it.
+// A colon stands at index `i` and no `=` after it.
 pub(crate) fn is_keyword_end(text: &[u8], i: usize) -> bool
     ensures { result ≡ is_keyword_end (drop i text.now) }
 {

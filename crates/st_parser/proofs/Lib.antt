@@ -1,4 +1,3 @@
-pub mod Values
 pub mod Words
 pub mod Steps
 pub mod Messages

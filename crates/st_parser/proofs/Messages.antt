@@ -1,11 +1,13 @@
 -- Steps of the machine at the messages of an expression.
 use Rattle.std.proofs.Common.{◌≡◌, ℕ, Bool, true, false, cond, Result, Ok, Err, Option, Some, None, List, [], ◌∷◌, ◌++◌, refl, sym, ap, ◌∙◌, ◌<◌, ◌≤◌, length, arith}
 use Rattle.std.specs.Prelude.{◌&&◌, nat_lt}
-use Rattle.st_tree.specs.Trees.{Bytes, Program, Head, name, block, closure, Expression, expression, Expressions, no_expressions, an_expression, expressions, no_constants, Send, send, Statement, statement, Statements, no_statements, a_statement, append_statements, statements, Sends, no_sends, a_send, append_sends, sends}
-use Rattle.st_tree.specs.Tokens.{Kind, identifier, keyword, number, character, string, symbol, binary, bar, assign, caret, semicolon, period, open_paren, open_bracket, close_bracket, open_array}
-use Rattle.st_tree.specs.Grammar.{Word, word, Rule, p4, p5, p9, is_minus, is_super, Scope, Next, any_message, no_unary, no_message}
-use Rattle.st_tree.specs.Fails.{every, Bracket, square, round}
-use Rattle.st_grammar.specs.Machine.{Role, as_message, as_cascade, State, Body, top, in_block, Seat, in_body, in_paren, Wide, alone, keyword_part, Slot, outer, binary_part, begin, ended, want, named, minus, have, after_semicolon, goes, breaks, stuck, run, go, blame, blame_of, bracket_seat, in_params, in_elements, of_head, unary, bare, added, behind_role, seat_of, has_messages, and_argument, binary_send, level_of, is_full, depth_of, depth_body}
+use Rattle.texts.specs.Bytes.{Bytes}
+use Rattle.profile.specs.declared.limits.TheConstants.{DEPTH_LIMIT}
+use Rattle.st_tree.specs.Trees.{Program, Head, name, block, closure, Expression, expression, Expressions, no_expressions, an_expression, expressions, no_constants, Send, send, Statement, statement, Statements, no_statements, a_statement, append_statements, statements, Sends, no_sends, a_send, append_sends, sends}
+use Rattle.st_grammar.specs.Tokens.{Kind, identifier, keyword, number, character, string, symbol, binary, bar, assign, caret, semicolon, period, open_paren, open_bracket, close_bracket, open_array}
+use Rattle.st_grammar.specs.Grammar.{Word, word, GrammarRule, p4, p5, p9, is_minus, is_super, Scope, Next, any_message, no_unary, no_message}
+use Rattle.st_grammar.specs.Fails.{every, Bracket, square, round}
+use Rattle.st_grammar_laws.specs.Machine.{Role, as_message, as_cascade, State, Body, top, in_block, Seat, in_body, in_paren, Wide, alone, keyword_part, Slot, outer, binary_part, begin, ended, want, named, minus, have, after_semicolon, goes, breaks, stuck, machine_run, go, blame, blame_of, bracket_seat, in_params, in_elements, of_head, unary, bare, added, behind_role, seat_of, has_messages, and_argument, binary_send, level_of, is_full, depth_of, depth_body}
 use Rattle.std.specs.Result.{IsErrAnd}
 use Rattle.std.proofs.lemmas.Result.{err_from_is_err_and}
 use Rattle.st_parser.specs.declared.stops.Stop.{Stop}
@@ -143,17 +145,17 @@ semicolon_step o e (word semicolon x t ∷ ws) us h m f = rw (m, f) refl
 semicolon_step o e (word _ x t ∷ ws) us h m f = cc
 
 -- brackets where a head is expected
-pub paren_opens : (k : Slot) (names : List Bytes) (ws us : List Word) → starts is_open_paren ws ≡ true → nat_lt (depth_of k) 200 ≡ true → us ≡ others ws → Runs (want k names) ws (want (outer (alone (in_paren k names))) []) us
+pub paren_opens : (k : Slot) (names : List Bytes) (ws us : List Word) → starts is_open_paren ws ≡ true → nat_lt (depth_of k) DEPTH_LIMIT ≡ true → us ≡ others ws → Runs (want k names) ws (want (outer (alone (in_paren k names))) []) us
 paren_opens k names [] us h d f = cc
 paren_opens k names (word open_paren x t ∷ ws) us h d f = rw (d, f) refl
 paren_opens k names (word _ x t ∷ ws) us h d f = cc
 
-pub block_opens : (k : Slot) (names : List Bytes) (ws us : List Word) → starts is_open_bracket ws ≡ true → nat_lt (depth_of k) 200 ≡ true → us ≡ others ws → Runs (want k names) ws (in_params k names []) us
+pub block_opens : (k : Slot) (names : List Bytes) (ws us : List Word) → starts is_open_bracket ws ≡ true → nat_lt (depth_of k) DEPTH_LIMIT ≡ true → us ≡ others ws → Runs (want k names) ws (in_params k names []) us
 block_opens k names [] us h d f = cc
 block_opens k names (word open_bracket x t ∷ ws) us h d f = rw (d, f) refl
 block_opens k names (word _ x t ∷ ws) us h d f = cc
 
-pub array_head_opens : (k : Slot) (names : List Bytes) (ws us : List Word) → starts is_open_array ws ≡ true → nat_lt (depth_of k) 200 ≡ true → us ≡ others ws → Runs (want k names) ws (in_elements (of_head k names) no_constants) us
+pub array_head_opens : (k : Slot) (names : List Bytes) (ws us : List Word) → starts is_open_array ws ≡ true → nat_lt (depth_of k) DEPTH_LIMIT ≡ true → us ≡ others ws → Runs (want k names) ws (in_elements (of_head k names) no_constants) us
 array_head_opens k names [] us h d f = cc
 array_head_opens k names (word open_array x t ∷ ws) us h d f = rw (d, f) refl
 array_head_opens k names (word _ x t ∷ ws) us h d f = cc
@@ -162,7 +164,7 @@ pub name_step : (k : Slot) (names : List Bytes) (x : Bytes) (t : Bool) (ws us : 
 name_step k names x t ws us e = rw e refl
 
 -- an operator where a head is expected, other than a `-`
-pub operator_stuck : (k : Slot) (names : List Bytes) (x : Bytes) (t : Bool) (ws us : List Word) → ws ≡ word binary x t ∷ us → is_minus x ≡ false → run every (want k names) ws ≡ Err (record { left = ws; rule = p4 })
+pub operator_stuck : (k : Slot) (names : List Bytes) (x : Bytes) (t : Bool) (ws us : List Word) → ws ≡ word binary x t ∷ us → is_minus x ≡ false → machine_run every (want k names) ws ≡ Err (record { left = ws; rule = p4 })
 operator_stuck k names x t ws us e m = rw (e, m, blame_stuck (bracket_seat (seat_of k))) refl
 
 pub caret_step : (b : Body) (ws us : List Word) → starts is_caret ws ≡ true → us ≡ others ws → Runs (begin b) ws (want (outer (alone (in_body b true))) []) us
@@ -171,7 +173,7 @@ caret_step b (word caret x t ∷ ws) us h f = rw f refl
 caret_step b (word _ x t ∷ ws) us h f = cc
 
 -- whatever would be to blame, a check of the depth says itself which rule is broken
-go_check : (r r' : Rule) (test : Bool) (s : State) (all ws : List Word) → go r all (λ s'. run every s' ws) (cond test (goes s) (breaks p9)) ≡ go r' all (λ s'. run every s' ws) (cond test (goes s) (breaks p9))
+go_check : (r r' : GrammarRule) (test : Bool) (s : State) (all ws : List Word) → go r all (λ s'. machine_run every s' ws) (cond test (goes s) (breaks p9)) ≡ go r' all (λ s'. machine_run every s' ws) (cond test (goes s) (breaks p9))
 go_check r r' true s all ws = refl
 go_check r r' false s all ws = refl
 
@@ -186,11 +188,11 @@ plain_step b (word character x t ∷ ws) h c = refl
 plain_step b (word string x t ∷ ws) h c = refl
 plain_step b (word symbol x t ∷ ws) h c = refl
 plain_step b (word open_paren x t ∷ ws) h c =
-    go_check (blame every (begin b)) (blame every (want (outer (alone (in_body b false))) [])) (nat_lt (depth_body b) 200) (want (outer (alone (in_paren (outer (alone (in_body b false))) []))) []) (word open_paren x t ∷ ws) ws
+    go_check (blame every (begin b)) (blame every (want (outer (alone (in_body b false))) [])) (nat_lt (depth_body b) DEPTH_LIMIT) (want (outer (alone (in_paren (outer (alone (in_body b false))) []))) []) (word open_paren x t ∷ ws) ws
 plain_step b (word open_bracket x t ∷ ws) h c =
-    go_check (blame every (begin b)) (blame every (want (outer (alone (in_body b false))) [])) (nat_lt (depth_body b) 200) (in_params (outer (alone (in_body b false))) [] []) (word open_bracket x t ∷ ws) ws
+    go_check (blame every (begin b)) (blame every (want (outer (alone (in_body b false))) [])) (nat_lt (depth_body b) DEPTH_LIMIT) (in_params (outer (alone (in_body b false))) [] []) (word open_bracket x t ∷ ws) ws
 plain_step b (word open_array x t ∷ ws) h c =
-    go_check (blame every (begin b)) (blame every (want (outer (alone (in_body b false))) [])) (nat_lt (depth_body b) 200) (in_elements (of_head (outer (alone (in_body b false))) []) no_constants) (word open_array x t ∷ ws) ws
+    go_check (blame every (begin b)) (blame every (want (outer (alone (in_body b false))) [])) (nat_lt (depth_body b) DEPTH_LIMIT) (in_elements (of_head (outer (alone (in_body b false))) []) no_constants) (word open_array x t ∷ ws) ws
 plain_step b (word _ x t ∷ ws) h c = cc
 
 -- a `.` behind a statement
@@ -222,7 +224,7 @@ block_ends k names ps ts body [] us h f = cc
 block_ends k names ps ts body (word close_bracket x t ∷ ws) us h f = rw f refl
 block_ends k names ps ts body (word _ x t ∷ ws) us h f = cc
 
-pub block_stuck : (k : Slot) (names ps ts : List Bytes) (body : Statements) (ws : List Word) → starts is_close_bracket ws ≡ false → run every (ended (in_block k names ps ts body)) ws ≡ Err (record { left = ws; rule = p5 })
+pub block_stuck : (k : Slot) (names ps ts : List Bytes) (body : Statements) (ws : List Word) → starts is_close_bracket ws ≡ false → machine_run every (ended (in_block k names ps ts body)) ws ≡ Err (record { left = ws; rule = p5 })
 block_stuck k names ps ts body [] h = refl
 block_stuck k names ps ts body (word close_bracket x t ∷ ws) h = cc
 block_stuck k names ps ts body (word _ x t ∷ ws) h = refl
@@ -244,12 +246,12 @@ pub minus_reached : (k : Slot) (names : List Bytes) (x : Bytes) (t : Bool) (ws u
 minus_reached k names x t ws us m f = rw (f, m) refl
 
 -- behind the statements of a whole text
-pub top_stuck : (selector : Option Bytes) (ps ts : List Bytes) (body : Statements) (ws : List Word) → 0 < length ws → run every (ended (top selector ps ts body)) ws ≡ Err (record { left = ws; rule = p4 })
+pub top_stuck : (selector : Option Bytes) (ps ts : List Bytes) (body : Statements) (ws : List Word) → 0 < length ws → machine_run every (ended (top selector ps ts body)) ws ≡ Err (record { left = ws; rule = p4 })
 top_stuck selector ps ts body [] some = absurd (omega arith)
 top_stuck selector ps ts body (word close_bracket x t ∷ ws) some = refl
 top_stuck selector ps ts body (word _ x t ∷ ws) some = refl
 
-pub top_ends : (selector : Option Bytes) (ps ts : List Bytes) (body : Statements) (ws : List Word) → length ws ≤ 0 → run every (ended (top selector ps ts body)) ws ≡ Ok (record { selector = selector; params = ps; temps = ts; body = body })
+pub top_ends : (selector : Option Bytes) (ps ts : List Bytes) (body : Statements) (ws : List Word) → length ws ≤ 0 → machine_run every (ended (top selector ps ts body)) ws ≡ Ok (record { selector = selector; params = ps; temps = ts; body = body })
 top_ends selector ps ts body [] none = refl
 top_ends selector ps ts body (w ∷ ws) none = absurd (omega arith)
 

@@ -3,13 +3,15 @@ use Rattle.std.proofs.Common.{◌≡◌, Bool, true, false, cond, Result, Ok, Er
 use Rattle.std.specs.Prelude.{nat_lt, map}
 use Rattle.std.specs.Result.{IsErrAnd}
 use Rattle.std.proofs.lemmas.Result.{err_from_is_err_and}
-use Rattle.st_tree.specs.Trees.{Bytes, Constants, no_constants, a_constant, constants, sym as sym_of}
-use Rattle.st_tree.specs.Tokens.{Kind, identifier, keyword, binary, bar, open_paren, close_paren, open_array}
-use Rattle.st_tree.specs.Grammar.{Word, word, p6, is_minus}
-use Rattle.st_tree.specs.Fails.{every}
+use Rattle.texts.specs.Bytes.{Bytes}
+use Rattle.profile.specs.declared.limits.TheConstants.{DEPTH_LIMIT}
+use Rattle.st_tree.specs.Trees.{Constants, no_constants, a_constant, constants, sym as sym_of}
+use Rattle.st_grammar.specs.Tokens.{Kind, identifier, keyword, binary, bar, open_paren, close_paren, open_array}
+use Rattle.st_grammar.specs.Grammar.{Word, word, p6, is_minus}
+use Rattle.st_grammar.specs.Fails.{every}
 use Rattle.st_tree.specs.Views.{constant_of}
 use Rattle.st_tree.specs.declared.nodes.Literal.{Literal}
-use Rattle.st_grammar.specs.Machine.{State, Body, Nest, in_array, header, begin, in_elements, element_run, element_minus, one_more, depth_nest, run, go, goes}
+use Rattle.st_grammar_laws.specs.Machine.{State, Body, Nest, in_array, header, begin, in_elements, element_run, element_minus, one_more, depth_nest, machine_run, go, goes}
 use Rattle.st_parser.specs.declared.stops.Stop.{Stop}
 use Rattle.st_parser.specs.declared.stops.Stop.TheVariants.{Breaks, Memory}
 use Rattle.st_parser.specs.Descent.{Runs, StopsAt, Reached, starts, is_bar}
@@ -39,7 +41,7 @@ pub keyword_element : (n : Nest) (cs : Constants) (x : Bytes) (t : Bool) (ws us 
 keyword_element n cs x t ws us e = rw e refl
 
 pub selector_element : (n : Nest) (cs : Constants) (x : Bytes) (t : Bool) (ws us : List Word) → ws ≡ word binary x t ∷ us → Runs (in_elements n cs) ws (behind_selector n cs x) us
-selector_element n cs x t ws us e = rw e (elim (is_minus x) as (λ v. go p6 (word binary x t ∷ us) (λ s. run every s us) (cond v (goes (element_minus n cs x)) (goes (in_elements n (one_more cs (sym_of x))))) ≡ run every (cond v (element_minus n cs x) (in_elements n (one_more cs (sym_of x)))) us) [
+selector_element n cs x t ws us e = rw e (elim (is_minus x) as (λ v. go p6 (word binary x t ∷ us) (λ s. machine_run every s us) (cond v (goes (element_minus n cs x)) (goes (in_elements n (one_more cs (sym_of x))))) ≡ machine_run every (cond v (element_minus n cs x) (in_elements n (one_more cs (sym_of x)))) us) [
   | true ↦ refl
   | false ↦ refl
 ])
@@ -54,7 +56,7 @@ other_element open_array a b c d e f g = absurd (f refl)
 other_element close_paren a b c d e f g = absurd (g refl)
 other_element _ a b c d e f g = refl
 
-pub array_opens : (n : Nest) (cs : Constants) (ws : List Word) → starts opens_array ws ≡ true → nat_lt (depth_nest n) 200 ≡ true → Runs (in_elements n cs) ws (in_elements (in_array n cs) no_constants) (others ws)
+pub array_opens : (n : Nest) (cs : Constants) (ws : List Word) → starts opens_array ws ≡ true → nat_lt (depth_nest n) DEPTH_LIMIT ≡ true → Runs (in_elements n cs) ws (in_elements (in_array n cs) no_constants) (others ws)
 array_opens n cs [] h d = cc
 array_opens n cs (word open_paren x t ∷ ws) h d = rw d refl
 array_opens n cs (word open_array x t ∷ ws) h d = rw d refl

@@ -1,16 +1,22 @@
 -- What the functions of the parser do, told by the machine of the grammar: where the machine stands before and behind what they read.
-use Rattle.std.specs.Prelude.{◌≡◌, ℕ, Bool, true, false, ◌&&◌, ◌||◌, Result, Ok, Err, List, [], ◌∷◌}
-use Rattle.st_tree.specs.Trees.{Bytes, Program, Statement, statement, Statements, Expression}
-use Rattle.st_tree.specs.Tokens.{Kind, identifier, keyword, number, character, string, symbol, binary, bar, assign, colon, caret, semicolon, period, open_paren, close_paren, open_bracket, close_bracket, open_array}
-use Rattle.st_tree.specs.Grammar.{Word, word, Rule, p4, p5, p6, p7, p8, p9, Scope, is_minus, no_message}
-use Rattle.st_tree.specs.Fails.{every}
-use Rattle.st_grammar.specs.Machine.{State, Body, top, in_block, in_body, Slot, outer, alone, have, has_messages, run, scopes_of, depth_of}
+use Rattle.std.specs.Prelude.{◌≡◌, ℕ, Bool, true, false, ◌&&◌, ◌||◌, Result, Ok, Err, Some, List, [], ◌∷◌}
+use Rattle.texts.specs.Bytes.{Bytes}
+use Rattle.st_tree.specs.Trees.{Program, Statement, statement, Statements, no_statements, Expression, expression}
+use Rattle.st_tree.specs.Trees.{Constants, Head, Send, sends, no_sends}
+use Rattle.st_tree.specs.Views.{constant_of, head_of}
+use Rattle.st_tree.specs.declared.nodes.Literal.{Literal}
+use Rattle.st_tree.specs.declared.nodes.Primary.{Primary}
+use Rattle.st_grammar.specs.Tokens.{Kind, identifier, keyword, number, character, string, symbol, binary, bar, assign, colon, caret, semicolon, period, open_paren, close_paren, open_bracket, close_bracket, open_array}
+use Rattle.st_grammar.specs.Grammar.{Word, word, GrammarRule, p4, p5, p6, p7, p8, p9, Scope, is_minus, Next, any_message, no_message}
+use Rattle.st_grammar.specs.Fails.{every}
+use Rattle.st_grammar_laws.specs.Machine.{State, Body, top, header, bare, Nest, in_elements, one_more, in_block, in_body, Slot, outer, alone, have, has_messages, machine_run, scopes_of, depth_of}
+use Rattle.st_parser.specs.declared.declarations.MethodPattern.{MethodPattern}
 use Rattle.st_parser.specs.declared.stops.Broken.{Broken}
 use Rattle.st_parser.specs.declared.stops.Broken.TheVariants.{Unexpected, MissingBracket, MissingParen, Declaration, Assignment, Depth}
 use Rattle.st_parser.specs.declared.stops.Stop.{Stop}
 use Rattle.st_parser.specs.declared.stops.Stop.TheVariants.{Breaks, Memory}
 
-abbrev pub rule_of : Broken → Rule
+abbrev pub rule_of : Broken → GrammarRule
 rule_of Unexpected = p4
 rule_of MissingBracket = p5
 rule_of MissingParen = p6
@@ -20,11 +26,11 @@ rule_of Depth = p9
 
 -- The machine goes on from the one state before the old words as from the other before the new ones.
 abbrev pub Runs : State → List Word → State → List Word → Type 0
-Runs s old t new = run every s old ≡ run every t new
+Runs s old t new = machine_run every s old ≡ machine_run every t new
 
 -- The machine stops at the new words, by the rule that the parser gives.
 abbrev pub StopsAt : State → List Word → List Word → Stop → Type 0
-StopsAt s old new (Breaks b) = run every s old ≡ Err (record { left = new; rule = rule_of b })
+StopsAt s old new (Breaks b) = machine_run every s old ≡ Err (record { left = new; rule = rule_of b })
 StopsAt s old new Memory = Unit {0}
 
 -- What is read takes the machine from the one state to the other. Where nothing is read the machine stops at the new words.
@@ -175,5 +181,21 @@ holding (in_block k names ps ts body) new = in_block k names ps ts new
 
 -- The machine reads the words to their end, and this is the tree. Where there is none the machine stops at the new words.
 abbrev pub Finished : State → List Word → List Word → Result Program Stop → Type 0
-Finished s old new (Ok program) = run every s old ≡ Ok program
+Finished s old new (Ok program) = machine_run every s old ≡ Ok program
 Finished s old new (Err e) = StopsAt s old new e
+
+-- the machine after a head, with the names assigned to before it
+abbrev pub with_head : Slot → List Bytes → Primary → State
+with_head k names h = have k (bare names (head_of h)) any_message
+
+-- the machine after a head and these messages, of which `next` may still come
+abbrev pub with_sends : Slot → List Bytes → Head → List Send → Next → State
+with_sends k names h ms next = have k (expression names h (sends ms) no_sends) next
+
+-- the machine after a further element of a literal array
+abbrev pub with_literal : Nest → Constants → Literal → State
+with_literal n cs l = in_elements n (one_more cs (constant_of l))
+
+-- the machine after the pattern of a method
+abbrev pub with_pattern : MethodPattern → State
+with_pattern p = header (top (Some p.selector) p.params.items [] no_statements)

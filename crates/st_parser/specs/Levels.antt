@@ -1,9 +1,9 @@
 -- What the parser sees of the words before an expression or a message.
 use Rattle.std.specs.Prelude.{◌≡◌, Bool, true, false, Option, Some, None, List, ◌∷◌}
-use Rattle.st_tree.specs.Trees.{Bytes}
-use Rattle.st_tree.specs.Tokens.{Kind, identifier, assign}
-use Rattle.st_tree.specs.Grammar as grammar
-use Rattle.st_tree.specs.Grammar.{Word, word, of_binary, of_keyword, full}
+use Rattle.texts.specs.Bytes.{Bytes}
+use Rattle.st_grammar.specs.Tokens.{Kind, identifier, assign}
+use Rattle.st_grammar.specs.Grammar as grammar
+use Rattle.st_grammar.specs.Grammar.{Word, word, of_binary, of_keyword, full}
 use Rattle.st_parser.specs.declared.levels.Level.{Level}
 use Rattle.st_parser.specs.declared.levels.Level.TheVariants.{OfBinary, OfKeyword, Full}
 use Rattle.st_parser.specs.Descent.{starts, assigns, is_selector}

@@ -1,5 +1,5 @@
 pub mod Faults
-pub mod Numbers
+pub mod Parsed
 pub mod Reader
 pub mod Lexemes
 pub mod Scopes

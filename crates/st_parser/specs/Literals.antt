@@ -1,9 +1,10 @@
 -- The literals of one token.
 use Rattle.std.specs.Prelude.{Bool, true, false, cond, Option, Some, None}
-use Rattle.st_tree.specs.Trees.{Bytes, Constant, Constants, char, str, sym}
-use Rattle.st_tree.specs.Tokens.{Kind, identifier, keyword, binary, bar, open_paren, open_array, close_paren, number, character, string, symbol, string_value, symbol_value}
-use Rattle.st_tree.specs.Grammar.{whole_number, character_value, is_minus}
-use Rattle.st_grammar.specs.Machine.{Nest, State, in_elements, element_minus, one_more}
+use Rattle.texts.specs.Bytes.{Bytes}
+use Rattle.st_tree.specs.Trees.{Constant, Constants, char, str, sym}
+use Rattle.st_grammar.specs.Tokens.{Kind, identifier, keyword, binary, bar, open_paren, open_array, close_paren, number, character, string, symbol, character_value, string_value, symbol_value}
+use Rattle.st_grammar.specs.Grammar.{whole_number, is_minus}
+use Rattle.st_grammar_laws.specs.Machine.{Nest, State, in_elements, element_minus, one_more}
 use Rattle.st_tree.specs.declared.nodes.Literal.{Literal}
 use Rattle.st_tree.specs.Views.{constant_of}
 

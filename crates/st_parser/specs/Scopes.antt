@@ -1,6 +1,6 @@
 -- How the scopes of the parser are seen.
 use Rattle.std.specs.Prelude.{List, [], ◌∷◌}
-use Rattle.st_tree.specs.Grammar.{Scope, scope}
+use Rattle.st_grammar.specs.Grammar.{Scope, scope}
 use Rattle.st_parser.specs.declared.scopes.Scopes.{Scopes}
 use Rattle.st_parser.specs.declared.scopes.Scopes.TheVariants.{Outside, Inside'}
 

@@ -1,31 +1,47 @@
 //! Expressions, messages, statements and blocks.
-ghost use Rattle.std.specs.Prelude.{◌≡◌, ◌&&◌, ◌<◌, ◌≤◌, ◌∷◌, [], true, false, List, length, IfOk, IfErr};
-ghost use Rattle.st_tree.specs.Trees.{Bytes, Constant, Head, Sends, Expression, Expressions, Statement, name, constant, expression, no_sends, sends, statements, no_statements, no_expressions};
+ghost use Rattle.std.specs.Prelude.{◌≡◌, ◌&&◌, ◌<◌, ◌≤◌, ◌∷◌, [], true, false, List, length, IfOk};
+ghost use Rattle.std.specs.Prelude.{IfErr};
+ghost use Rattle.texts.specs.Bytes.{Bytes};
+ghost use Rattle.st_tree.specs.Trees.{Constant, Head, Sends, Expression, Expressions, Statement};
+ghost use Rattle.st_tree.specs.Trees.{name, constant, expression, no_sends, sends, statements};
+ghost use Rattle.st_tree.specs.Trees.{no_statements, no_expressions};
 ghost use Rattle.st_tree.specs.Views.{head_of};
-ghost use Rattle.st_tree.specs.Grammar.{Word, any_message, no_unary, no_message};
-ghost use Rattle.st_lexer.specs.Views.{kind_of};
-ghost use Rattle.st_grammar.specs.Machine.{Seat, Wide, Slot, Body, Role, as_cascade, outer, alone, in_body, in_block, in_paren, binary_part, keyword_part, want, named, minus, have, begin, ended, in_params, after_semicolon, bare, added, behind_role, scopes_seat, scopes_of, depth_of, level_of, is_full, binary_send};
+ghost use Rattle.st_grammar.specs.Grammar.{Word, any_message, no_unary, no_message};
+ghost use Rattle.st_lexer.specs.Views.{kind_seen};
+ghost use Rattle.st_grammar_laws.specs.Machine.{Seat, Wide, Slot, Body, Role, as_cascade, outer};
+ghost use Rattle.st_grammar_laws.specs.Machine.{alone, in_body, in_block, in_paren, binary_part};
+ghost use Rattle.st_grammar_laws.specs.Machine.{keyword_part, want, named, minus, have, begin};
+ghost use Rattle.st_grammar_laws.specs.Machine.{ended, in_params, after_semicolon, bare, added};
+ghost use Rattle.st_grammar_laws.specs.Machine.{behind_role, scopes_seat, scopes_of, depth_of};
+ghost use Rattle.st_grammar_laws.specs.Machine.{level_of, is_full, binary_send};
 ghost use Rattle.st_parser.specs.declared.stops.Stop.TheVariants.{Memory};
 ghost use Rattle.st_parser.specs.Scopes.{scopes_seen};
 ghost use Rattle.st_parser.specs.Levels.{level_seen};
 ghost use Rattle.st_parser.specs.Lexemes.{HoldsNumber, word_of, others};
-ghost use Rattle.st_parser.specs.Descent.{Reached, Suits, starts, assigns, begins_statement, behind_statement, returns_of, is_quiet, is_quiet_statement, holding, is_assign, is_identifier, is_caret, is_semicolon, is_open_paren, is_open_bracket, is_open_array, is_short_message, is_other_head};
+ghost use Rattle.st_parser.specs.Descent.{with_head, with_sends, Reached, Suits, starts, assigns};
+ghost use Rattle.st_parser.specs.Descent.{begins_statement, behind_statement, returns_of, is_quiet};
+ghost use Rattle.st_parser.specs.Descent.{is_quiet_statement, holding, is_assign, is_identifier};
+ghost use Rattle.st_parser.specs.Descent.{is_caret, is_semicolon, is_open_paren, is_open_bracket};
+ghost use Rattle.st_parser.specs.Descent.{is_open_array, is_short_message, is_other_head};
 
 use crate::declarations::{parameters, skip_bar, temporaries};
 use crate::levels::Level;
-use crate::literals::{DEPTH_LIMIT, atom, elements};
+use crate::literals::{atom, elements};
 use crate::numbers::negative;
 use crate::reader::{Lexeme, Reader};
 use crate::scopes::{Scopes, is_minus, is_super, may_assign, within};
 use crate::stops::{Broken, Stop};
-use crate::texts::text;
+use profile::DEPTH_LIMIT;
 use st_lexer::TokenKind;
-use st_tree::{BlockTree, Expr, Literal, Message, Primary, Stat, Text};
+use st_tree::{BlockTree, Expr, Literal, Message, Primary, Stat};
 use std::alloc::Global;
+use texts::Text;
 
 // The names and `:=` before an expression.
 fn assignments(alloc: Global, r: &mut Reader, scopes: &Scopes) -> Result<Vec<Text>, Stop>
-    ensures met { (o : Seat) → scopes_seat o ≡ scopes_seen scopes.now → Reached (want (outer (alone o)) []) r.old (λ names. want (outer (alone o)) names.items) r.new result }
+    ensures met { (o : Seat) → scopes_seat o ≡ scopes_seen scopes.now
+        → Reached (want (outer (alone o)) []) r.old
+        (λ names. want (outer (alone o)) names.items) r.new result }
     ensures stops { IfOk result (λ _. assigns r.new ≡ false) }
     ensures shorter { IfOk result (λ _. length r.new ≤ length r.old) }
 {
@@ -35,7 +51,7 @@ fn assignments(alloc: Global, r: &mut Reader, scopes: &Scopes) -> Result<Vec<Tex
         if !may_assign(scopes, name) {
             return Err(Stop::Breaks(Broken::Assignment));
         }
-        names.push(text(alloc, name)?)?;
+        names.push(Text::copy_of(alloc, name)?)?;
         r.skip();
     }
     Ok(names)
@@ -43,7 +59,9 @@ fn assignments(alloc: Global, r: &mut Reader, scopes: &Scopes) -> Result<Vec<Tex
 
 // The unary messages to a head.
 fn unary_messages(alloc: Global, r: &mut Reader) -> Result<Vec<Message>, Stop>
-    ensures met { (k : Slot) (names : List Bytes) (h : Head) → Reached (have k (bare names h) any_message) r.old (λ ms. have k (expression names h (sends ms.items) no_sends) any_message) r.new result }
+    ensures met { (k : Slot) (names : List Bytes) (h : Head)
+        → Reached (have k (bare names h) any_message) r.old
+        (λ ms. with_sends k names h ms.items any_message) r.new result }
     ensures stops { IfOk result (λ _. starts is_identifier r.new ≡ false) }
     ensures shorter { IfOk result (λ _. length r.new ≤ length r.old) }
 {
@@ -56,7 +74,7 @@ fn unary_messages(alloc: Global, r: &mut Reader) -> Result<Vec<Message>, Stop>
         },
     ) = r.peek()
     {
-        messages.push(Message::unary(alloc, text(alloc, bytes)?))?;
+        messages.push(Message::unary(alloc, Text::copy_of(alloc, bytes)?))?;
         r.skip();
     }
     Ok(messages)
@@ -65,24 +83,26 @@ fn unary_messages(alloc: Global, r: &mut Reader) -> Result<Vec<Message>, Stop>
 // A variable, which is read, or `super` before a message that may stand here.
 fn variable(alloc: Global, r: &mut Reader, name: &[u8], level: Level) -> Result<Primary, Stop>
     requires { (is_full (level_seen level) && starts is_assign r.old) ≡ false }
-    ensures met { (k : Slot) (names : List Bytes) → level_of k ≡ level_seen level → Reached (named k names name.now) r.old (λ h. have k (bare names (head_of h)) any_message) r.new result }
+    ensures met { (k : Slot) (names : List Bytes) → level_of k ≡ level_seen level
+        → Reached (named k names name.now) r.old (with_head k names) r.new result }
     ensures shorter { length r.new ≤ length r.old }
 {
     if !is_super(name) {
-        return Ok(Primary::Name(text(alloc, name)?));
+        return Ok(Primary::Name(Text::copy_of(alloc, name)?));
     }
     if !r.begins_message(level) {
         return Err(Stop::Breaks(Broken::Unexpected));
     }
-    Ok(Primary::Name(text(alloc, name)?))
+    Ok(Primary::Name(Text::copy_of(alloc, name)?))
 }
 
 // A literal of one token.
 fn literal_head(alloc: Global, r: &mut Reader, lexeme: &Lexeme) -> Result<Primary, Stop>
     requires number { HoldsNumber lexeme.now }
     requires shown { r.old ≡ word_of lexeme.now ∷ others r.old }
-    requires other { is_other_head (kind_of lexeme.now.kind) ≡ true }
-    ensures met { (k : Slot) (names : List Bytes) → Reached (want k names) r.old (λ h. have k (bare names (head_of h)) any_message) r.new result }
+    requires other { is_other_head (kind_seen lexeme.now.kind) ≡ true }
+    ensures met { (k : Slot) (names : List Bytes)
+        → Reached (want k names) r.old (with_head k names) r.new result }
     ensures shorter { IfOk result (λ _. length r.new < length r.old) }
 {
     match atom(alloc, lexeme)? {
@@ -96,7 +116,8 @@ fn literal_head(alloc: Global, r: &mut Reader, lexeme: &Lexeme) -> Result<Primar
 
 // The number behind a `-`, which has to touch it.
 fn negative_number(r: &mut Reader) -> Result<Primary, Stop>
-    ensures met { (k : Slot) (names : List Bytes) → Reached (minus k names) r.old (λ h. have k (bare names (head_of h)) any_message) r.new result }
+    ensures met { (k : Slot) (names : List Bytes)
+        → Reached (minus k names) r.old (with_head k names) r.new result }
     ensures shorter { length r.new ≤ length r.old }
 {
     match r.peek() {
@@ -116,9 +137,10 @@ fn negative_number(r: &mut Reader) -> Result<Primary, Stop>
 
 // A literal array, at its `#(`.
 fn array_head(alloc: Global, r: &mut Reader, depth: usize) -> Result<Primary, Stop>
-    requires small { depth ≤ 200 }
+    requires small { depth ≤ DEPTH_LIMIT }
     requires opens { starts is_open_array r.old ≡ true }
-    ensures met { (k : Slot) (names : List Bytes) → depth_of k ≡ depth → Reached (want k names) r.old (λ h. have k (bare names (head_of h)) any_message) r.new result }
+    ensures met { (k : Slot) (names : List Bytes) → depth_of k ≡ depth
+        → Reached (want k names) r.old (with_head k names) r.new result }
     ensures shorter { IfOk result (λ _. length r.new < length r.old) }
 {
     if depth >= DEPTH_LIMIT {
@@ -137,7 +159,9 @@ struct BlockNames {
 
 // The parameters and temporaries of a block, whose `[` is read.
 fn block_names(alloc: Global, r: &mut Reader) -> Result<BlockNames, Stop>
-    ensures met { (k : Slot) (names : List Bytes) → Reached (in_params k names []) r.old (λ n. begin (in_block k names n.params.items n.temps.items no_statements)) r.new result }
+    ensures met { (k : Slot) (names : List Bytes)
+        → Reached (in_params k names []) r.old
+        (λ n. begin (in_block k names n.params.items n.temps.items no_statements)) r.new result }
     ensures shorter { IfOk result (λ _. length r.new ≤ length r.old) }
 {
     let params = parameters(alloc, r)?;
@@ -155,9 +179,11 @@ fn head(
     depth: usize,
     level: Level,
 ) -> Result<Primary, Stop>
-    requires small { depth ≤ 200 }
+    requires small { depth ≤ DEPTH_LIMIT }
     requires unassigned { (is_full (level_seen level) && assigns r.old) ≡ false }
-    ensures met { (k : Slot) (names : List Bytes) → Suits k (scopes_seen scopes.now) depth → level_of k ≡ level_seen level → Reached (want k names) r.old (λ h. have k (bare names (head_of h)) any_message) r.new result }
+    ensures met { (k : Slot) (names : List Bytes) → Suits k (scopes_seen scopes.now) depth
+        → level_of k ≡ level_seen level
+        → Reached (want k names) r.old (with_head k names) r.new result }
     ensures shorter { IfOk result (λ _. length r.new < length r.old) }
 {
     let Some(lexeme) = r.peek() else {
@@ -185,9 +211,10 @@ fn head(
 // An expression in parentheses, at its `(`.
 #[cycle(expression)]
 fn paren(alloc: Global, r: &mut Reader, scopes: &Scopes, depth: usize) -> Result<Primary, Stop>
-    requires small { depth ≤ 200 }
+    requires small { depth ≤ DEPTH_LIMIT }
     requires opens { starts is_open_paren r.old ≡ true }
-    ensures met { (k : Slot) (names : List Bytes) → Suits k (scopes_seen scopes.now) depth → Reached (want k names) r.old (λ h. have k (bare names (head_of h)) any_message) r.new result }
+    ensures met { (k : Slot) (names : List Bytes) → Suits k (scopes_seen scopes.now) depth
+        → Reached (want k names) r.old (with_head k names) r.new result }
     ensures shorter { IfOk result (λ _. length r.new < length r.old) }
 {
     if depth >= DEPTH_LIMIT {
@@ -205,9 +232,10 @@ fn paren(alloc: Global, r: &mut Reader, scopes: &Scopes, depth: usize) -> Result
 // A block, at its `[`.
 #[cycle(expression)]
 fn block(alloc: Global, r: &mut Reader, scopes: &Scopes, depth: usize) -> Result<Primary, Stop>
-    requires small { depth ≤ 200 }
+    requires small { depth ≤ DEPTH_LIMIT }
     requires opens { starts is_open_bracket r.old ≡ true }
-    ensures met { (k : Slot) (names : List Bytes) → Suits k (scopes_seen scopes.now) depth → Reached (want k names) r.old (λ h. have k (bare names (head_of h)) any_message) r.new result }
+    ensures met { (k : Slot) (names : List Bytes) → Suits k (scopes_seen scopes.now) depth
+        → Reached (want k names) r.old (with_head k names) r.new result }
     ensures shorter { IfOk result (λ _. length r.new < length r.old) }
 {
     if depth >= DEPTH_LIMIT {
@@ -236,8 +264,11 @@ pub(crate) fn statements(
     scopes: &Scopes,
     depth: usize,
 ) -> Result<Vec<Stat>, Stop>
-    requires small { depth ≤ 200 }
-    ensures met { (b : Body) → Suits (outer (alone (in_body b false))) (scopes_seen scopes.now) depth → Reached (begin (holding b no_statements)) r.old (λ body. ended (holding b (statements body.items))) r.new result }
+    requires small { depth ≤ DEPTH_LIMIT }
+    ensures met { (b : Body) → Suits (outer (alone (in_body b false)))
+        (scopes_seen scopes.now) depth
+        → Reached (begin (holding b no_statements)) r.old
+        (λ body. ended (holding b (statements body.items))) r.new result }
     ensures shorter { IfOk result (λ _. length r.new ≤ length r.old) }
 {
     let mut body = Vec::new(alloc);
@@ -257,9 +288,11 @@ pub(crate) fn statements(
 
 #[cycle(expression)]
 fn statement(alloc: Global, r: &mut Reader, scopes: &Scopes, depth: usize) -> Result<Stat, Stop>
-    requires small { depth ≤ 200 }
+    requires small { depth ≤ DEPTH_LIMIT }
     requires begins { begins_statement r.old ≡ true }
-    ensures met { (b : Body) → Suits (outer (alone (in_body b false))) (scopes_seen scopes.now) depth → Reached (begin b) r.old (λ s. behind_statement b s) r.new result }
+    ensures met { (b : Body) → Suits (outer (alone (in_body b false)))
+        (scopes_seen scopes.now) depth
+        → Reached (begin b) r.old (λ s. behind_statement b s) r.new result }
     ensures returns { IfOk result (λ s. returns_of s ≡ starts is_caret r.old) }
     ensures quiet { IfOk result (λ s. is_quiet_statement s r.new) }
     ensures shorter { IfOk result (λ _. length r.new < length r.old) }
@@ -279,8 +312,10 @@ fn statement(alloc: Global, r: &mut Reader, scopes: &Scopes, depth: usize) -> Re
 
 #[cycle(expression)]
 fn expression(alloc: Global, r: &mut Reader, scopes: &Scopes, depth: usize) -> Result<Expr, Stop>
-    requires small { depth ≤ 200 }
-    ensures met { (o : Seat) → Suits (outer (alone o)) (scopes_seen scopes.now) depth → Reached (want (outer (alone o)) []) r.old (λ e. have (outer (alone o)) e no_message) r.new result }
+    requires small { depth ≤ DEPTH_LIMIT }
+    ensures met { (o : Seat) → Suits (outer (alone o)) (scopes_seen scopes.now) depth
+        → Reached (want (outer (alone o)) []) r.old
+        (λ e. have (outer (alone o)) e no_message) r.new result }
     ensures quiet { IfOk result (λ e. is_quiet e r.new) }
     ensures shorter { IfOk result (λ _. length r.new < length r.old) }
 {
@@ -304,8 +339,11 @@ fn messages(
     scopes: &Scopes,
     depth: usize,
 ) -> Result<Vec<Message>, Stop>
-    requires small { depth ≤ 200 }
-    ensures met { (o : Seat) (names : List Bytes) (h : Head) → Suits (outer (alone o)) (scopes_seen scopes.now) depth → Reached (have (outer (alone o)) (bare names h) any_message) r.old (λ ms. have (outer (alone o)) (expression names h (sends ms.items) no_sends) no_message) r.new result }
+    requires small { depth ≤ DEPTH_LIMIT }
+    ensures met { (o : Seat) (names : List Bytes) (h : Head)
+        → Suits (outer (alone o)) (scopes_seen scopes.now) depth
+        → Reached (have (outer (alone o)) (bare names h) any_message) r.old
+        (λ ms. with_sends (outer (alone o)) names h ms.items no_message) r.new result }
     ensures shorter { IfOk result (λ _. length r.new ≤ length r.old) }
 {
     let mut messages = unary_messages(alloc, r)?;
@@ -334,9 +372,14 @@ fn cascade(
     depth: usize,
     messages: &[Message],
 ) -> Result<Vec<Message>, Stop>
-    requires small { depth ≤ 200 }
-    ensures met { (o : Seat) (names : List Bytes) (h : Head) → Suits (outer (alone o)) (scopes_seen scopes.now) depth → Reached (have (outer (alone o)) (expression names h (sends messages.now) no_sends) no_message) r.old (λ cs. have (outer (alone o)) (expression names h (sends messages.now) (sends cs.items)) no_message) r.new result }
-    ensures quiet { IfOk result (λ _. (names : List Bytes) (h : Head) (cs : Sends) → is_quiet (expression names h (sends messages.now) cs) r.new) }
+    requires small { depth ≤ DEPTH_LIMIT }
+    ensures met { (o : Seat) (names : List Bytes) (h : Head)
+        → Suits (outer (alone o)) (scopes_seen scopes.now) depth
+        → Reached (with_sends (outer (alone o)) names h messages.now no_message) r.old
+        (λ cs. have (outer (alone o))
+        (expression names h (sends messages.now) (sends cs.items)) no_message) r.new result }
+    ensures quiet { IfOk result (λ _. (names : List Bytes) (h : Head) (cs : Sends)
+        → is_quiet (expression names h (sends messages.now) cs) r.new) }
     ensures shorter { IfOk result (λ _. length r.new ≤ length r.old) }
 {
     let mut cascade = Vec::new(alloc);
@@ -353,8 +396,11 @@ fn cascade(
 // A message of a cascade, whose `;` is read.
 #[cycle(expression)]
 fn message(alloc: Global, r: &mut Reader, scopes: &Scopes, depth: usize) -> Result<Message, Stop>
-    requires small { depth ≤ 200 }
-    ensures met { (o : Seat) (e : Expression) → Suits (outer (alone o)) (scopes_seen scopes.now) depth → Reached (after_semicolon o e) r.old (λ m. have (outer (alone o)) (added as_cascade e m) no_message) r.new result }
+    requires small { depth ≤ DEPTH_LIMIT }
+    ensures met { (o : Seat) (e : Expression)
+        → Suits (outer (alone o)) (scopes_seen scopes.now) depth
+        → Reached (after_semicolon o e) r.old
+        (λ m. have (outer (alone o)) (added as_cascade e m) no_message) r.new result }
     ensures shorter { IfOk result (λ _. length r.new < length r.old) }
 {
     let Some(lexeme) = r.peek() else {
@@ -362,7 +408,7 @@ fn message(alloc: Global, r: &mut Reader, scopes: &Scopes, depth: usize) -> Resu
     };
     match lexeme.kind {
         TokenKind::Identifier => {
-            let selector = text(alloc, lexeme.bytes)?;
+            let selector = Text::copy_of(alloc, lexeme.bytes)?;
             r.skip();
             Ok(Message::unary(alloc, selector))
         }
@@ -385,9 +431,11 @@ fn message(alloc: Global, r: &mut Reader, scopes: &Scopes, depth: usize) -> Resu
 // An argument of a keyword message.
 #[cycle(expression)]
 fn argument(alloc: Global, r: &mut Reader, scopes: &Scopes, depth: usize) -> Result<Expr, Stop>
-    requires small { depth ≤ 200 }
-    ensures met { (o : Seat) (role : Role) (f : Expression) (selector : Bytes) (es : Expressions) → Suits (outer (alone o)) (scopes_seen scopes.now) depth
-        → Reached (want (outer (keyword_part o role f selector es)) []) r.old (λ e. have (outer (keyword_part o role f selector es)) e no_unary) r.new result }
+    requires small { depth ≤ DEPTH_LIMIT }
+    ensures met { (o : Seat) (role : Role) (f : Expression) (selector : Bytes) (es : Expressions)
+        → Suits (outer (alone o)) (scopes_seen scopes.now) depth
+        → Reached (want (outer (keyword_part o role f selector es)) []) r.old
+        (λ e. have (outer (keyword_part o role f selector es)) e no_unary) r.new result }
     ensures stops { IfOk result (λ _. starts is_short_message r.new ≡ false) }
     ensures shorter { IfOk result (λ _. length r.new < length r.old) }
 {
@@ -411,10 +459,12 @@ fn binary_messages(
     depth: usize,
     messages: &mut Vec<Message>,
 ) -> Result<(), Stop>
-    requires small { depth ≤ 200 }
+    requires small { depth ≤ DEPTH_LIMIT }
     requires unary { starts is_identifier r.old ≡ false }
-    ensures met { (w : Wide) (names : List Bytes) (h : Head) → Suits (outer w) (scopes_seen scopes.now) depth
-        → Reached (have (outer w) (expression names h (sends messages.old.items) no_sends) no_unary) r.old (λ _. have (outer w) (expression names h (sends messages.new.items) no_sends) no_unary) r.new result }
+    ensures met { (w : Wide) (names : List Bytes) (h : Head)
+        → Suits (outer w) (scopes_seen scopes.now) depth
+        → Reached (with_sends (outer w) names h messages.old.items no_unary) r.old
+        (λ _. with_sends (outer w) names h messages.new.items no_unary) r.new result }
     ensures stops { IfOk result (λ _. starts is_short_message r.new ≡ false) }
     ensures shorter { IfOk result (λ _. length r.new ≤ length r.old) }
 {
@@ -434,8 +484,11 @@ fn binary_message(
     depth: usize,
     selector: &[u8],
 ) -> Result<Message, Stop>
-    requires small { depth ≤ 200 }
-    ensures met { (w : Wide) (role : Role) (f : Expression) → Suits (outer w) (scopes_seen scopes.now) depth → Reached (want (binary_part w role f selector.now) []) r.old (λ m. have (outer w) (added role f m) (behind_role role)) r.new result }
+    requires small { depth ≤ DEPTH_LIMIT }
+    ensures met { (w : Wide) (role : Role) (f : Expression)
+        → Suits (outer w) (scopes_seen scopes.now) depth
+        → Reached (want (binary_part w role f selector.now) []) r.old
+        (λ m. have (outer w) (added role f m) (behind_role role)) r.new result }
     ensures stops { IfOk result (λ _. starts is_identifier r.new ≡ false) }
     ensures shorter { IfOk result (λ _. length r.new < length r.old) }
 {
@@ -451,10 +504,12 @@ fn binary_with(
     head: Primary,
     messages: Vec<Message>,
 ) -> Result<Message, Stop>
-    ensures message { IfOk result (λ m. m ≡ binary_send selector.now (expression [] (head_of head) (sends messages.items) no_sends)) }
+    ensures message { IfOk result
+        (λ m. m ≡ binary_send selector.now
+        (expression [] (head_of head) (sends messages.items) no_sends)) }
     ensures memory { IfErr result (λ e. e ≡ Memory) }
 {
-    let selector = text(alloc, selector)?;
+    let selector = Text::copy_of(alloc, selector)?;
     let argument = Expr {
         assigns: Vec::new(alloc),
         head,
@@ -475,9 +530,11 @@ fn keyword_message(
     depth: usize,
     first: &[u8],
 ) -> Result<Message, Stop>
-    requires small { depth ≤ 200 }
-    ensures met { (o : Seat) (role : Role) (f : Expression) → Suits (outer (alone o)) (scopes_seen scopes.now) depth
-        → Reached (want (outer (keyword_part o role f first.now no_expressions)) []) r.old (λ m. have (outer (alone o)) (added role f m) no_message) r.new result }
+    requires small { depth ≤ DEPTH_LIMIT }
+    ensures met { (o : Seat) (role : Role) (f : Expression)
+        → Suits (outer (alone o)) (scopes_seen scopes.now) depth
+        → Reached (want (outer (keyword_part o role f first.now no_expressions)) []) r.old
+        (λ m. have (outer (alone o)) (added role f m) no_message) r.new result }
     ensures shorter { IfOk result (λ _. length r.new < length r.old) }
 {
     let mut selector = first.to_vec(alloc)?;

@@ -1,3 +1,4 @@
+//! Why a text has no tree.
 ghost use Rattle.std.specs.Prelude.{◌≡◌};
 ghost use Rattle.st_parser.specs.declared.faults.ParseFault.TheVariants.{Rule, NoMemory};
 ghost use Rattle.st_parser.specs.Faults.{fault_from};
@@ -9,14 +10,17 @@ use thiserror::Error;
 /// Why a text has no tree.
 #[derive(Clone, Copy, Debug, PartialEq, Eq, Error)]
 pub enum ParseFault {
-    /// The text breaks a rule. Rules 1 to 3 are those of `LexFault::Bad`. Rule 4: another token is expected; 5: a `]` is missing;
-    /// 6: a `)` is missing; 7: a name twice among the parameters and temporaries of one method or block, or a pseudo-variable declared;
-    /// 8: an assignment to a pseudo-variable or a parameter; 9: blocks, parentheses and literal arrays nested 201 deep.
+    /// The text breaks a rule. P1 to P3 are those of `LexFault::Bad`. P4: another token is
+    /// expected. P5: a `]` is missing. P6: a `)` is missing. P7: a name twice among the parameters
+    /// and temporaries of one method or block, or a pseudo-variable declared. P8: an assignment to
+    /// a pseudo-variable or a parameter. P9: blocks, parentheses and literal arrays nested too
+    /// deep.
     #[error("P{rule} at {at}")]
     Rule {
-        /// The offset of the first token that can't stand there, or the text's length where the text ends too soon.
+        /// The offset of the first token that can't stand there, or the text's length where the
+        /// text ends too soon.
         at: u32,
-        /// 1 to 9.
+        /// The number that is printed after `P`, 1 to 9.
         rule: u8,
     },
     /// Memory ran out.

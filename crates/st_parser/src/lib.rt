@@ -1,4 +1,4 @@
-//! The parser of Smalltalk: it makes the tree of a chunk or of a method, or says at which byte of the text it can't and why.
+//! Room: language. Takes a text; gives its tree, or where it fails. Knows nothing of meanings.
 #![tactic(auto)]
 
 mod declarations;
@@ -13,7 +13,6 @@ mod scopes;
 mod stops;
 #[cfg(test)]
 mod tests;
-mod texts;
 
 pub use faults::ParseFault;
 pub use parse::{parse_chunk, parse_method};

@@ -1,28 +1,30 @@
 //! Literals.
 ghost use Rattle.std.specs.Prelude.{◌≡◌, ◌<◌, ◌≤◌, ◌∷◌, true, false, length, IfOk};
+ghost use Rattle.profile.specs.declared.limits.TheConstants.{DEPTH_LIMIT};
 ghost use Rattle.st_tree.specs.Trees.{array, no_constants, sym};
 ghost use Rattle.st_tree.specs.Views.{constant_of};
-ghost use Rattle.st_tree.specs.Grammar.{named_constant, starts_with_joined_number};
-ghost use Rattle.st_grammar.specs.Machine.{Nest, Slot, in_elements, element_run, minus, have, one_more, close_array, depth_nest, bare};
-ghost use Rattle.st_parser.specs.Descent.{Reached, starts, is_close_paren};
-ghost use Rattle.st_parser.specs.Literals.{atom_of, constants_in, opens_array, is_other, behind_selector};
+ghost use Rattle.st_grammar.specs.Grammar.{named_constant, starts_with_joined_number};
+ghost use Rattle.st_grammar_laws.specs.Machine.{Nest, Slot, in_elements, element_run, minus, have};
+ghost use Rattle.st_grammar_laws.specs.Machine.{one_more, close_array, depth_nest, bare};
+ghost use Rattle.st_parser.specs.Descent.{with_literal, Reached, starts, is_close_paren};
+ghost use Rattle.st_parser.specs.Literals.{atom_of, constants_in, opens_array, is_other};
+ghost use Rattle.st_parser.specs.Literals.{behind_selector};
 ghost use Rattle.st_parser.specs.Lexemes.{HoldsNumber, word_of, others};
-ghost use Rattle.st_lexer.specs.Views.{kind_of};
-ghost use Rattle.st_tree.specs.Trees.{Bytes, Constants, constant};
-ghost use Rattle.st_tree.specs.Grammar.{any_message};
+ghost use Rattle.st_lexer.specs.Views.{kind_seen};
+ghost use Rattle.texts.specs.Bytes.{Bytes};
+ghost use Rattle.st_tree.specs.Trees.{Constants, constant};
+ghost use Rattle.st_grammar.specs.Grammar.{any_message};
 ghost use Rattle.std.specs.Prelude.{List};
 
 use crate::numbers::{negative, number};
 use crate::reader::{Lexeme, Reader};
 use crate::scopes::is_minus;
 use crate::stops::{Broken, Stop};
-use crate::texts::{character, string, symbol, text};
-use st_lexer::TokenKind;
-use st_tree::{Literal, Literals, Text};
+use profile::DEPTH_LIMIT;
+use st_lexer::{TokenKind, character_value, string_value, symbol_value};
+use st_tree::{Literal, Literals};
 use std::alloc::{AllocError, Global};
-
-// How deep blocks, parentheses and literal arrays may be nested.
-pub(crate) const DEPTH_LIMIT: usize = 200;
+use texts::Text;
 
 const NIL: &[u8] = b"nil";
 
@@ -33,13 +35,14 @@ const FALSE: &[u8] = b"false";
 // The literal that a token is on its own, or `None` where it is none.
 pub(crate) fn atom(alloc: Global, lexeme: &Lexeme) -> Result<Option<Literal>, AllocError>
     requires { HoldsNumber lexeme.now }
-    ensures { IfOk result (λ literal. constants_in literal ≡ atom_of (kind_of lexeme.now.kind) lexeme.now.bytes.now) }
+    ensures { IfOk result (λ literal. constants_in literal
+        ≡ atom_of (kind_seen lexeme.now.kind) lexeme.now.bytes.now) }
 {
     match lexeme.kind {
         TokenKind::Number => Ok(Some(Literal::Int(number(lexeme.bytes)))),
-        TokenKind::Character => Ok(Some(Literal::Char(character(lexeme.bytes)))),
-        TokenKind::Str => Ok(Some(Literal::Str(string(alloc, lexeme.bytes)?))),
-        TokenKind::Symbol => Ok(Some(Literal::Sym(symbol(alloc, lexeme.bytes)?))),
+        TokenKind::Character => Ok(Some(Literal::Char(character_value(lexeme.bytes)))),
+        TokenKind::Str => Ok(Some(Literal::Str(string_value(alloc, lexeme.bytes)?))),
+        TokenKind::Symbol => Ok(Some(Literal::Sym(symbol_value(alloc, lexeme.bytes)?))),
         _ => Ok(None),
     }
 }
@@ -57,12 +60,13 @@ fn named(alloc: Global, name: &[u8]) -> Result<Literal, AllocError>
     if name == FALSE {
         return Ok(Literal::False);
     }
-    Ok(Literal::Sym(text(alloc, name)?))
+    Ok(Literal::Sym(Text::copy_of(alloc, name)?))
 }
 
 // The symbol of keywords that follow one another without a gap, of which the first is read.
 fn keyword_run(alloc: Global, r: &mut Reader, first: &[u8]) -> Result<Literal, Stop>
-    ensures met { (n : Nest) (cs : Constants) → Reached (element_run n cs first.now) r.old (λ l. in_elements n (one_more cs (constant_of l))) r.new result }
+    ensures met { (n : Nest) (cs : Constants)
+        → Reached (element_run n cs first.now) r.old (with_literal n cs) r.new result }
     ensures shorter { length r.new ≤ length r.old }
 {
     let mut symbol = first.to_vec(alloc)?;
@@ -82,11 +86,12 @@ fn keyword_run(alloc: Global, r: &mut Reader, first: &[u8]) -> Result<Literal, S
 
 // A binary selector as a symbol, or the number behind a `-` that it touches. The selector is read.
 fn selector(alloc: Global, r: &mut Reader, selector: &[u8]) -> Result<Literal, Stop>
-    ensures met { (n : Nest) (cs : Constants) → Reached (behind_selector n cs selector.now) r.old (λ l. in_elements n (one_more cs (constant_of l))) r.new result }
+    ensures met { (n : Nest) (cs : Constants)
+        → Reached (behind_selector n cs selector.now) r.old (with_literal n cs) r.new result }
     ensures shorter { length r.new ≤ length r.old }
 {
     if !is_minus(selector) {
-        return Ok(Literal::Sym(text(alloc, selector)?));
+        return Ok(Literal::Sym(Text::copy_of(alloc, selector)?));
     }
     match r.peek() {
         Some(
@@ -99,15 +104,16 @@ fn selector(alloc: Global, r: &mut Reader, selector: &[u8]) -> Result<Literal, S
             r.skip();
             Ok(Literal::Int(negative(bytes)))
         }
-        _ => Ok(Literal::Sym(text(alloc, selector)?)),
+        _ => Ok(Literal::Sym(Text::copy_of(alloc, selector)?)),
     }
 }
 
 // The elements of a literal array and its `)`. The bracket before them is read.
 #[cycle(array)]
 pub(crate) fn elements(alloc: Global, r: &mut Reader, depth: usize) -> Result<Literals, Stop>
-    requires { depth ≤ 200 }
-    ensures met { (n : Nest) → depth_nest n ≡ depth → Reached (in_elements n no_constants) r.old (λ cs. close_array n (array cs)) r.new result }
+    requires { depth ≤ DEPTH_LIMIT }
+    ensures met { (n : Nest) → depth_nest n ≡ depth
+        → Reached (in_elements n no_constants) r.old (λ cs. close_array n (array cs)) r.new result }
     ensures shorter { IfOk result (λ _. length r.new < length r.old) }
 {
     let mut items = Vec::new(alloc);
@@ -121,9 +127,10 @@ pub(crate) fn elements(alloc: Global, r: &mut Reader, depth: usize) -> Result<Li
 // An array in parentheses or behind `#(`, as an element.
 #[cycle(array)]
 fn nested(alloc: Global, r: &mut Reader, depth: usize) -> Result<Literal, Stop>
-    requires small { depth ≤ 200 }
+    requires small { depth ≤ DEPTH_LIMIT }
     requires opens { starts opens_array r.old ≡ true }
-    ensures met { (n : Nest) (cs : Constants) → depth_nest n ≡ depth → Reached (in_elements n cs) r.old (λ l. in_elements n (one_more cs (constant_of l))) r.new result }
+    ensures met { (n : Nest) (cs : Constants) → depth_nest n ≡ depth
+        → Reached (in_elements n cs) r.old (with_literal n cs) r.new result }
     ensures shorter { IfOk result (λ _. length r.new < length r.old) }
 {
     if depth >= DEPTH_LIMIT {
@@ -136,8 +143,9 @@ fn nested(alloc: Global, r: &mut Reader, depth: usize) -> Result<Literal, Stop>
 fn atom_element(alloc: Global, r: &mut Reader, lexeme: &Lexeme) -> Result<Literal, Stop>
     requires number { HoldsNumber lexeme.now }
     requires shown { r.old ≡ word_of lexeme.now ∷ others r.old }
-    requires other { is_other (kind_of lexeme.now.kind) ≡ true }
-    ensures met { (n : Nest) (cs : Constants) → Reached (in_elements n cs) r.old (λ l. in_elements n (one_more cs (constant_of l))) r.new result }
+    requires other { is_other (kind_seen lexeme.now.kind) ≡ true }
+    ensures met { (n : Nest) (cs : Constants)
+        → Reached (in_elements n cs) r.old (with_literal n cs) r.new result }
     ensures shorter { IfOk result (λ _. length r.new < length r.old) }
 {
     match atom(alloc, lexeme)? {
@@ -151,9 +159,10 @@ fn atom_element(alloc: Global, r: &mut Reader, lexeme: &Lexeme) -> Result<Litera
 
 #[cycle(array)]
 fn element(alloc: Global, r: &mut Reader, depth: usize) -> Result<Literal, Stop>
-    requires small { depth ≤ 200 }
+    requires small { depth ≤ DEPTH_LIMIT }
     requires goes_on { starts is_close_paren r.old ≡ false }
-    ensures met { (n : Nest) (cs : Constants) → depth_nest n ≡ depth → Reached (in_elements n cs) r.old (λ l. in_elements n (one_more cs (constant_of l))) r.new result }
+    ensures met { (n : Nest) (cs : Constants) → depth_nest n ≡ depth
+        → Reached (in_elements n cs) r.old (with_literal n cs) r.new result }
     ensures shorter { IfOk result (λ _. length r.new < length r.old) }
 {
     let Some(lexeme) = r.peek() else {
@@ -174,7 +183,7 @@ fn element(alloc: Global, r: &mut Reader, depth: usize) -> Result<Literal, Stop>
         }
         TokenKind::Bar => {
             r.skip();
-            Ok(Literal::Sym(text(alloc, lexeme.bytes)?))
+            Ok(Literal::Sym(Text::copy_of(alloc, lexeme.bytes)?))
         }
         TokenKind::OpenParen => nested(alloc, r, depth),
         TokenKind::OpenArray => nested(alloc, r, depth),

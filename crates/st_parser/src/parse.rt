@@ -1,13 +1,13 @@
 //! Chunks and methods.
-ghost use Rattle.std.specs.Prelude.{◌≡◌, ◌<◌, ◌≤◌, ◌-◌, ◌^◌, [], Some, None, length, drop, IfOk, IfErr};
+ghost use Rattle.std.specs.Prelude.{◌≡◌, ◌<◌, ◌≤◌, ◌-◌, ◌^◌, [], length, drop, IfOk, IfErr};
 ghost use Rattle.st_tree.specs.Trees.{no_statements};
-ghost use Rattle.st_tree.specs.Grammar.{chunk, method, words_of};
-ghost use Rattle.st_tree.specs.Fails.{Reads, place_of, rule_number, of_grammar};
-ghost use Rattle.st_grammar.specs.Machine.{top, header, start};
-ghost use Rattle.st_lexer.specs.Views.{tokens_of};
+ghost use Rattle.st_grammar.specs.Grammar.{chunk, method, words_of};
+ghost use Rattle.st_grammar.specs.Fails.{place_of, rule_number, of_grammar};
+ghost use Rattle.st_grammar_laws.specs.Machine.{top, header, start};
+ghost use Rattle.st_lexer.specs.Views.{tokens_seen};
 ghost use Rattle.st_parser.specs.declared.faults.ParseFault.TheVariants.{Rule};
 ghost use Rattle.st_parser.specs.Descent.{Finished, rule_of};
-ghost use Rattle.st_parser.specs.Faults.{IsFault};
+ghost use Rattle.st_parser.specs.Parsed.{form_of, IsTree, IsFault};
 
 use crate::declarations::{pattern, temporaries};
 use crate::expressions::statements;
@@ -16,8 +16,9 @@ use crate::reader::Reader;
 use crate::scopes::{nothing_around, within};
 use crate::stops::{Broken, Stop};
 use st_lexer::{Token, tokens};
-use st_tree::{Text, Tree};
+use st_tree::Tree;
 use std::alloc::Global;
+use texts::Text;
 
 // The temporaries and the statements, up to the end.
 fn body(
@@ -43,23 +44,30 @@ fn body(
     })
 }
 
-fn chunk(alloc: Global, r: &mut Reader) -> Result<Tree, Stop>
-    ensures { Finished (start chunk) r.old r.new result }
-{
-    body(alloc, r, None, Vec::new(alloc))
+// What a text is to be.
+#[derive(Clone, Copy, Debug, PartialEq, Eq)]
+enum Form {
+    Chunk,
+    Method,
 }
 
-fn method(alloc: Global, r: &mut Reader) -> Result<Tree, Stop>
-    ensures { Finished (start method) r.old r.new result }
+// The tree of a whole text of this form.
+fn tree(alloc: Global, r: &mut Reader, form: Form) -> Result<Tree, Stop>
+    ensures { Finished (start (form_of form)) r.old r.new result }
 {
-    let pattern = pattern(alloc, r)?;
-    body(alloc, r, Some(pattern.selector), pattern.params)
+    match form {
+        Form::Chunk => body(alloc, r, None, Vec::new(alloc)),
+        Form::Method => {
+            let pattern = pattern(alloc, r)?;
+            body(alloc, r, Some(pattern.selector), pattern.params)
+        }
+    }
 }
 
 // Where the first of the tokens left begins, or the text's length where none is left.
 fn place(text: &[u8], left: &[Token]) -> u32
     requires { length text.now < 2 ^ 32 }
-    ensures { result ≡ place_of text.now (tokens_of left.now) }
+    ensures { result ≡ place_of text.now (tokens_seen left.now) }
 {
     match left.first() {
         Some(token) => token.start,
@@ -71,7 +79,9 @@ fn place(text: &[u8], left: &[Token]) -> u32
 fn fault(text: &[u8], tokens: &[Token], left: usize, broken: Broken) -> ParseFault
     requires short { length text.now < 2 ^ 32 }
     requires within { left ≤ length tokens.now }
-    ensures { result ≡ Rule (place_of text.now (tokens_of (drop (length tokens.now - left) tokens.now))) (rule_number (of_grammar (rule_of broken))) }
+    ensures { result ≡ Rule (place_of text.now
+        (tokens_seen (drop (length tokens.now - left) tokens.now)))
+        (rule_number (of_grammar (rule_of broken))) }
 {
     let at = place(text, &tokens[tokens.len() - left..]);
     ParseFault::Rule {
@@ -80,44 +90,48 @@ fn fault(text: &[u8], tokens: &[Token], left: usize, broken: Broken) -> ParseFau
     }
 }
 
-/// The tree of a chunk: temporaries and statements.
-///
-/// # Errors
-///
-/// `Rule` exactly where the text isn't a chunk: the first place where it can't go on, and the rule that it breaks there.
-/// `NoMemory` where memory ran out, of which the contract says no more.
+// The tree of a text of this form, or why it has none.
 #[tactic(auto, using(crate::proofs::Whole::whole, crate::proofs::Readings::tree_read, crate::proofs::Readings::fault_stops))]
-pub fn parse_chunk(alloc: Global, text: &[u8]) -> Result<Tree, ParseFault>
+fn parse(alloc: Global, form: Form, text: &[u8]) -> Result<Tree, ParseFault>
     requires { length text.now < 2 ^ 32 }
-    ensures tree { IfOk result (λ tree. Reads chunk text.now tree) }
-    ensures fault { IfErr result (IsFault chunk text.now) }
+    ensures tree { IfOk result (IsTree (form_of form) text.now) }
+    ensures fault { IfErr result (IsFault (form_of form) text.now) }
 {
     let tokens = tokens(alloc, text)?;
     let mut r = Reader::new(text, &tokens);
-    match chunk(alloc, &mut r) {
+    match tree(alloc, &mut r, form) {
         Ok(tree) => Ok(tree),
         Err(Stop::Breaks(broken)) => Err(fault(text, &tokens, r.left(), broken)),
         Err(Stop::Memory) => Err(ParseFault::NoMemory),
     }
 }
 
+/// The tree of a chunk: temporaries and statements.
+///
+/// # Errors
+///
+/// `Rule` exactly where the text isn't a chunk: the first place where it can't go on, and the rule
+/// that it breaks there.
+/// `NoMemory` where memory ran out, of which the contract says no more.
+pub fn parse_chunk(alloc: Global, text: &[u8]) -> Result<Tree, ParseFault>
+    requires { length text.now < 2 ^ 32 }
+    ensures tree { IfOk result (IsTree chunk text.now) }
+    ensures fault { IfErr result (IsFault chunk text.now) }
+{
+    parse(alloc, Form::Chunk, text)
+}
+
 /// The tree of a method: a pattern, temporaries and statements.
 ///
 /// # Errors
 ///
-/// `Rule` exactly where the text isn't a method: the first place where it can't go on, and the rule that it breaks there.
+/// `Rule` exactly where the text isn't a method: the first place where it can't go on, and the rule
+/// that it breaks there.
 /// `NoMemory` where memory ran out, of which the contract says no more.
-#[tactic(auto, using(crate::proofs::Whole::whole, crate::proofs::Readings::tree_read, crate::proofs::Readings::fault_stops))]
 pub fn parse_method(alloc: Global, text: &[u8]) -> Result<Tree, ParseFault>
     requires { length text.now < 2 ^ 32 }
-    ensures tree { IfOk result (λ tree. Reads method text.now tree) }
+    ensures tree { IfOk result (IsTree method text.now) }
     ensures fault { IfErr result (IsFault method text.now) }
 {
-    let tokens = tokens(alloc, text)?;
-    let mut r = Reader::new(text, &tokens);
-    match method(alloc, &mut r) {
-        Ok(tree) => Ok(tree),
-        Err(Stop::Breaks(broken)) => Err(fault(text, &tokens, r.left(), broken)),
-        Err(Stop::Memory) => Err(ParseFault::NoMemory),
-    }
+    parse(alloc, Form::Method, text)
 }

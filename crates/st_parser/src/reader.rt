@@ -1,10 +1,12 @@
 //! A reader over the tokens of a text.
 ghost use Rattle.std.specs.Prelude.{◌≡◌, length};
-ghost use Rattle.st_tree.specs.Grammar.{words_of};
-ghost use Rattle.st_parser.specs.Descent.{starts, is_bar, is_colon, is_caret, is_semicolon, is_period, is_close_paren, is_close_bracket, begins_expression, begins_statement};
+ghost use Rattle.st_grammar.specs.Grammar.{words_of};
+ghost use Rattle.st_parser.specs.Descent.{starts, is_bar, is_colon, is_caret, is_semicolon};
+ghost use Rattle.st_parser.specs.Descent.{is_period, is_close_paren, is_close_bracket};
+ghost use Rattle.st_parser.specs.Descent.{begins_expression, begins_statement};
 ghost use Rattle.st_parser.specs.Levels.{level_seen, Assigned, Selects};
-ghost use Rattle.st_grammar.specs.Machine.{super_takes};
-ghost use Rattle.st_lexer.specs.Views.{tokens_of};
+ghost use Rattle.st_grammar_laws.specs.Machine.{super_takes};
+ghost use Rattle.st_lexer.specs.Views.{tokens_seen};
 ghost use Rattle.st_parser.specs.Reader.{AreWhole};
 ghost use Rattle.st_parser.specs.Lexemes.{Shows, NumberIn, others};
 
@@ -31,21 +33,21 @@ pub(crate) struct Reader<'a> {
 
 impl<'a> Model for Reader<'a> {
     ghost use Rattle.std.specs.Prelude.{List};
-    ghost use Rattle.st_tree.specs.Grammar.{Word, words_after};
-    ghost use Rattle.st_lexer.specs.Views.{tokens_of};
+    ghost use Rattle.st_grammar.specs.Grammar.{Word, words_after};
+    ghost use Rattle.st_lexer.specs.Views.{tokens_seen};
     ghost use Rattle.st_parser.specs.Reader.{AreWhole};
 
     ghost Value = { List Word };
 
-    ghost view = { λ r. words_after r.end r.text.now (tokens_of r.tokens.now) };
+    ghost view = { λ r. words_after r.end r.text.now (tokens_seen r.tokens.now) };
 
-    ghost invariant = { λ r. AreWhole r.text.now (tokens_of r.tokens.now) };
+    ghost invariant = { λ r. AreWhole r.text.now (tokens_seen r.tokens.now) };
 }
 
 impl<'a> Reader<'a> {
     pub(crate) fn new(text: &'a [u8], tokens: &'a [Token]) -> Reader<'a>
-        requires { AreWhole text.now (tokens_of tokens.now) }
-        ensures { result ≡ words_of text.now (tokens_of tokens.now) }
+        requires { AreWhole text.now (tokens_seen tokens.now) }
+        ensures { result ≡ words_of text.now (tokens_seen tokens.now) }
     {
         Reader {
             text,

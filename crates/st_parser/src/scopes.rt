@@ -1,9 +1,10 @@
 //! The names that are declared around a place.
 ghost use Rattle.std.specs.Prelude.{◌≡◌, ◌∷◌, []};
-ghost use Rattle.st_tree.specs.Grammar.{scope, is_pseudo_variable, is_super, is_minus, is_among, is_parameter, may_assign, may_declare};
+ghost use Rattle.st_grammar.specs.Grammar.{scope, is_pseudo_variable, is_super, is_minus, is_among};
+ghost use Rattle.st_grammar.specs.Grammar.{is_parameter, may_assign, may_declare};
 ghost use Rattle.st_parser.specs.Scopes.{scopes_seen};
 
-use st_tree::Text;
+use texts::Text;
 
 const SELF: &[u8] = b"self";
 
@@ -17,7 +18,8 @@ const FALSE: &[u8] = b"false";
 
 const MINUS: &[u8] = b"-";
 
-// The names of the methods and blocks around, the innermost first: their parameters and their temporaries.
+// The names of the methods and blocks around, the innermost first: their parameters and their
+// temporaries.
 #[derive(Drop)]
 pub(crate) enum Scopes<'a> {
     Outside,

@@ -1,7 +1,7 @@
 //! Why the parser stops.
 ghost use Rattle.std.specs.Prelude.{◌≡◌};
 ghost use Rattle.st_parser.specs.declared.stops.Stop.TheVariants.{Memory};
-ghost use Rattle.st_tree.specs.Fails.{rule_number, of_grammar};
+ghost use Rattle.st_grammar.specs.Fails.{rule_number, of_grammar};
 ghost use Rattle.st_parser.specs.Descent.{rule_of};
 
 use std::alloc::{AllocError, AllocFailed};
@@ -9,11 +9,17 @@ use std::alloc::{AllocError, AllocFailed};
 // The rule that the token in hand breaks.
 #[derive(Clone, Copy, Debug, PartialEq, Eq)]
 pub(crate) enum Broken {
+    // P4: another token is expected.
     Unexpected,
+    // P5: a `]` is missing.
     MissingBracket,
+    // P6: a `)` is missing.
     MissingParen,
+    // P7: a name is declared twice, or a pseudo-variable is.
     Declaration,
+    // P8: a pseudo-variable or a parameter is assigned to.
     Assignment,
+    // P9: blocks, parentheses and literal arrays are nested too deep.
     Depth,
 }
 
@@ -41,7 +47,7 @@ impl<T: Drop> From<AllocFailed<T>> for Stop {
 }
 
 impl Broken {
-    // The rule's number.
+    // The number that is printed after `P`.
     pub(crate) fn number(self) -> u8
         ensures { result ≡ rule_number (of_grammar (rule_of self)) }
     {

@@ -1,3 +1,4 @@
+//! Trees and faults of texts, worked out by hand.
 use crate::{ParseFault, parse_chunk, parse_method};
 use st_tree::{Literal, Primary, Tree};
 use std::alloc::{AllocError, Global};
@@ -109,7 +110,8 @@ fn push_often(text: &mut Vec<u8>, piece: &[u8], count: usize) -> Result<(), Allo
     Ok(())
 }
 
-// A chunk of 65,536 bytes, of messages of each kind in a row and in parentheses that are nested 199 deep.
+// A chunk of 65,536 bytes, of messages of each kind in a row and in parentheses that are nested 199
+// deep.
 #[test]
 fn long(rt: HostRuntime) -> Result<(), Fail> {
     let alloc = rt.alloc();

@@ -1,9 +1,16 @@
--- A code for each type of syntax, by which a proof tells two trees apart: a tree of numbers, with a function that reads it back.
-use Rattle.std.specs.Prelude.{◌≡◌, refl, ℕ, zero, suc, ℤ, pos, negsuc, Bool, true, false, Option, Some, None, List, [], ◌∷◌}
+-- A code for each type of syntax, by which a proof tells two trees apart: a tree of numbers, with a
+-- function that reads it back.
+use Rattle.std.specs.Prelude.{◌≡◌, refl, ℕ, zero, suc, ℤ, pos, negsuc, Bool, true, false, Option}
+use Rattle.std.specs.Prelude.{Some, None, List, [], ◌∷◌}
 use Rattle.std.specs.Coded.{Coded, code_by}
 use base.Stored.{Gv, gnil, gnum, gcons, num}
 use denote.Struct.Codes.{itself}
-use Rattle.st_tree.specs.Trees.{Bytes, Constant, int, char, str, sym, nothing, yes, no, array, Constants, no_constants, a_constant, Head, name, constant, block, paren, Closure, closure, Expression, expression, Send, send, Statement, statement, Statements, no_statements, a_statement, Sends, no_sends, a_send, Expressions, no_expressions, an_expression, Program}
+use Rattle.texts.specs.Bytes.{Bytes}
+use Rattle.st_tree.specs.Trees.{Constant, int, char, str, sym, nothing, yes, no, array, Constants}
+use Rattle.st_tree.specs.Trees.{no_constants, a_constant, Head, name, constant, block, paren}
+use Rattle.st_tree.specs.Trees.{Closure, closure, Expression, expression, Send, send, Statement}
+use Rattle.st_tree.specs.Trees.{statement, Statements, no_statements, a_statement, Sends, no_sends}
+use Rattle.st_tree.specs.Trees.{a_send, Expressions, no_expressions, an_expression, Program}
 
 -- numbers, truth values, texts and lists of texts
 abbrev int_to : ℤ → Gv
@@ -147,7 +154,8 @@ abbrev mutual
   closure_to (closure ps ts ss) = gcons (texts_to ps) (gcons (texts_to ts) (statements_to ss))
 
   expression_to : Expression → Gv
-  expression_to (expression ns h ms cs) = gcons (texts_to ns) (gcons (head_to h) (gcons (sends_to ms) (sends_to cs)))
+  expression_to (expression ns h ms cs) = gcons (texts_to ns)
+      (gcons (head_to h) (gcons (sends_to ms) (sends_to cs)))
 
   send_to : Send → Gv
   send_to (send t es) = gcons (bytes_to t) (expressions_to es)
@@ -184,7 +192,8 @@ abbrev mutual
   closure_from _ = closure [] [] no_statements
 
   expression_from : Gv → Expression
-  expression_from (gcons a (gcons b (gcons c d))) = expression (texts_from a) (head_from b) (sends_from c) (sends_from d)
+  expression_from (gcons a (gcons b (gcons c d))) = expression (texts_from a) (head_from b)
+      (sends_from c) (sends_from d)
   expression_from _ = expression [] (name []) no_sends no_sends
 
   send_from : Gv → Send
@@ -215,10 +224,12 @@ mutual
   head_back (paren e) = λ i. paren (expression_back e i)
 
   pub closure_back : (b : Closure) → closure_from (closure_to b) ≡ b
-  closure_back (closure ps ts ss) = λ i. closure (texts_back ps i) (texts_back ts i) (statements_back ss i)
+  closure_back (closure ps ts ss) =
+      λ i. closure (texts_back ps i) (texts_back ts i) (statements_back ss i)
 
   pub expression_back : (e : Expression) → expression_from (expression_to e) ≡ e
-  expression_back (expression ns h ms cs) = λ i. expression (texts_back ns i) (head_back h i) (sends_back ms i) (sends_back cs i)
+  expression_back (expression ns h ms cs) =
+      λ i. expression (texts_back ns i) (head_back h i) (sends_back ms i) (sends_back cs i)
 
   pub send_back : (m : Send) → send_from (send_to m) ≡ m
   send_back (send t es) = λ i. send (bytes_back t i) (expressions_back es i)
@@ -236,7 +247,8 @@ mutual
 
   pub expressions_back : (es : Expressions) → expressions_from (expressions_to es) ≡ es
   expressions_back no_expressions = refl
-  expressions_back (an_expression e es) = λ i. an_expression (expression_back e i) (expressions_back es i)
+  expressions_back (an_expression e es) =
+      λ i. an_expression (expression_back e i) (expressions_back es i)
 
 abbrev pub head_code : Coded Head
 head_code = code_by Gv itself head_to head_from head_back
@@ -264,14 +276,25 @@ expressions_code = code_by Gv itself expressions_to expressions_from expressions
 
 -- a whole text
 abbrev program_to : Program → Gv
-program_to p = gcons (option_to p.selector) (gcons (texts_to p.params) (gcons (texts_to p.temps) (statements_to p.body)))
+program_to p = gcons (option_to p.selector)
+    (gcons (texts_to p.params) (gcons (texts_to p.temps) (statements_to p.body)))
 
 abbrev program_from : Gv → Program
-program_from (gcons a (gcons b (gcons c d))) = record { selector = option_from a; params = texts_from b; temps = texts_from c; body = statements_from d }
+program_from (gcons a (gcons b (gcons c d))) = record {
+    selector = option_from a;
+    params = texts_from b;
+    temps = texts_from c;
+    body = statements_from d;
+}
 program_from _ = record { selector = None; params = []; temps = []; body = no_statements }
 
 pub program_back : (p : Program) → program_from (program_to p) ≡ p
-program_back p = λ i. record { selector = option_back p.selector i; params = texts_back p.params i; temps = texts_back p.temps i; body = statements_back p.body i }
+program_back p = λ i. record {
+    selector = option_back p.selector i;
+    params = texts_back p.params i;
+    temps = texts_back p.temps i;
+    body = statements_back p.body i;
+}
 
 abbrev pub program_code : Coded Program
 program_code = code_by Gv itself program_to program_from program_back

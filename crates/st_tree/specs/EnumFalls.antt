@@ -3,7 +3,8 @@ use Rattle.std.specs.Prelude.{◌≤◌, List, [], ◌∷◌, map}
 use Rattle.std.proofs.Common.{arith}
 use denote.Param.Weighed.{most}
 use Rattle.st_tree.specs.declared.nodes.Literal.{Literal}
-use Rattle.st_tree.specs.declared.nodes.Literal.TheVariants.{Int, Char, Str, Sym, Nil, True, False, Array}
+use Rattle.st_tree.specs.declared.nodes.Literal.TheVariants.{Int, Char, Str, Sym, Nil, True, False}
+use Rattle.st_tree.specs.declared.nodes.Literal.TheVariants.{Array}
 use Rattle.st_tree.specs.declared.nodes.Literals.TheDeep.{deep-Literal}
 use Rattle.st_tree.specs.declared.nodes.Primary.{Primary}
 use Rattle.st_tree.specs.declared.nodes.Primary.TheVariants.{Name, Lit, Block, Paren}
@@ -22,7 +23,8 @@ literal_falls True = omega arith
 literal_falls False = omega arith
 literal_falls (Array items) = omega arith
 
-pub most_literals : (ls : List Literal) → most deep-Literal ls ≤ size_constants (constants (map constant_of ls))
+pub most_literals : (ls : List Literal)
+    → most deep-Literal ls ≤ size_constants (constants (map constant_of ls))
 most_literals [] = omega arith
 most_literals (l ∷ ls) = omega (arith, literal_falls l, most_literals ls)
 

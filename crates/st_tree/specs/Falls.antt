@@ -2,7 +2,11 @@
 use Rattle.std.specs.Prelude.{ℕ, ◌+◌, ◌≤◌, List, [], ◌∷◌}
 use Rattle.std.proofs.Common.{arith}
 use denote.Param.Weighed.{most}
-use Rattle.st_tree.specs.Trees.{Constant, array, Constants, no_constants, a_constant, Head, name, constant, block, paren, Closure, closure, Expression, expression, Send, send, Statement, statement, Statements, no_statements, a_statement, Sends, no_sends, a_send, Expressions, no_expressions, an_expression, Program, statements, sends, expressions}
+use Rattle.st_tree.specs.Trees.{Constant, array, Constants, no_constants, a_constant, Head, name}
+use Rattle.st_tree.specs.Trees.{constant, block, paren, Closure, closure, Expression, expression}
+use Rattle.st_tree.specs.Trees.{Send, send, Statement, statement, Statements, no_statements}
+use Rattle.st_tree.specs.Trees.{a_statement, Sends, no_sends, a_send, Expressions, no_expressions}
+use Rattle.st_tree.specs.Trees.{an_expression, Program, statements, sends, expressions}
 
 abbrev mutual
   pub size_constant : Constant → ℕ
@@ -48,7 +52,8 @@ abbrev pub size_program : Program → ℕ
 size_program p = size_statements p.body + 1
 
 -- no item of a list is larger than the list
-pub most_statements : (ss : List Statement) → most (λ s. size_statement s + 1) ss ≤ size_statements (statements ss)
+pub most_statements : (ss : List Statement)
+    → most (λ s. size_statement s + 1) ss ≤ size_statements (statements ss)
 most_statements [] = omega arith
 most_statements (s ∷ ss) = omega (arith, most_statements ss)
 
@@ -56,6 +61,7 @@ pub most_sends : (ms : List Send) → most (λ m. size_send m + 1) ms ≤ size_s
 most_sends [] = omega arith
 most_sends (m ∷ ms) = omega (arith, most_sends ms)
 
-pub most_expressions : (es : List Expression) → most (λ e. size_expression e + 1) es ≤ size_expressions (expressions es)
+pub most_expressions : (es : List Expression)
+    → most (λ e. size_expression e + 1) es ≤ size_expressions (expressions es)
 most_expressions [] = omega arith
 most_expressions (e ∷ es) = omega (arith, most_expressions es)

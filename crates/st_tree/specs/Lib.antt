@@ -3,7 +3,3 @@ pub mod Codes
 pub mod Views
 pub mod Falls
 pub mod EnumFalls
-pub mod Tokens
-pub mod Lexed
-pub mod Grammar
-pub mod Fails

@@ -1,10 +1,8 @@
--- The syntax of Smalltalk as plain data: what a text stands for once its layout, its comments and the shape of its tokens are gone.
--- A name, a string, a symbol and a selector are the bytes that they are written with.
+-- The syntax of Smalltalk as plain data: what a text stands for once its layout, its comments and
+-- the shape of its tokens are gone. A name, a string, a symbol and a selector are the bytes that
+-- they are written with.
 use Rattle.std.specs.Prelude.{ℕ, ℤ, Bool, Option, List, [], ◌∷◌}
-
--- a text, byte by byte
-abbrev pub Bytes : Type 0
-Bytes = List ℕ
+use Rattle.texts.specs.Bytes.{Bytes}
 
 mutual
   -- A literal: an object that is written out in the text.
@@ -41,18 +39,22 @@ mutual
     -- an expression in parentheses
     paren : Expression → Head
 
-  -- A block: `[:p :q | | t u | statements]`, with the names of its parameters and of its temporaries in order.
+  -- A block: `[:p :q | | t u | statements]`, with the names of its parameters and of its
+  -- temporaries in order.
   pub data Closure : Type 0 where
     closure : (params temps : List Bytes) → Statements → Closure
 
   -- An expression: `a := b := head messages; cascade`.
   --   assigns     the variables that its value is assigned to, in the order written
-  --   messages    the messages in the order that they are sent: the first to the head, each next one to the answer of the one before it
-  --   cascade     what stands behind the semicolons: these go to the receiver of the last of the messages
+  --   messages    the messages in the order that they are sent: the first to the head, each next
+  --               one to the answer of the one before it
+  --   cascade     what stands after the semicolons: these go to the receiver of the last of the
+  --               messages
   pub data Expression : Type 0 where
     expression : (assigns : List Bytes) → Head → (messages cascade : Sends) → Expression
 
-  -- A message: a selector with its arguments, none for a unary one, one for a binary one, one for each keyword.
+  -- A message: a selector with its arguments, none for a unary one, one for a binary one, one for
+  -- each keyword.
   pub data Send : Type 0 where
     send : (selector : Bytes) → Expressions → Send
 

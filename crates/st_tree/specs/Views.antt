@@ -1,7 +1,10 @@
--- What the enums of the tree stand for. Each child of a struct is seen already as what it stands for, so these words don't recurse.
-use Rattle.st_tree.specs.Trees.{Constant, int, char, str, sym, nothing, yes, no, array, Head, name, constant, block, paren}
+-- What the enums of the tree stand for. Each child of a struct is seen already as what it stands
+-- for, so these words don't recurse.
+use Rattle.st_tree.specs.Trees.{Constant, int, char, str, sym, nothing, yes, no, array, Head, name}
+use Rattle.st_tree.specs.Trees.{constant, block, paren}
 use Rattle.st_tree.specs.declared.nodes.Literal.{Literal}
-use Rattle.st_tree.specs.declared.nodes.Literal.TheVariants.{Int, Char, Str, Sym, Nil, True, False, Array}
+use Rattle.st_tree.specs.declared.nodes.Literal.TheVariants.{Int, Char, Str, Sym, Nil, True, False}
+use Rattle.st_tree.specs.declared.nodes.Literal.TheVariants.{Array}
 use Rattle.st_tree.specs.declared.nodes.Primary.{Primary}
 use Rattle.st_tree.specs.declared.nodes.Primary.TheVariants.{Name, Lit, Block, Paren}
 

@@ -3,8 +3,8 @@ ghost use Rattle.std.specs.Prelude.{◌≡◌, IfOk};
 ghost use Rattle.st_tree.specs.Views.{head_of};
 
 use crate::nodes::{BlockTree, Expr, Literal, Literals, Message, Primary, Stat, Tree};
-use crate::texts::Text;
 use std::alloc::AllocError;
+use texts::Text;
 
 fn copy_texts(texts: &Vec<Text>) -> Result<Vec<Text>, AllocError>
     ensures { IfOk result (λ copies. copies.items ≡ texts.now.items) }

@@ -1,9 +1,9 @@
 //! The nodes of the tree.
 ghost use Rattle.std.specs.Prelude.{◌≡◌, []};
 
-use crate::texts::Text;
 use std::alloc::Global;
 use std::marker::Model;
+use texts::Text;
 
 /// A literal: an object that is written out in the text.
 #[cycle(literal)]
@@ -117,8 +117,9 @@ impl Model for Stat {
     ghost size_decreases = { λ a h. Prim.omega arith };
 }
 
-/// An expression: the variables that it assigns to, in the order written, a primary, the messages in the order
-/// that they are sent, and the messages of its cascade, which go to the receiver of the last of `messages`.
+/// An expression: the variables that it assigns to, in the order written, a primary, the messages
+/// in the order that they are sent, and the messages of its cascade, which go to the receiver of
+/// the last of `messages`.
 #[cycle(expression)]
 #[derive(Debug, Drop)]
 pub struct Expr {
@@ -140,13 +141,15 @@ impl Model for Expr {
 
     ghost use Rattle.st_tree.specs.Views.{head_of};
 
-    ghost view = { λ e. expression e.assigns.items (head_of e.head) (sends e.messages.items) (sends e.cascade.items) };
+    ghost view = { λ e. expression e.assigns.items (head_of e.head) (sends e.messages.items)
+        (sends e.cascade.items) };
 
     ghost size = { size_expression };
 
     ghost use Rattle.st_tree.specs.EnumFalls.{head_falls};
 
-    ghost size_decreases = { λ a h. Prim.omega (arith, head_falls a.head, most_sends a.messages.items, most_sends a.cascade.items) };
+    ghost size_decreases = { λ a h. Prim.omega
+        (arith, head_falls a.head, most_sends a.messages.items, most_sends a.cascade.items) };
 }
 
 /// A message: a selector, and an argument for the operator or for each keyword.
@@ -174,7 +177,8 @@ impl Model for Message {
     ghost size_decreases = { λ a h. Prim.omega (arith, most_expressions a.args.items) };
 }
 
-/// The tree of a whole text: a method, with its selector and parameters, or a chunk, which has neither.
+/// The tree of a whole text: a method, with its selector and parameters, or a chunk, which has
+/// neither.
 #[derive(Debug, Drop)]
 pub struct Tree {
     pub selector: Option<Text>,
@@ -191,7 +195,12 @@ impl Model for Tree {
 
     ghost coded = { program_code };
 
-    ghost view = { λ t. record { selector = t.selector; params = t.params.items; temps = t.temps.items; body = statements t.body.items } };
+    ghost view = { λ t. record {
+        selector = t.selector;
+        params = t.params.items;
+        temps = t.temps.items;
+        body = statements t.body.items;
+    } };
 }
 
 impl Expr {

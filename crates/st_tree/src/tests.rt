@@ -1,17 +1,13 @@
+//! Trees that are built, read back and copied.
 ghost use Rattle.std.specs.Prelude.{◌≡◌, [], ◌∷◌, codes, pos, IfOk};
 ghost use Rattle.st_tree.specs.Views.{constant_of};
-ghost use Rattle.st_tree.specs.Trees.{Expression, expression, constant, int, char, sym, array, constants, send, sends, expressions};
+ghost use Rattle.st_tree.specs.Trees.{Expression, expression, constant, int, char, sym, array};
+ghost use Rattle.st_tree.specs.Trees.{constants, send, sends, expressions};
 
-use crate::{BlockTree, Expr, Literal, Literals, Message, Primary, Stat, Text, Tree};
+use crate::{BlockTree, Expr, Literal, Literals, Message, Primary, Stat, Tree};
 use std::alloc::{AllocError, Global};
-use std::cmp::Ordering;
 use std::test::Fail;
-
-fn text(alloc: Global, bytes: &[u8]) -> Result<Text, AllocError>
-    ensures { IfOk result (λ t. t ≡ bytes.now) }
-{
-    Ok(Text::of(Vec::from_slice(alloc, bytes)?))
-}
+use texts::Text;
 
 fn int(alloc: Global, value: i64) -> Expr
     ensures { result ≡ expression [] (constant (int value)) (sends []) (sends []) }
@@ -20,10 +16,12 @@ fn int(alloc: Global, value: i64) -> Expr
 }
 
 fn message(alloc: Global, selector: &[u8], value: i64) -> Result<Message, AllocError>
-    ensures { IfOk result (λ m. m ≡ send selector.now (expressions (expression [] (constant (int value)) (sends []) (sends []) ∷ []))) }
+    ensures { IfOk result (λ m. m
+        ≡ send selector.now (expressions
+        (expression [] (constant (int value)) (sends []) (sends []) ∷ []))) }
 {
     Ok(Message {
-        selector: text(alloc, selector)?,
+        selector: Text::copy_of(alloc, selector)?,
         args: vec![in alloc; int(alloc, value)]?,
     })
 }
@@ -32,8 +30,10 @@ fn message(alloc: Global, selector: &[u8], value: i64) -> Result<Message, AllocE
 #[tactic(auto, using(crate::proofs::Appends::appends))]
 fn greatest_of_sum(alloc: Global) -> Result<Expr, AllocError>
     ensures { IfOk result (λ e. e ≡ expression [] (constant (int (pos 3)))
-        (sends (send (codes "+") (expressions (expression [] (constant (int (pos 4))) (sends []) (sends []) ∷ []))
-        ∷ send (codes "max:") (expressions (expression [] (constant (int (pos 9))) (sends []) (sends []) ∷ [])) ∷ []))
+        (sends (send (codes "+")
+        (expressions (expression [] (constant (int (pos 4))) (sends []) (sends []) ∷ []))
+        ∷ send (codes "max:") (expressions
+        (expression [] (constant (int (pos 9))) (sends []) (sends []) ∷ [])) ∷ []))
         (sends [])) }
 {
     let mut expr = int(alloc, 3);
@@ -44,12 +44,13 @@ fn greatest_of_sum(alloc: Global) -> Result<Expr, AllocError>
 
 // `#(1 $a #b)`
 fn small_array(alloc: Global) -> Result<Literal, AllocError>
-    ensures { IfOk result (λ l. constant_of l ≡ array (constants (int (pos 1) ∷ char 97 ∷ sym (codes "b") ∷ []))) }
+    ensures { IfOk result (λ l. constant_of l
+        ≡ array (constants (int (pos 1) ∷ char 97 ∷ sym (codes "b") ∷ []))) }
 {
     let mut items = Vec::new(alloc);
     items.push(Literal::Int(1))?;
     items.push(Literal::Char(b'a'))?;
-    items.push(Literal::Sym(text(alloc, b"b")?))?;
+    items.push(Literal::Sym(Text::copy_of(alloc, b"b")?))?;
     Ok(Literal::Array(Literals { items }))
 }
 
@@ -71,16 +72,16 @@ fn has_one_int(message: &Message, selector: &[u8], value: i64) -> bool {
 }
 
 fn names(alloc: Global, bytes: &[u8]) -> Result<Vec<Text>, AllocError> {
-    Ok(vec![in alloc; text(alloc, bytes)?]?)
+    Ok(vec![in alloc; Text::copy_of(alloc, bytes)?]?)
 }
 
 fn unary(alloc: Global, selector: &[u8]) -> Result<Message, AllocError> {
-    Ok(Message::unary(alloc, text(alloc, selector)?))
+    Ok(Message::unary(alloc, Text::copy_of(alloc, selector)?))
 }
 
 // `(sum) negated; yourself`
 fn negated_sum(alloc: Global) -> Result<Expr, AllocError> {
-    let name = Expr::of(alloc, Primary::Name(text(alloc, b"sum")?));
+    let name = Expr::of(alloc, Primary::Name(Text::copy_of(alloc, b"sum")?));
     let mut expr = Expr::of(alloc, Primary::Paren(Box::new(alloc, name)?));
     expr.messages.push(unary(alloc, b"negated")?)?;
     expr.cascade.push(unary(alloc, b"yourself")?)?;
@@ -104,7 +105,7 @@ fn block(alloc: Global) -> Result<BlockTree, AllocError> {
 // `sum := 3 + 4 max: 9. ^[:y | (sum) negated; yourself]`
 fn statements(alloc: Global) -> Result<Vec<Stat>, AllocError> {
     let mut sum = greatest_of_sum(alloc)?;
-    sum.assigns.push(text(alloc, b"sum")?)?;
+    sum.assigns.push(Text::copy_of(alloc, b"sum")?)?;
     let mut body = Vec::new(alloc);
     body.push(Stat {
         returns: false,
@@ -121,7 +122,7 @@ fn statements(alloc: Global) -> Result<Vec<Stat>, AllocError> {
 // The method `plus: x | sum | sum := 3 + 4 max: 9. ^[:y | (sum) negated; yourself]`.
 fn method(alloc: Global) -> Result<Tree, AllocError> {
     Ok(Tree {
-        selector: Some(text(alloc, b"plus:")?),
+        selector: Some(Text::copy_of(alloc, b"plus:")?),
         params: names(alloc, b"x")?,
         temps: names(alloc, b"sum")?,
         body: statements(alloc)?,
@@ -182,28 +183,8 @@ fn copies_a_method(rt: HostRuntime) -> Result<(), Fail> {
 
 #[test]
 fn makes_a_unary_message(rt: HostRuntime) -> Result<(), Fail> {
-    let message = Message::unary(rt.alloc(), text(rt.alloc(), b"negated")?);
+    let message = Message::unary(rt.alloc(), Text::copy_of(rt.alloc(), b"negated")?);
     assert_eq!(rt; message.selector.bytes(), b"negated".as_slice());
     assert!(rt; message.args.is_empty());
-    Ok(())
-}
-
-#[test]
-fn orders_texts_by_their_bytes(rt: HostRuntime) -> Result<(), Fail> {
-    let table: [(&[u8], &[u8], Ordering); 6] = [
-        (b"", b"", Ordering::Equal),
-        (b"", b"a", Ordering::Less),
-        (b"at:", b"at:put:", Ordering::Less),
-        (b"b", b"at:", Ordering::Greater),
-        (b"Box", b"box", Ordering::Less),
-        (b"max:", b"max:", Ordering::Equal),
-    ];
-    for (left, right, order) in table {
-        let a = text(rt.alloc(), left)?;
-        let b = text(rt.alloc(), right)?;
-        assert_eq!(rt; a.cmp(&b), order);
-        assert_eq!(rt; a == b, order == Ordering::Equal);
-        assert_eq!(rt; a.clone()?.bytes(), left);
-    }
     Ok(())
 }

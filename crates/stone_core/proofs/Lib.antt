@@ -1,5 +1,7 @@
 pub mod OneMore
-pub mod Views
+pub mod Apart
+pub mod Later
 pub mod Alone
+pub mod Calls
 pub mod Nothing
 pub mod Setting

@@ -1,3 +1,3 @@
 pub mod Port
-pub mod Told
-pub mod Stones
+pub mod Stone
+pub mod Inside

@@ -1,4 +1,5 @@
-//! The Stone: the one place where transactions are committed, and what sessions may ask of it.
+//! Room: Stone. Takes records of transactions; gives answers and events. Its code knows nothing of
+//! tokens and of trees.
 #![tactic(auto)]
 
 pub mod laws;

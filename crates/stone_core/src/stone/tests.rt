@@ -1,15 +1,16 @@
 ghost use Rattle.std.specs.Prelude.{◌≡◌, ◌≤◌, ◌∷◌, [], false, codes, length, IfOk};
-ghost use Rattle.shell_words.specs.Script.{most_bytes};
+ghost use Rattle.profile.specs.declared.limits.TheConstants.{CHUNK_LIMIT};
 ghost use Rattle.shell_words.specs.declared.script.Command.TheVariants.{Chunk, Commit};
 
 use super::*;
 use gem_value::Writes;
 use shell_words::{Command, SessionScript};
-use st_tree::Text;
 use std::test::Fail;
+use texts::Text;
 
 fn one_commit(alloc: Global) -> Result<Arc<Script>, AllocError>
-    ensures { IfOk result (λ script. script.value ≡ record { user = 65 ∷ []; commands = Commit ∷ [] } ∷ []) }
+    ensures { IfOk result (λ script. script.value
+        ≡ record { user = 65 ∷ []; commands = Commit ∷ [] } ∷ []) }
 {
     let user = Text::of(Vec::from_slice(alloc, b"A")?);
     let session = SessionScript::of(user, vec![in alloc; Command::Commit]?);
@@ -42,24 +43,10 @@ fn nothing_to_commit(rt: HostRuntime) -> Result<(), Fail> {
     Ok(())
 }
 
-#[test]
-fn conflict_of_an_older_view(rt: HostRuntime) -> Result<(), Fail> {
-    let alloc = rt.alloc();
-    let stone = Stone::start(alloc, Image::empty(alloc)?, 4, one_commit(alloc)?)?;
-    let found = stone.conflicts(alloc, 3)?;
-    assert_eq!(rt; found.as_slice().len(), 1);
-    for conflict in found.as_slice() {
-        assert_eq!(rt; format!(in alloc; "{}", conflict.oid)?.as_str(), "0:27");
-        assert_eq!(rt; conflict.kind.number(), 1);
-        assert_eq!(rt; conflict.shown, 4);
-    }
-    assert_eq!(rt; stone.conflicts(alloc, 4)?.as_slice().len(), 0);
-    Ok(())
-}
-
 fn session_that_runs(alloc: Global, chunk: &[u8]) -> Result<SessionScript, AllocError>
-    requires { length chunk.now ≤ most_bytes }
-    ensures { IfOk result (λ session. session ≡ record { user = codes "A"; commands = Chunk false chunk.now ∷ Commit ∷ [] }) }
+    requires { length chunk.now ≤ CHUNK_LIMIT }
+    ensures { IfOk result (λ session. session
+        ≡ record { user = codes "A"; commands = Chunk false chunk.now ∷ Commit ∷ [] }) }
 {
     let user = Text::of(Vec::from_slice(alloc, b"A")?);
     let text = Text::of(Vec::from_slice(alloc, chunk)?);
@@ -71,8 +58,16 @@ fn session_that_runs(alloc: Global, chunk: &[u8]) -> Result<SessionScript, Alloc
 }
 
 fn two_sessions(alloc: Global) -> Result<Arc<Script>, AllocError>
-    ensures { IfOk result (λ script. script.value ≡ record { user = codes "A"; commands = Chunk false (codes "Globals at: #T put: 5") ∷ Commit ∷ [] }
-        ∷ record { user = codes "A"; commands = Chunk false (codes "Globals at: #T put: 6") ∷ Commit ∷ [] } ∷ []) }
+    ensures { IfOk result (λ script. script.value
+        ≡ record {
+          user = codes "A";
+          commands = Chunk false (codes "Globals at: #T put: 5") ∷ Commit ∷ [];
+        }
+        ∷ record {
+          user = codes "A";
+          commands = Chunk false (codes "Globals at: #T put: 6") ∷ Commit ∷ [];
+        }
+        ∷ []) }
 {
     let first = session_that_runs(alloc, b"Globals at: #T put: 5")?;
     let second = session_that_runs(alloc, b"Globals at: #T put: 6")?;
@@ -80,7 +75,14 @@ fn two_sessions(alloc: Global) -> Result<Arc<Script>, AllocError>
 }
 
 fn record_of_put(alloc: Global, session: u32, value: i64) -> Result<TxnRecord, AllocError>
-    ensures { IfOk result (λ done. done ≡ record { session = session; transaction = 1; first_command = 1; last_command = 2; view = 0; written = (codes "T", value) ∷ [] }) }
+    ensures { IfOk result (λ done. done ≡ record {
+      session = session;
+      transaction = 1;
+      first_command = 1;
+      last_command = 2;
+      view = 0;
+      written = (codes "T", value) ∷ [];
+    }) }
 {
     let name = Text::of(Vec::from_slice(alloc, b"T")?);
     Ok(TxnRecord {

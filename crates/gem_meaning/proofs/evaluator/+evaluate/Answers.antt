@@ -3,7 +3,7 @@ use Rattle.std.proofs.lemmas.Int.{to_z-of_z}
 use Rattle.st_tree.specs.Trees.{sends}
 use Rattle.st_tree.specs.Views.{head_of}
 use Rattle.gem_meaning.specs.Operation.{operation_with, exact_result}
-use Rattle.gem_meaning.specs.Meaning.{ranged}
+use Rattle.gem_meaning.specs.Meaning.{small_or_error}
 use Rattle.gem_meaning.proofs.Evaluation.{operand_fits, at_head, head_error, message_fits, after_one, at_error, one_argument, lone, answered}
 use Rattle.gem_meaning.proofs.Steps.{next_message}
 use Rattle.gem_meaning.proofs.evaluator.+evaluate.Goals as goal
@@ -61,7 +61,7 @@ send-returns-in-Ok t c =
     let one = one_argument m.selector m.args.items (rw (← c.message.view_is) at c.requires) in
     let fits : FitsSigned w64 c.in-Ok.argument = search rules in
     let receiver : FitsSigned w64 c.args.receiver = search rules in
-    let exact : c.compute.result ≡ ranged (exact_result c.in-Some.operation c.args.receiver c.in-Ok.argument) =
+    let exact : c.compute.result ≡ small_or_error (exact_result c.in-Some.operation c.args.receiver c.in-Ok.argument) =
     rw (to_z-of_z w64 c.in-Ok.argument fits, to_z-of_z w64 c.args.receiver receiver) at c.compute.ensures in
     rw (← c.message.view_is, lone m.args.items c.argument-item.result one (rw c.as_slice.ensures.value at c.argument-item.is))
     (answered c.args.state.now c.args.receiver m.selector c.argument-item.result c.in-Some.operation c.in-Ok.argument c.compute.result

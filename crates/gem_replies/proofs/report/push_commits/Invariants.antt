@@ -1,5 +1,6 @@
 use Rattle.std.proofs.Common.{◌≡◌, ◌+◌, ◌++◌, take}
-use Rattle.gem_replies.specs.Report.{text_of_lines, history_lines}
+use Rattle.texts.specs.Lines.{text_of_lines}
+use Rattle.gem_replies.specs.Report.{history_lines}
 use Rattle.gem_replies.proofs.report.push_commits.Given as goal
 
 abbrev pub invariant-loop-index : goal.invariant-loop-index

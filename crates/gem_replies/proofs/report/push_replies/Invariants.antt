@@ -1,6 +1,7 @@
 use Rattle.std.proofs.Common.{◌≡◌, ◌++◌, take}
 use Rattle.std.specs.List.{flat_map}
-use Rattle.gem_replies.specs.Report.{text_of_lines, reply_lines}
+use Rattle.texts.specs.Lines.{text_of_lines}
+use Rattle.gem_replies.specs.Report.{reply_lines}
 use Rattle.gem_replies.proofs.report.push_replies.Given as goal
 
 abbrev pub invariant-loop-reply : goal.invariant-loop-reply

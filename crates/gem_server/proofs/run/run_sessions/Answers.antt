@@ -4,8 +4,9 @@ use Rattle.gem_server.proofs.run.run_sessions.Goals as goal
 
 pub loop-index-preserved : goal.loop-index-preserved
 loop-index-preserved c =
-    let more = c.run_session.ensures.extends in
-    let alone = c.run_session.ensures.alone refl in
+    let port = c.run_session.ensures.port in
+    let alone = port.alone refl in
     rw c.in_ok-push.ensures.items
-    (one_session c.args.stone.now c.loop-index.stone c.run_session.new.port c.args.sessions.now c.loop-index.index _ c.index-sessions-index.result c.in_ok-run_session.field-0 more.0
-    c.loop-index-test.true c.index-sessions-index.is c.loop-index.invariant c.run_session.ensures.opened more.1 alone.1 c.in_ok-run_session.ensures.transcript c.in_ok-run_session.ensures.login)
+    (one_session c.args.stone.now c.loop-index.stone c.run_session.new.port c.args.sessions.now c.loop-index.index _
+    c.index-sessions-index.result c.in_ok-run_session.field-0 port.extends.0 c.loop-index-test.true c.index-sessions-index.is
+    c.loop-index.invariant port.opened port.extends.1 alone.1 c.in_ok-run_session.ensures.transcript c.in_ok-run_session.ensures.login)

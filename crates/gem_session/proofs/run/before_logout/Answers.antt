@@ -1,4 +1,4 @@
-use Rattle.gem_session.proofs.Told.{until_is}
+use Rattle.gem_session.proofs.Serving.{until_is}
 use Rattle.gem_session.proofs.run.before_logout.Goals as goal
 
 pub returns-clause-until : goal.returns-clause-until

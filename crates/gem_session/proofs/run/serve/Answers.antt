@@ -1,90 +1,108 @@
-use Rattle.std.proofs.Common.{◌≡◌, ◌∙◌, ◌+◌, ◌-◌, true, [], refl, sym, ap, subst, ℕ, length, arith}
+use Rattle.std.proofs.Common.{◌≡◌, ◌∙◌, ◌+◌, ◌-◌, ◌≤◌, ◌++◌, ◌∷◌, [], refl, true, sym, ap, subst, ℕ, length, arith}
 use Rattle.std.proofs.lemmas.Option.{slice_get_read}
-use Rattle.gem_replies.specs.declared.reply.Line.TheVariants.{Logout}
-use Rattle.gem_meaning.specs.Session.{until_logout}
-use Rattle.stone_core.specs.Port.{IsAloneStill}
+use Rattle.gem_replies.specs.declared.reply.Line.TheVariants.{Login, Logout}
+use Rattle.gem_meaning.specs.Events.{standing}
+use Rattle.gem_meaning.specs.Session.{reply_with, until_logout, Says, TellsLogin}
+use Rattle.stone_core.specs.Port.{GoesOn}
+use Rattle.gem_session.specs.Running.{StandsBefore, Replied}
 use Rattle.gem_session.proofs.Limits.{short_at}
-use Rattle.gem_session.proofs.Own.{extends_twice, alone_twice}
-use Rattle.gem_session.proofs.Told.{command_at, told_login, told_reply, told_logout}
-use Rattle.gem_session.proofs.Logins.{login_of_user, login_stays, nothing_came}
+use Rattle.gem_session.proofs.Others.{goes_on_none, goes_on_twice}
+use Rattle.gem_session.proofs.Serving.{HasServed, front_of, goes_on_at, command_at, nothing_served, one_served, all_served, tells_login}
 use Rattle.gem_session.proofs.run.serve.Goals as goal
 
 pub loop-command-init : goal.loop-command-init
-loop-command-init g c =
-    let told = told_login _ _ _ _ c.before_logout-command-items.result.now _ _ c.requires.fresh c.in_ok-running.ensures.begins refl refl in
-    record {
-      opened = c.begin.ensures.opened;
-      serves = c.begin.ensures.serves;
-      came = c.begin.ensures.extends;
-      alone = c.begin.ensures.alone;
-      counted = refl;
-      told = rw (c.in_ok-push.ensures.items, c.new-replies.ensures.items) told;
-      login = rw (c.in_ok-push.ensures.items, c.new-replies.ensures.items) (login_of_user _ _ _ _ _ _ [] c.in_ok-running.ensures.begins.sees refl);
-    }
+loop-command-init g c = record {
+  port = goes_on_none _ _ c.requires.consistent;
+  counted = refl;
+  served = nothing_served (g.P.StonePort.state c.args.port.now).told c.args.script.now _ c.args.running _ c.requires.logged_in
+      (c.in_ok-push.ensures.items ∙ ap (λ rs. rs ++ reply_with 0 (Login c.args.running.view) ∷ []) c.new-replies.ensures.items);
+}
 
 pub reply-requires-clause-serves : goal.reply-requires-clause-serves
 reply-requires-clause-serves g c =
-    subst (λ n. g.P.StonePort.serves c.loop-command.port n ≡ true) (sym c.loop-command.invariant.told.of_session) (c.loop-command.invariant.serves _ c.requires.serves)
+    let i = c.loop-command.invariant in
+    subst (λ (n : ℕ). (g.P.StonePort.state c.loop-command.port).serves n ≡ true) (sym i.served.of_session)
+    (i.port.serves c.args.running.session c.requires.serves)
 
 pub reply-requires-clause-stands : goal.reply-requires-clause-stands
 reply-requires-clause-stands g c =
     let i = c.loop-command.invariant in
-    rw (i.opened, i.counted) i.told.stands
+    subst (λ o. StandsBefore (record { opened = o; events = (g.P.StonePort.state c.loop-command.port).told.events }) (c.loop-command.number + 1) c.loop-command.running)
+    (sym i.port.opened)
+    (subst (λ (n : ℕ). StandsBefore (record { opened = (g.P.StonePort.state c.args.port.now).told.opened; events = (g.P.StonePort.state c.loop-command.port).told.events }) (n + 1) c.loop-command.running)
+    (sym i.counted) i.served.stands)
 
 pub reply-requires-clause-command : goal.reply-requires-clause-command
 reply-requires-clause-command g c =
     let i = c.loop-command.invariant in
-    let place : c.loop-command.number + 1 - 1 ≡ c.loop-command.command-index = omega (arith, i.counted) in
     let b = c.before_logout-command-items in
-    rw (i.opened, place, i.told.of_session)
-    (command_at (g.P.StonePort.opened c.args.port.now) c.args.session c.args.commands.now c.commands.result.now b.result.now c.loop-command.command-index c.command-item.result c.requires.commands c.commands.ensures.commands b.ensures.prefix c.loop-command-test.true b.ensures.shorter c.command-item.is)
+    let place : c.loop-command.number + 1 - 1 ≡ c.loop-command.command-index = omega (arith, i.counted) in
+    rw (i.port.opened, place, i.served.of_session)
+    (command_at (g.P.StonePort.state c.args.port.now).told.opened c.args.running.session c.args.script.now c.commands.result.now b.result.now
+    c.loop-command.command-index c.command-item.result c.requires.logged_in.of_script c.commands.ensures.commands
+    (front_of _ _ b.ensures.prefix) c.loop-command-test.true b.ensures.shorter c.command-item.is)
+
+pub reply-requires-clause-short : goal.reply-requires-clause-short
+reply-requires-clause-short g c =
+    let b = c.before_logout-command-items in
+    short_at c.commands.result.now b.result.now c.loop-command.command-index c.command-item.result (front_of _ _ b.ensures.prefix)
+    c.loop-command-test.true b.ensures.shorter c.command-item.is
+    (rw c.commands.ensures.commands c.commands.ensures.limits.texts)
+
+pub reply-requires-clause-goes_on : goal.reply-requires-clause-goes_on
+reply-requires-clause-goes_on g c =
+    let b = c.before_logout-command-items in
+    goes_on_at c.commands.result.now b.result.now c.loop-command.command-index c.command-item.result b.ensures.prefix c.loop-command-test.true c.command-item.is
+
+pub returns-in_err-line-clause-port : goal.returns-in_err-line-clause-port
+returns-in_err-line-clause-port g c =
+    let i = c.loop-command.invariant in
+    goes_on_twice _ _ _ _ i.port
+    (subst (λ (n : ℕ). GoesOn n (g.P.StonePort.state c.loop-command.port) (g.P.StonePort.state c.reply.new.port)) i.served.of_session c.reply.ensures.port)
+
+pub returns-in_err-push-2-clause-port : goal.returns-in_err-push-2-clause-port
+returns-in_err-push-2-clause-port g c =
+    let i = c.loop-command.invariant in
+    goes_on_twice _ _ _ _ i.port
+    (subst (λ (n : ℕ). GoesOn n (g.P.StonePort.state c.loop-command.port) (g.P.StonePort.state c.reply.new.port)) i.served.of_session c.reply.ensures.port)
 
 pub loop-command-preserved : goal.loop-command-preserved
 loop-command-preserved g c =
     let i = c.loop-command.invariant in
     let body = c.before_logout-command-items.result.now in
+    let o = (g.P.StonePort.state c.args.port.now).told.opened in
+    let before = (g.P.StonePort.state c.loop-command.port).told.events in
+    let after = (g.P.StonePort.state c.reply.new.port).told.events in
     let item = slice_get_read body (length body) c.loop-command.command-index c.command-item.result refl c.loop-command-test.true c.command-item.is in
-    let replied = rw (i.opened, i.counted) at c.in_ok-line.ensures.replied in
-    let told = told_reply _ _ _ _ _ body _ _ _ _ c.command-item.result (record { command = c.loop-command.number + 1; line = c.in_ok-line.line })
-    item c.loop-command-test.true i.told c.reply.ensures.extends (ap (λ n. n + 1) i.counted) replied in
+    let replied : Replied o (c.loop-command.command-index + 1) before after c.loop-command.running c.command-item.result (c.in_ok-line.line ∷ []) c.reply.new.self =
+    subst (λ (n : ℕ). Replied o (n + 1) before after c.loop-command.running c.command-item.result (c.in_ok-line.line ∷ []) c.reply.new.self) i.counted
+    (subst (λ x. Replied x (c.loop-command.number + 1) before after c.loop-command.running c.command-item.result (c.in_ok-line.line ∷ []) c.reply.new.self) i.port.opened c.in_ok-line.ensures.replied) in
+    let served = one_served o (g.P.StonePort.state c.args.port.now).told.events before after body c.loop-command.command-index c.args.running c.loop-command.running c.reply.new.self
+    c.loop-command.replies.items c.command-item.result c.in_ok-line.line item c.loop-command-test.true i.served c.reply.ensures.port.extends replied in
     record {
-      opened = c.reply.ensures.opened ∙ i.opened;
-      serves = λ other serves. c.reply.ensures.serves other (i.serves other serves);
-      came = extends_twice _ _ _ i.came c.reply.ensures.extends;
-      alone = alone_twice _ _ _ c.args.session _ _ _ i.alone (subst (λ (n : ℕ). IsAloneStill (g.P.StonePort.alone c.loop-command.port) n (g.P.StonePort.alone c.reply.new.port) (g.P.StonePort.seen c.loop-command.port) (g.P.StonePort.seen c.reply.new.port)) i.told.of_session c.reply.ensures.alone);
+      port = goes_on_twice _ _ _ _ i.port
+          (subst (λ (n : ℕ). GoesOn n (g.P.StonePort.state c.loop-command.port) (g.P.StonePort.state c.reply.new.port)) i.served.of_session c.reply.ensures.port);
       counted = omega (arith, i.counted);
-      told = rw c.in_ok-push-2.ensures.items told;
-      login = rw c.in_ok-push-2.ensures.items (login_stays _ _ _ _ _ _ _ i.login c.reply.ensures.extends);
+      served = subst (λ rs. HasServed o (g.P.StonePort.state c.args.port.now).told.events after body (c.loop-command.command-index + 1) c.args.running c.reply.new.self rs)
+          (sym (c.in_ok-push-2.ensures.items ∙ ap (λ (n : ℕ). c.loop-command.replies.items ++ reply_with (n + 1) c.in_ok-line.line ∷ []) i.counted)) served;
     }
 
-pub returns-clause-transcript : goal.returns-clause-transcript
-returns-clause-transcript g c =
+pub returns-clause-says : goal.returns-clause-says
+returns-clause-says g c =
     let i = c.loop-command.invariant in
+    let t = (g.P.StonePort.state c.args.port.now).told in
+    let now = (g.P.StonePort.state c.loop-command.port).told in
+    let body = c.before_logout-command-items.result.now in
     let until = ap until_logout (sym c.commands.ensures.commands) ∙ c.before_logout-command-items.ensures.until in
-    let says = told_logout _ _ _ _ c.args.commands.now c.before_logout-command-items.result.now _ _ _
-    (record { command = c.loop-command.number + 1; line = Logout }) c.requires.user until c.loop-command-test.false i.told (ap (λ n. n + 1) i.counted) refl in
-    record {
-      session_is = refl;
-      user_is = c.in_ok-clone.ensures.cases ∙ c.user.ensures;
-      says = rw (c.of.ensures, c.in_ok-push-3.ensures.items) says;
-    }
+    let now_is : now ≡ record { opened = t.opened; events = now.events } = ap (λ o. record { opened = o; events = now.events }) i.port.opened in
+    let says = all_served t now.events c.args.script.now body c.loop-command.command-index c.args.running c.loop-command.running c.loop-command.replies.items now
+    c.requires.logged_in until c.loop-command-test.false i.port.extends now_is i.served in
+    subst (λ rs. Says now c.args.running.session c.args.script.now rs)
+    (sym (c.in_ok-push-3.ensures.items ∙ ap (λ (n : ℕ). c.loop-command.replies.items ++ reply_with (n + 1) Logout ∷ []) i.counted)) says
 
-pub returns-clause-login : goal.returns-clause-login
-returns-clause-login g c =
-    rw (c.of.ensures, c.in_ok-push-3.ensures.items) (login_stays _ _ _ _ _ _ _ c.loop-command.invariant.login (nothing_came _))
-
-pub returns-in_err-line-clause-alone : goal.returns-in_err-line-clause-alone
-returns-in_err-line-clause-alone g c =
+pub returns-clause-tells : goal.returns-clause-tells
+returns-clause-tells g c =
     let i = c.loop-command.invariant in
-    alone_twice _ _ _ c.args.session _ _ _ i.alone (subst (λ (n : ℕ). IsAloneStill (g.P.StonePort.alone c.loop-command.port) n (g.P.StonePort.alone c.reply.new.port) (g.P.StonePort.seen c.loop-command.port) (g.P.StonePort.seen c.reply.new.port)) i.told.of_session c.reply.ensures.alone)
-
-pub returns-in_err-push-2-clause-alone : goal.returns-in_err-push-2-clause-alone
-returns-in_err-push-2-clause-alone g c =
-    let i = c.loop-command.invariant in
-    alone_twice _ _ _ c.args.session _ _ _ i.alone (subst (λ (n : ℕ). IsAloneStill (g.P.StonePort.alone c.loop-command.port) n (g.P.StonePort.alone c.reply.new.port) (g.P.StonePort.seen c.loop-command.port) (g.P.StonePort.seen c.reply.new.port)) i.told.of_session c.reply.ensures.alone)
-
-pub reply-requires-clause-short : goal.reply-requires-clause-short
-reply-requires-clause-short g c =
-    let b = c.before_logout-command-items in
-    short_at c.commands.result.now b.result.now c.loop-command.command-index c.command-item.result b.ensures.prefix c.loop-command-test.true b.ensures.shorter c.command-item.is
-    (rw c.commands.ensures.commands c.commands.ensures.limits.texts)
+    subst (TellsLogin (standing (g.P.StonePort.state c.args.port.now).told).number) (sym c.in_ok-push-3.ensures.items)
+    (subst (λ (n : ℕ). TellsLogin n (c.loop-command.replies.items ++ reply_with (c.loop-command.number + 1) Logout ∷ [])) c.requires.logged_in.view
+    (tells_login c.args.running.view i.served.said _ _ i.served.login))

@@ -1,5 +1,6 @@
 use Rattle.std.proofs.Common.{sym, ◌∙◌}
-use Rattle.rc_dict.proofs.Edits.{put-stands, put-fits, absent, on_error}
+use Rattle.rc_dict.proofs.Edits.{put-stands, put-fits, absent}
+use Rattle.sorted_pairs.proofs.Cases.{on_error}
 use Rattle.rc_dict.proofs.Kept.{IsDict-put}
 use Rattle.rc_dict.proofs.pairs.put.Goals as goal
 

@@ -1,6 +1,6 @@
 use Rattle.std.proofs.Common.{rules, ◌≡◌, ◌++◌, ◌∷◌, [], ap, arith, sym, ◌∙◌, codes}
 use Rattle.shell_words.specs.Lines.{lines_of, IsInner}
-use Rattle.shell_words.proofs.LineFronts.{empty_if}
+use Rattle.shell_words.proofs.Empty.{empty_if}
 use Rattle.shell_words.proofs.Bodies.{passed_none, pass_line, found_percent, no_percent, counts}
 use Rattle.shell_words.proofs.pieces.split_body.Goals as goal
 

@@ -1,7 +1,8 @@
 use Rattle.std.proofs.Common.{refl, ap, arith, sym, ◌∙◌}
 use Rattle.std.proofs.lemmas.Result.{err_from_is_err_and}
 use Rattle.shell_words.specs.Lines.{lines_of}
-use Rattle.shell_words.proofs.LineFronts.{empty_if, few_lines}
+use Rattle.shell_words.proofs.Empty.{empty_if}
+use Rattle.shell_words.proofs.LineFronts.{few_lines}
 use Rattle.shell_words.proofs.Progress.{standing_first, standing_next, stops_here, line_numbers, read_all}
 use Rattle.shell_words.proofs.reading.read_lines.Goals as goal
 

@@ -1,4 +1,4 @@
-use Rattle.st_tree.specs.Lexed.{tokens_of}
+use Rattle.st_grammar.specs.Lexed.{tokens_of}
 use Rattle.st_lexer.proofs.Function.{gives_tokens, gives_fault}
 use Rattle.st_lexer.proofs.laws.as_function.Goals as goal
 

@@ -1,6 +1,6 @@
 use Rattle.std.proofs.Common.{◌≡◌, ◌+◌, drop}
 use Rattle.std.specs.List.{prefix_len}
-use Rattle.st_tree.specs.Tokens.{is_radix_digit}
+use Rattle.st_grammar.specs.Tokens.{is_radix_digit}
 use Rattle.st_lexer.proofs.numbers.radix_digits_len.Given as goal
 
 abbrev pub invariant-loop-i : goal.invariant-loop-i

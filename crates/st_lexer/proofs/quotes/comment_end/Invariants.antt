@@ -1,5 +1,5 @@
 use Rattle.std.proofs.Common.{◌≡◌, drop}
-use Rattle.st_tree.specs.Tokens.{comment_end, later}
+use Rattle.st_grammar.specs.Tokens.{comment_end, later}
 use Rattle.st_lexer.proofs.quotes.comment_end.Given as goal
 
 abbrev pub invariant-loop-i : goal.invariant-loop-i

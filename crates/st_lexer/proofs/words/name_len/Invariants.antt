@@ -1,6 +1,6 @@
 use Rattle.std.proofs.Common.{◌≡◌, ◌+◌, drop}
 use Rattle.std.specs.List.{prefix_len}
-use Rattle.st_tree.specs.Tokens.{is_name_byte}
+use Rattle.texts.specs.NameBytes.{is_name_byte}
 use Rattle.st_lexer.proofs.words.name_len.Given as goal
 
 abbrev pub invariant-loop-i : goal.invariant-loop-i

@@ -1,5 +1,5 @@
 use Rattle.std.proofs.Common.{refl}
-use Rattle.st_grammar.specs.Machine.{pattern_operator}
+use Rattle.st_grammar_laws.specs.Machine.{pattern_operator}
 use Rattle.st_parser.proofs.Steps.{hands_on}
 use Rattle.st_parser.proofs.declarations.operator_pattern.Goals as goal
 

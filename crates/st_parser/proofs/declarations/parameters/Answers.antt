@@ -1,4 +1,4 @@
-use Rattle.st_grammar.specs.Machine.{in_params, param_wanted}
+use Rattle.st_grammar_laws.specs.Machine.{in_params, param_wanted}
 use Rattle.st_parser.proofs.Steps.{hands_on}
 use Rattle.st_parser.proofs.declarations.parameters.Goals as goal
 use Rattle.std.proofs.Common.{rules, ◌∙◌, []}

@@ -1,6 +1,6 @@
 use Rattle.std.proofs.Common.{◌≤◌, List, [], length}
-use Rattle.st_tree.specs.Trees.{Bytes}
-use Rattle.st_grammar.specs.Machine.{Slot, in_params}
+use Rattle.texts.specs.Bytes.{Bytes}
+use Rattle.st_grammar_laws.specs.Machine.{Slot, in_params}
 use Rattle.st_parser.specs.Descent.{Runs}
 use Rattle.st_parser.proofs.declarations.parameters.Given as goal
 

@@ -1,6 +1,6 @@
 use Rattle.std.proofs.Common.{◌≡◌, ◌≤◌, [], length}
 use Rattle.st_tree.specs.Trees.{no_statements}
-use Rattle.st_grammar.specs.Machine.{Body, in_temps}
+use Rattle.st_grammar_laws.specs.Machine.{Body, in_temps}
 use Rattle.st_parser.specs.Descent.{Runs, params_of, filled}
 use Rattle.st_parser.proofs.declarations.temporary_names.Given as goal
 

@@ -1,11 +1,12 @@
 use Rattle.std.proofs.Common.{◌≡◌, ◌<◌, ◌+◌, ◌∷◌, ◌++◌, [], true, false, refl, sym, ap, subst, ◌∙◌, length, rules, arith}
 use Rattle.std.specs.Prelude.{nat_lt}
+use Rattle.profile.specs.declared.limits.TheConstants.{DEPTH_LIMIT}
 use Rattle.st_tree.specs.Trees.{expression, expressions, no_expressions, sends, no_sends, statements, no_statements, send, block, closure}
-use Rattle.st_tree.specs.Tokens.{identifier, binary, bar, keyword}
+use Rattle.st_grammar.specs.Tokens.{identifier, binary, bar, keyword}
 use Rattle.st_tree.specs.Views.{head_of}
-use Rattle.st_tree.specs.Grammar.{word, scope, any_message, no_unary, no_message, is_minus}
-use Rattle.st_tree.specs.Fails.{every}
-use Rattle.st_grammar.specs.Machine.{run, outer, alone, in_body, in_block, in_paren, in_params, binary_part, keyword_part, want, named, minus, have, begin, ended, after_semicolon, as_message, as_cascade, bare, added, depth_of}
+use Rattle.st_grammar.specs.Grammar.{word, scope, any_message, no_unary, no_message, is_minus}
+use Rattle.st_grammar.specs.Fails.{every}
+use Rattle.st_grammar_laws.specs.Machine.{machine_run, outer, alone, in_body, in_block, in_paren, in_params, binary_part, keyword_part, want, named, minus, have, begin, ended, after_semicolon, as_message, as_cascade, bare, added, depth_of}
 use Rattle.st_parser.specs.Descent.{Runs, Suits, starts, is_keyword, is_caret, is_period, is_semicolon, is_close_bracket, is_quiet, returns_of, holding}
 use Rattle.st_parser.specs.Scopes.{scopes_seen}
 use Rattle.st_parser.proofs.Steps.{hands_on, reached_after}
@@ -59,7 +60,7 @@ binary_messages-binary-preserved t c =
     let pushed : c.push.new.self.items ≡ c.binary.messages.items ++ c.in_ok-binary_message.field-0 ∷ [] = search rules in
     record {
       runs = λ w names h su. c.binary.invariant.runs w names h su ∙ selector_runs w (expression names h (sends c.binary.messages.items) no_sends) c.in-Some.selector.now c.binary.r c.skip.new.self c.in-Some.ensures c.skip.ensures ∙ c.in_ok-binary_message.ensures.met w as_message (expression names h (sends c.binary.messages.items) no_sends) su
-          ∙ ap (λ ms. run every (have (outer w) (expression names h ms no_sends) no_unary) c.binary_message.new.r) (sym (ap sends pushed ∙ sends_more c.binary.messages.items c.in_ok-binary_message.field-0));
+          ∙ ap (λ ms. machine_run every (have (outer w) (expression names h ms no_sends) no_unary) c.binary_message.new.r) (sym (ap sends pushed ∙ sends_more c.binary.messages.items c.in_ok-binary_message.field-0));
       unary = c.in_ok-binary_message.ensures.stops;
       shorter = search rules;
     }
@@ -68,7 +69,7 @@ pub block-returns-in_err-names-clause-met : goal.block-returns-in_err-names-clau
 block-returns-in_err-names-clause-met t c =
     λ k names su.
     let d : depth_of k ≡ c.args.depth = su.1 in
-    let small : nat_lt (depth_of k) 200 ≡ true = search rules in
+    let small : nat_lt (depth_of k) DEPTH_LIMIT ≡ true = search rules in
     hands_on (want k names) (in_params k names []) c.args.r.now c.skip.new.self c.block_names.new.r _ c.in_err-names.field-0.0 c.from_residual.result c.from_residual.ensures.1
     (block_opens k names c.args.r.now c.skip.new.self c.requires.opens small c.skip.ensures)
     (c.in_err-names.ensures.met k names)
@@ -77,26 +78,26 @@ pub block-returns-in_err-body-clause-met : goal.block-returns-in_err-body-clause
 block-returns-in_err-body-clause-met t c =
     λ k names su.
     let d : depth_of k ≡ c.args.depth = su.1 in
-    let small : nat_lt (depth_of k) 200 ≡ true = search rules in
+    let small : nat_lt (depth_of k) DEPTH_LIMIT ≡ true = search rules in
     let ps : c.in_ok-names.names.params.items ≡ c.deref.result.now = search rules in
     let ts : c.in_ok-names.names.temps.items ≡ c.deref-2.result.now = search rules in
     let suits : Suits (outer (alone (in_body (in_block k names c.deref.result.now c.deref-2.result.now no_statements) false))) (scopes_seen c.within-inner.result) (c.args.depth + 1) = (ap (λ ss. scope c.deref.result.now c.deref-2.result.now ∷ ss) su.0 ∙ sym c.within-inner.ensures, omega (arith, d)) in
     let before : Runs (want k names) c.args.r.now (begin (in_block k names c.deref.result.now c.deref-2.result.now no_statements)) c.block_names.new.r =
     block_opens k names c.args.r.now c.skip.new.self c.requires.opens small c.skip.ensures ∙ c.in_ok-names.ensures.met k names
-    ∙ ap (λ xs. run every (begin (in_block k names xs c.in_ok-names.names.temps.items no_statements)) c.block_names.new.r) ps ∙ ap (λ xs. run every (begin (in_block k names c.deref.result.now xs no_statements)) c.block_names.new.r) ts in
+    ∙ ap (λ xs. machine_run every (begin (in_block k names xs c.in_ok-names.names.temps.items no_statements)) c.block_names.new.r) ps ∙ ap (λ xs. machine_run every (begin (in_block k names c.deref.result.now xs no_statements)) c.block_names.new.r) ts in
     hands_on (want k names) (begin (in_block k names c.deref.result.now c.deref-2.result.now no_statements)) c.args.r.now c.block_names.new.r c.statements.new.r _ c.in_err-body.field-0.0 c.from_residual-in_err-body.result c.from_residual-in_err-body.ensures.1 before (c.in_err-body.ensures.met (in_block k names c.deref.result.now c.deref-2.result.now no_statements) suits)
 
 pub block-returns-then-not-is_at_close_bracket-clause-met : goal.block-returns-then-not-is_at_close_bracket-clause-met
 block-returns-then-not-is_at_close_bracket-clause-met t c =
     λ k names su.
     let d : depth_of k ≡ c.args.depth = su.1 in
-    let small : nat_lt (depth_of k) 200 ≡ true = search rules in
+    let small : nat_lt (depth_of k) DEPTH_LIMIT ≡ true = search rules in
     let ps : c.in_ok-names.names.params.items ≡ c.deref.result.now = search rules in
     let ts : c.in_ok-names.names.temps.items ≡ c.deref-2.result.now = search rules in
     let suits : Suits (outer (alone (in_body (in_block k names c.deref.result.now c.deref-2.result.now no_statements) false))) (scopes_seen c.within-inner.result) (c.args.depth + 1) = (ap (λ ss. scope c.deref.result.now c.deref-2.result.now ∷ ss) su.0 ∙ sym c.within-inner.ensures, omega (arith, d)) in
     let before : Runs (want k names) c.args.r.now (begin (in_block k names c.deref.result.now c.deref-2.result.now no_statements)) c.block_names.new.r =
     block_opens k names c.args.r.now c.skip.new.self c.requires.opens small c.skip.ensures ∙ c.in_ok-names.ensures.met k names
-    ∙ ap (λ xs. run every (begin (in_block k names xs c.in_ok-names.names.temps.items no_statements)) c.block_names.new.r) ps ∙ ap (λ xs. run every (begin (in_block k names c.deref.result.now xs no_statements)) c.block_names.new.r) ts in
+    ∙ ap (λ xs. machine_run every (begin (in_block k names xs c.in_ok-names.names.temps.items no_statements)) c.block_names.new.r) ps ∙ ap (λ xs. machine_run every (begin (in_block k names c.deref.result.now xs no_statements)) c.block_names.new.r) ts in
     let none : starts is_close_bracket c.statements.new.r ≡ false = search rules in
     before ∙ c.in_ok-body.ensures.met (in_block k names c.deref.result.now c.deref-2.result.now no_statements) suits ∙ block_stuck k names c.deref.result.now c.deref-2.result.now (statements c.in_ok-body.body.items) c.statements.new.r none
 
@@ -104,17 +105,17 @@ pub block-returns-clause-met : goal.block-returns-clause-met
 block-returns-clause-met t c =
     λ k names su.
     let d : depth_of k ≡ c.args.depth = su.1 in
-    let small : nat_lt (depth_of k) 200 ≡ true = search rules in
+    let small : nat_lt (depth_of k) DEPTH_LIMIT ≡ true = search rules in
     let ps : c.in_ok-names.names.params.items ≡ c.deref.result.now = search rules in
     let ts : c.in_ok-names.names.temps.items ≡ c.deref-2.result.now = search rules in
     let suits : Suits (outer (alone (in_body (in_block k names c.deref.result.now c.deref-2.result.now no_statements) false))) (scopes_seen c.within-inner.result) (c.args.depth + 1) = (ap (λ ss. scope c.deref.result.now c.deref-2.result.now ∷ ss) su.0 ∙ sym c.within-inner.ensures, omega (arith, d)) in
     let before : Runs (want k names) c.args.r.now (begin (in_block k names c.deref.result.now c.deref-2.result.now no_statements)) c.block_names.new.r =
     block_opens k names c.args.r.now c.skip.new.self c.requires.opens small c.skip.ensures ∙ c.in_ok-names.ensures.met k names
-    ∙ ap (λ xs. run every (begin (in_block k names xs c.in_ok-names.names.temps.items no_statements)) c.block_names.new.r) ps ∙ ap (λ xs. run every (begin (in_block k names c.deref.result.now xs no_statements)) c.block_names.new.r) ts in
+    ∙ ap (λ xs. machine_run every (begin (in_block k names xs c.in_ok-names.names.temps.items no_statements)) c.block_names.new.r) ps ∙ ap (λ xs. machine_run every (begin (in_block k names c.deref.result.now xs no_statements)) c.block_names.new.r) ts in
     let some : starts is_close_bracket c.statements.new.r ≡ true = search rules in
     before ∙ c.in_ok-body.ensures.met (in_block k names c.deref.result.now c.deref-2.result.now no_statements) suits ∙ block_ends k names c.deref.result.now c.deref-2.result.now (statements c.in_ok-body.body.items) c.statements.new.r c.skip-2.new.self some c.skip-2.ensures
-    ∙ ap (λ xs. run every (have k (bare names (block (closure xs c.deref-2.result.now (statements c.in_ok-body.body.items)))) any_message) c.skip-2.new.self) (sym ps)
-    ∙ ap (λ xs. run every (have k (bare names (block (closure c.in_ok-names.names.params.items xs (statements c.in_ok-body.body.items)))) any_message) c.skip-2.new.self) (sym ts)
+    ∙ ap (λ xs. machine_run every (have k (bare names (block (closure xs c.deref-2.result.now (statements c.in_ok-body.body.items)))) any_message) c.skip-2.new.self) (sym ps)
+    ∙ ap (λ xs. machine_run every (have k (bare names (block (closure c.in_ok-names.names.params.items xs (statements c.in_ok-body.body.items)))) any_message) c.skip-2.new.self) (sym ts)
 
 pub cascade-returns-in_err-message-clause-met : goal.cascade-returns-in_err-message-clause-met
 cascade-returns-in_err-message-clause-met t c =
@@ -132,7 +133,7 @@ cascade-cascade-preserved t c =
     let pushed : c.push.new.self.items ≡ c.cascade.cascade.items ++ c.in_ok-message.field-0 ∷ [] = search rules in
     record {
       runs = λ o names h su. c.cascade.invariant.runs o names h su ∙ semicolon_step o (expression names h (sends c.args.messages.now) (sends c.cascade.cascade.items)) c.cascade.r c.skip.new.self semi (has_some names h c.args.messages.now (sends c.cascade.cascade.items) some) c.skip.ensures ∙ c.in_ok-message.ensures.met o (expression names h (sends c.args.messages.now) (sends c.cascade.cascade.items)) su
-          ∙ ap (λ cs. run every (have (outer (alone o)) (expression names h (sends c.args.messages.now) cs) no_message) c.message.new.r) (sym (ap sends pushed ∙ sends_more c.cascade.cascade.items c.in_ok-message.field-0));
+          ∙ ap (λ cs. machine_run every (have (outer (alone o)) (expression names h (sends c.args.messages.now) cs) no_message) c.message.new.r) (sym (ap sends pushed ∙ sends_more c.cascade.cascade.items c.in_ok-message.field-0));
       shorter = search rules;
     }
 
@@ -155,7 +156,7 @@ expression-returns-in_err-cascade-clause-met t c =
     λ o su.
     let lent : c.in_ok-messages.messages.items ≡ c.deref.result.now = search rules in
     hands_on (want (outer (alone o)) []) (have (outer (alone o)) (expression c.in_ok-assigns.assigns.items (head_of c.in_ok-head.head) (sends c.deref.result.now) no_sends) no_message) c.args.r.now c.messages.new.r c.cascade.new.r _ c.in_err-cascade.field-0.0 c.from_residual-in_err-cascade.result c.from_residual-in_err-cascade.ensures.1
-    (c.in_ok-assigns.ensures.met o su.0 ∙ c.in_ok-head.ensures.met (outer (alone o)) c.in_ok-assigns.assigns.items su refl ∙ c.in_ok-messages.ensures.met o c.in_ok-assigns.assigns.items (head_of c.in_ok-head.head) su ∙ ap (λ ms. run every (have (outer (alone o)) (expression c.in_ok-assigns.assigns.items (head_of c.in_ok-head.head) (sends ms) no_sends) no_message) c.messages.new.r) lent)
+    (c.in_ok-assigns.ensures.met o su.0 ∙ c.in_ok-head.ensures.met (outer (alone o)) c.in_ok-assigns.assigns.items su refl ∙ c.in_ok-messages.ensures.met o c.in_ok-assigns.assigns.items (head_of c.in_ok-head.head) su ∙ ap (λ ms. machine_run every (have (outer (alone o)) (expression c.in_ok-assigns.assigns.items (head_of c.in_ok-head.head) (sends ms) no_sends) no_message) c.messages.new.r) lent)
     (c.in_err-cascade.ensures.met o c.in_ok-assigns.assigns.items (head_of c.in_ok-head.head) su)
 
 pub expression-returns-clause-quiet : goal.expression-returns-clause-quiet
@@ -201,8 +202,8 @@ keyword_message-returns-in_default-clause-met t c =
     let none : starts is_keyword c.argument.new.r ≡ false = search rules in
     λ o role f su. c.parts.invariant.runs o role f su ∙ c.in_ok-argument.ensures.met o role f c.parts.selector.items (expressions c.parts.args.items) su
     ∙ keyword_ended o role f c.parts.selector.items (expressions c.parts.args.items) c.in_ok-argument.field-0 no_unary c.argument.new.r (no_message_starts c.argument.new.r c.in_ok-argument.ensures.stops none)
-    ∙ ap (λ es. run every (have (outer (alone o)) (added role f (send c.parts.selector.items es)) no_message) c.argument.new.r) (sym (ap expressions pushed ∙ arguments_more c.parts.args.items c.in_ok-argument.field-0))
-    ∙ ap (λ x. run every (have (outer (alone o)) (added role f (send x (expressions c.push.new.self.items))) no_message) c.argument.new.r) (sym c.of.ensures)
+    ∙ ap (λ es. machine_run every (have (outer (alone o)) (added role f (send c.parts.selector.items es)) no_message) c.argument.new.r) (sym (ap expressions pushed ∙ arguments_more c.parts.args.items c.in_ok-argument.field-0))
+    ∙ ap (λ x. machine_run every (have (outer (alone o)) (added role f (send x (expressions c.push.new.self.items))) no_message) c.argument.new.r) (sym c.of.ensures)
 
 pub keyword_message-parts-preserved : goal.keyword_message-parts-preserved
 keyword_message-parts-preserved t c =
@@ -212,8 +213,8 @@ keyword_message-parts-preserved t c =
     record {
       runs = λ o role f su. c.parts.invariant.runs o role f su ∙ c.in_ok-argument.ensures.met o role f c.parts.selector.items (expressions c.parts.args.items) su
           ∙ part_step o role f c.parts.selector.items (expressions c.parts.args.items) c.in_ok-argument.field-0 c.in-Some-Keyword.bytes.now _ c.argument.new.r c.skip.new.self shown
-          ∙ ap (λ es. run every (want (outer (keyword_part o role f (c.parts.selector.items ++ c.in-Some-Keyword.bytes.now) es)) []) c.skip.new.self) (sym (ap expressions pushed ∙ arguments_more c.parts.args.items c.in_ok-argument.field-0))
-          ∙ ap (λ x. run every (want (outer (keyword_part o role f x (expressions c.push.new.self.items))) []) c.skip.new.self) (sym longer);
+          ∙ ap (λ es. machine_run every (want (outer (keyword_part o role f (c.parts.selector.items ++ c.in-Some-Keyword.bytes.now) es)) []) c.skip.new.self) (sym (ap expressions pushed ∙ arguments_more c.parts.args.items c.in_ok-argument.field-0))
+          ∙ ap (λ x. machine_run every (want (outer (keyword_part o role f x (expressions c.push.new.self.items))) []) c.skip.new.self) (sym longer);
       shorter = search rules;
     }
 
@@ -265,7 +266,7 @@ messages-returns-in-Some-Keyword-clause-met t c =
     let shown : c.binary_messages.new.r ≡ word keyword c.in-Some-Keyword.field-0.bytes.now c.in-Some-Keyword.field-0.touches ∷ c.skip.new.self = search rules in
     let pushed : c.push.new.self.items ≡ c.binary_messages.new.messages.items ++ c.in_ok-keyword_message.field-0 ∷ [] = search rules in
     λ o names h su. c.in_ok-messages.ensures.met (outer (alone o)) names h ∙ unary_ended (alone o) (expression names h (sends c.in_ok-messages.messages.items) no_sends) c.unary_messages.new.r c.in_ok-messages.ensures.stops ∙ c.in_ok-binary_messages.ensures.met (alone o) names h su ∙ keyword_step o (expression names h (sends c.binary_messages.new.messages.items) no_sends) c.in-Some-Keyword.field-0.bytes.now _ c.binary_messages.new.r c.skip.new.self shown ∙ c.in_ok-keyword_message.ensures.met o as_message (expression names h (sends c.binary_messages.new.messages.items) no_sends) su
-    ∙ ap (λ ms. run every (have (outer (alone o)) (expression names h ms no_sends) no_message) c.keyword_message.new.r) (sym (ap sends pushed ∙ sends_more c.binary_messages.new.messages.items c.in_ok-keyword_message.field-0))
+    ∙ ap (λ ms. machine_run every (have (outer (alone o)) (expression names h ms no_sends) no_message) c.keyword_message.new.r) (sym (ap sends pushed ∙ sends_more c.binary_messages.new.messages.items c.in_ok-keyword_message.field-0))
 
 pub messages-returns-clause-met : goal.messages-returns-clause-met
 messages-returns-clause-met t c =
@@ -276,7 +277,7 @@ pub paren-returns-in_err-inner-clause-met : goal.paren-returns-in_err-inner-clau
 paren-returns-in_err-inner-clause-met t c =
     λ k names su.
     let d : depth_of k ≡ c.args.depth = su.1 in
-    let small : nat_lt (depth_of k) 200 ≡ true = search rules in
+    let small : nat_lt (depth_of k) DEPTH_LIMIT ≡ true = search rules in
     hands_on (want k names) (want (outer (alone (in_paren k names))) []) c.args.r.now c.skip.new.self c.expression.new.r _ c.in_err-inner.field-0.0 c.from_residual.result c.from_residual.ensures.1
     (paren_opens k names c.args.r.now c.skip.new.self c.requires.opens small c.skip.ensures)
     (c.in_err-inner.ensures.met (in_paren k names) (su.0, omega (arith, d)))
@@ -307,14 +308,14 @@ pub statements-returns-then-not-is_at_period-clause-met : goal.statements-return
 statements-returns-then-not-is_at_period-clause-met t c =
     let pushed : c.push.new.self.items ≡ c.statements.body.items ++ c.in_ok-statement.field-0 ∷ [] = search rules in
     let no_period : starts is_period c.statement.new.r ≡ false = search rules in
-    λ b su. c.statements.invariant.runs b su ∙ c.in_ok-statement.ensures.met (holding b (statements c.statements.body.items)) (suits_body b (statements c.statements.body.items) false (scopes_seen c.args.scopes.now) c.args.depth su) ∙ statement_ended b (statements c.statements.body.items) c.in_ok-statement.field-0 c.statement.new.r no_period c.in_ok-statement.ensures.quiet ∙ ap (λ ss. run every (ended (holding b ss)) c.statement.new.r) (sym (ap statements pushed ∙ statements_more c.statements.body.items c.in_ok-statement.field-0))
+    λ b su. c.statements.invariant.runs b su ∙ c.in_ok-statement.ensures.met (holding b (statements c.statements.body.items)) (suits_body b (statements c.statements.body.items) false (scopes_seen c.args.scopes.now) c.args.depth su) ∙ statement_ended b (statements c.statements.body.items) c.in_ok-statement.field-0 c.statement.new.r no_period c.in_ok-statement.ensures.quiet ∙ ap (λ ss. machine_run every (ended (holding b ss)) c.statement.new.r) (sym (ap statements pushed ∙ statements_more c.statements.body.items c.in_ok-statement.field-0))
 
 pub statements-returns-then-returns-clause-met : goal.statements-returns-then-returns-clause-met
 statements-returns-then-returns-clause-met t c =
     let pushed : c.push.new.self.items ≡ c.statements.body.items ++ c.in_ok-statement.field-0 ∷ [] = search rules in
     let period_first : starts is_period c.statement.new.r ≡ true = search rules in
     let last : returns_of c.in_ok-statement.field-0 ≡ true = search rules in
-    λ b su. c.statements.invariant.runs b su ∙ c.in_ok-statement.ensures.met (holding b (statements c.statements.body.items)) (suits_body b (statements c.statements.body.items) false (scopes_seen c.args.scopes.now) c.args.depth su) ∙ last_period b (statements c.statements.body.items) c.in_ok-statement.field-0 c.statement.new.r c.skip.new.self period_first last c.skip.ensures ∙ ap (λ ss. run every (ended (holding b ss)) c.skip.new.self) (sym (ap statements pushed ∙ statements_more c.statements.body.items c.in_ok-statement.field-0))
+    λ b su. c.statements.invariant.runs b su ∙ c.in_ok-statement.ensures.met (holding b (statements c.statements.body.items)) (suits_body b (statements c.statements.body.items) false (scopes_seen c.args.scopes.now) c.args.depth su) ∙ last_period b (statements c.statements.body.items) c.in_ok-statement.field-0 c.statement.new.r c.skip.new.self period_first last c.skip.ensures ∙ ap (λ ss. machine_run every (ended (holding b ss)) c.skip.new.self) (sym (ap statements pushed ∙ statements_more c.statements.body.items c.in_ok-statement.field-0))
 
 pub statements-statements-preserved : goal.statements-statements-preserved
 statements-statements-preserved t c =
@@ -322,6 +323,6 @@ statements-statements-preserved t c =
     let period_first : starts is_period c.statement.new.r ≡ true = search rules in
     let more : returns_of c.in_ok-statement.field-0 ≡ false = search rules in
     record {
-      runs = λ b su. c.statements.invariant.runs b su ∙ c.in_ok-statement.ensures.met (holding b (statements c.statements.body.items)) (suits_body b (statements c.statements.body.items) false (scopes_seen c.args.scopes.now) c.args.depth su) ∙ period_behind b (statements c.statements.body.items) c.in_ok-statement.field-0 c.statement.new.r c.skip.new.self period_first more c.skip.ensures ∙ ap (λ ss. run every (begin (holding b ss)) c.skip.new.self) (sym (ap statements pushed ∙ statements_more c.statements.body.items c.in_ok-statement.field-0));
+      runs = λ b su. c.statements.invariant.runs b su ∙ c.in_ok-statement.ensures.met (holding b (statements c.statements.body.items)) (suits_body b (statements c.statements.body.items) false (scopes_seen c.args.scopes.now) c.args.depth su) ∙ period_behind b (statements c.statements.body.items) c.in_ok-statement.field-0 c.statement.new.r c.skip.new.self period_first more c.skip.ensures ∙ ap (λ ss. machine_run every (begin (holding b ss)) c.skip.new.self) (sym (ap statements pushed ∙ statements_more c.statements.body.items c.in_ok-statement.field-0));
       shorter = search rules;
     }

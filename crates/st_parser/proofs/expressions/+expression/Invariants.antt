@@ -1,7 +1,8 @@
 use Rattle.std.proofs.Common.{◌≡◌, ◌+◌, ◌*◌, ◌≤◌, false, List, [], length}
-use Rattle.st_tree.specs.Trees.{Bytes, Head, Expression, expression, sends, no_sends, statements, no_statements, expressions, no_expressions}
-use Rattle.st_tree.specs.Grammar.{no_unary, no_message}
-use Rattle.st_grammar.specs.Machine.{Seat, Wide, Body, Role, outer, alone, in_body, keyword_part, want, have, begin}
+use Rattle.texts.specs.Bytes.{Bytes}
+use Rattle.st_tree.specs.Trees.{Head, Expression, expression, sends, no_sends, statements, no_statements, expressions, no_expressions}
+use Rattle.st_grammar.specs.Grammar.{no_unary, no_message}
+use Rattle.st_grammar_laws.specs.Machine.{Seat, Wide, Body, Role, outer, alone, in_body, keyword_part, want, have, begin}
 use Rattle.st_parser.specs.Descent.{Runs, Suits, holding, starts, is_identifier}
 use Rattle.st_parser.specs.Scopes.{scopes_seen}
 use Rattle.st_parser.proofs.expressions.+expression.Given as goal

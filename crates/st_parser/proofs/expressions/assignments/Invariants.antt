@@ -1,5 +1,5 @@
 use Rattle.std.proofs.Common.{◌≡◌, ◌≤◌, [], length}
-use Rattle.st_grammar.specs.Machine.{Seat, outer, alone, want, scopes_seat}
+use Rattle.st_grammar_laws.specs.Machine.{Seat, outer, alone, want, scopes_seat}
 use Rattle.st_parser.specs.Descent.{Runs}
 use Rattle.st_parser.specs.Scopes.{scopes_seen}
 use Rattle.st_parser.proofs.expressions.assignments.Given as goal

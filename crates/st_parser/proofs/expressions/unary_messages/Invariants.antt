@@ -1,7 +1,8 @@
 use Rattle.std.proofs.Common.{◌≤◌, List, length}
-use Rattle.st_tree.specs.Trees.{Bytes, Head, expression, sends, no_sends}
-use Rattle.st_tree.specs.Grammar.{any_message}
-use Rattle.st_grammar.specs.Machine.{Slot, have, bare}
+use Rattle.texts.specs.Bytes.{Bytes}
+use Rattle.st_tree.specs.Trees.{Head, expression, sends, no_sends}
+use Rattle.st_grammar.specs.Grammar.{any_message}
+use Rattle.st_grammar_laws.specs.Machine.{Slot, have, bare}
 use Rattle.st_parser.specs.Descent.{Runs}
 use Rattle.st_parser.proofs.expressions.unary_messages.Given as goal
 

@@ -1,12 +1,13 @@
 use Rattle.std.proofs.Common.{◌≡◌, ◌∷◌, true, sym, ap, ◌∙◌, subst, rules, arith, is_ok}
 use Rattle.std.proofs.ResultArms.{chosen}
 use Rattle.std.specs.Prelude.{nat_lt, map}
+use Rattle.profile.specs.declared.limits.TheConstants.{DEPTH_LIMIT}
 use Rattle.st_tree.specs.Trees.{constants, no_constants}
-use Rattle.st_tree.specs.Tokens.{keyword, binary}
+use Rattle.st_grammar.specs.Tokens.{keyword, binary}
 use Rattle.st_tree.specs.Views.{constant_of}
-use Rattle.st_tree.specs.Grammar.{word}
-use Rattle.st_grammar.specs.Machine.{in_elements, element_run, in_array, depth_nest, run}
-use Rattle.st_tree.specs.Fails.{every}
+use Rattle.st_grammar.specs.Grammar.{word}
+use Rattle.st_grammar_laws.specs.Machine.{in_elements, element_run, in_array, depth_nest, machine_run}
+use Rattle.st_grammar.specs.Fails.{every}
 use Rattle.st_parser.specs.Literals.{behind_selector}
 use Rattle.st_parser.specs.Descent.{Runs}
 use Rattle.st_parser.proofs.Steps.{hands_on, reached_after, keyword_element, selector_element, array_opens, constants_more}
@@ -34,13 +35,13 @@ elements-elements-preserved t c =
     let pushed = chosen _ _ _ _ c.push.ensures.items (ap is_ok c.in_ok-push.was) in
     record {
       runs = λ n d. c.elements.invariant.runs n d ∙ c.in_ok-element.ensures.met n (constants (map constant_of c.elements.items.items)) d
-          ∙ ap (λ cs. run every (in_elements n cs) c.element.new.r) (sym (ap (λ ls. constants (map constant_of ls)) pushed ∙ constants_more c.elements.items.items c.in_ok-element.field-0));
+          ∙ ap (λ cs. machine_run every (in_elements n cs) c.element.new.r) (sym (ap (λ ls. constants (map constant_of ls)) pushed ∙ constants_more c.elements.items.items c.in_ok-element.field-0));
       shorter = omega (arith, c.elements.invariant.shorter, c.in_ok-element.ensures.shorter);
     }
 
 pub nested-returns-in_err-elements-clause-met : goal.nested-returns-in_err-elements-clause-met
 nested-returns-in_err-elements-clause-met t c = λ n cs d.
-    let small : nat_lt (depth_nest n) 200 ≡ true = search rules in
+    let small : nat_lt (depth_nest n) DEPTH_LIMIT ≡ true = search rules in
     let opens : Runs (in_elements n cs) c.args.r.now (in_elements (in_array n cs) no_constants) c.skip.new.self = subst (λ ws. Runs (in_elements n cs) c.args.r.now (in_elements (in_array n cs) no_constants) ws) (sym c.skip.ensures) (array_opens n cs c.args.r.now c.requires.opens small) in
     hands_on (in_elements n cs) (in_elements (in_array n cs) no_constants) c.args.r.now c.skip.new.self c.elements.new.r _ c.in_err-elements.field-0.0 c.from_residual.result c.from_residual.ensures.1
     opens (c.in_err-elements.ensures.met (in_array n cs) (omega (arith, d)))

@@ -2,7 +2,7 @@ use Rattle.std.proofs.Common.{◌≡◌, ◌+◌, ◌*◌, ◌≤◌, length}
 use Rattle.std.specs.Prelude.{map}
 use Rattle.st_tree.specs.Trees.{no_constants, constants}
 use Rattle.st_tree.specs.Views.{constant_of}
-use Rattle.st_grammar.specs.Machine.{Nest, in_elements, depth_nest}
+use Rattle.st_grammar_laws.specs.Machine.{Nest, in_elements, depth_nest}
 use Rattle.st_parser.specs.Descent.{Runs}
 use Rattle.st_parser.proofs.literals.+array.Given as goal
 

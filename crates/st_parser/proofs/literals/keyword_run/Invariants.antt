@@ -1,6 +1,6 @@
 use Rattle.std.proofs.Common.{◌≤◌, length}
 use Rattle.st_tree.specs.Trees.{Constants}
-use Rattle.st_grammar.specs.Machine.{Nest, element_run}
+use Rattle.st_grammar_laws.specs.Machine.{Nest, element_run}
 use Rattle.st_parser.specs.Descent.{Runs}
 use Rattle.st_parser.proofs.literals.keyword_run.Given as goal
 

@@ -1,7 +1,7 @@
 use Rattle.std.proofs.Common.{◌≡◌, ◌<◌, ◌≤◌, [], ◌∷◌, false, refl, sym, ap, ◌∙◌, length, rules}
 use Rattle.st_tree.specs.Trees.{no_statements, statements}
-use Rattle.st_tree.specs.Grammar.{scope}
-use Rattle.st_grammar.specs.Machine.{top, header, begin, outer, alone, in_body}
+use Rattle.st_grammar.specs.Grammar.{scope}
+use Rattle.st_grammar_laws.specs.Machine.{top, header, begin, outer, alone, in_body}
 use Rattle.st_parser.specs.Descent.{Suits}
 use Rattle.st_parser.specs.Scopes.{scopes_seen}
 use Rattle.st_parser.proofs.Messages.{finishes_on, top_stuck, top_ends}

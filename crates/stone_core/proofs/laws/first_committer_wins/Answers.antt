@@ -1,4 +1,4 @@
-use Rattle.stone_core.proofs.Views.{later_commit_conflicts, shown_after_view}
+use Rattle.stone_core.proofs.Later.{later_commit_conflicts, shown_after_view}
 use Rattle.stone_core.proofs.laws.first_committer_wins.Goals as goal
 
 pub returns-clause-conflict : goal.returns-clause-conflict

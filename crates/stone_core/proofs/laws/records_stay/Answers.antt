@@ -1,4 +1,4 @@
-use Rattle.stone_core.proofs.Views.{records_stay}
+use Rattle.stone_core.proofs.Later.{records_stay}
 use Rattle.stone_core.proofs.laws.records_stay.Goals as goal
 
 pub returns : goal.returns

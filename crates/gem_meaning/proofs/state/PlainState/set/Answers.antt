@@ -4,7 +4,7 @@ use Rattle.std.specs.BTreeMap.{insert_entry}
 use Rattle.std.specs.FinMap.{FinMap, insert, from_entries}
 use Rattle.gem_value.specs.Image.{entries_by_name}
 use Rattle.gem_value.proofs.Globals.{name_cmp, vec_cmp, insert_into}
-use Rattle.gem_meaning.specs.State.{State, set}
+use Rattle.gem_meaning.specs.State.{State, with_global}
 use Rattle.gem_meaning.proofs.state.PlainState.set.Goals as goal
 
 pub returns-clause-ok : goal.returns-clause-ok
@@ -17,4 +17,4 @@ returns-clause-ok c =
     ∙ (insert_into entries name c.args.value
     ∙ ap (λ n. insert (from_entries {R = name_cmp} (entries_by_name entries)) n c.args.value) c.in_ok-name.ensures.items)) in
     let rest : FinMap name_cmp ℤ → State = λ m. record { base = c.self.inside.base; written = m } in
-    ap rest written ∙ ap (set c.args.name.now c.args.value) c.self.view_is
+    ap rest written ∙ ap (with_global c.args.name.now c.args.value) c.self.view_is

@@ -1,23 +1,21 @@
-use Rattle.std.proofs.Common.{◌≡◌, map, rules, sym, ap, ◌∙◌, subst}
-use Rattle.std.specs.Map.Iter.{deref_pair}
-use Rattle.std.proofs.lemmas.Map.Iter.{iter_end}
-use Rattle.gem_value.specs.Image.{entries_by_name}
-use Rattle.gem_value.specs.Writes.{IsInNameOrder}
-use Rattle.gem_meaning.proofs.Written.{named_entries, names_in_order, entries_back, written_entries}
+use Rattle.std.proofs.Common.{◌≡◌, ◌≢◌, [], sym, ap, ◌∙◌, subst}
+use Rattle.std.specs.FinMap.{entries}
+use Rattle.gem_meaning.specs.State.{State}
+use Rattle.gem_meaning.proofs.Written.{none_in_order, some_written, none_written, written_entries, of_any_error}
 use Rattle.gem_meaning.proofs.state.PlainState.writes.Goals as goal
 
-pub of-requires-2 : goal.of-requires-2
-of-requires-2 c =
-    let all : map deref_pair c.loop-name.yielded ≡ c.self.inside.written.entries = search (rules, iter_end) in
-    let items = c.loop-name.invariant ∙ (named_entries c.loop-name.yielded ∙ ap entries_by_name all) in
-    subst IsInNameOrder (sym items) (names_in_order c.self.inside.written.entries c.len.ensures.ordered)
+pub of-requires : goal.of-requires
+of-requires c = none_in_order _ c.new.ensures.items
 
-pub returns : goal.returns
-returns c =
-    let es = c.self.inside.written.entries in
-    let all : map deref_pair c.loop-name.yielded ≡ c.self.inside.written.entries = search (rules, iter_end) in
-    let items = c.loop-name.invariant ∙ (named_entries c.loop-name.yielded ∙ ap entries_by_name all) in
-    c.of-2.ensures
-    ∙ (items
-    ∙ (sym (entries_back (entries_by_name es) (names_in_order es c.len.ensures.ordered))
-    ∙ ap written_entries c.self.view_is))
+pub returns-then-len-eq0-clause-writes : goal.returns-then-len-eq0-clause-writes
+returns-then-len-eq0-clause-writes c =
+    c.of.ensures ∙ c.new.ensures.items
+    ∙ none_written c.self.inside.written.entries c.len.ensures.ordered (sym c.len.ensures.len ∙ c.if-len-eq0.true)
+    ∙ ap written_entries c.self.view_is
+
+pub returns-clause-starved : goal.returns-clause-starved
+returns-clause-starved c =
+    of_any_error c.collect.result (entries c.args.self.now.written ≢ [])
+    (subst (λ (s : State). entries s.written ≢ []) c.self.view_is
+    (some_written c.self.inside.written.entries c.len.ensures.ordered
+    (λ none. c.if-len-eq0.false (c.len.ensures.len ∙ none))))

@@ -1,6 +1,6 @@
 use Rattle.std.proofs.Common.{rules, ◌≡◌, true, false, refl, arith, sym, ◌∙◌}
 use Rattle.shell_words.specs.Script.{is_logout}
-use Rattle.shell_words.proofs.Drafts.{sessions_with, ordered_reading, closed_sessions, ended_reading}
+use Rattle.shell_words.proofs.Drafts.{more_commands, sessions_with, ordered_reading, closed_sessions, ended_reading}
 use Rattle.shell_words.proofs.reading.Reading.order.Goals as goal
 
 pub returns-in_ok-close-clause-sessions : goal.returns-in_ok-close-clause-sessions
@@ -24,3 +24,8 @@ returns-else-ends-clause-reading c =
     let some = c.requires.some in
     ordered_reading c.args.self.now _ c.in-Some.draft _ c.args.command c.requires.reading (sym c.in-Some.ensures.value) refl c.in_ok-push.ensures.items
     c.requires.short (omega (arith, some)) goes_on refl refl
+
+pub close-requires-clause-draft : goal.close-requires-clause-draft
+close-requires-clause-draft c =
+    let some = c.requires.some in
+    more_commands c.args.self.now c.in-Some.draft _ c.args.command c.requires.reading (sym c.in-Some.ensures.value) refl c.in_ok-push.ensures.items c.requires.short (omega (arith, some))

@@ -8,5 +8,6 @@ commit-placed-requires g c = record {
 
 pub commit-requires : goal.commit-requires
 commit-requires g c = record {
-  recorded = second_is_recorded c.in_ok-stone.stone c.commit-placed.new.self _ _ _ _ c.in_ok-stone.ensures c.in_ok-two_sessions.ensures c.commit-placed.ensures.events c.in_ok-second.ensures;
+  recorded = second_is_recorded c.in_ok-stone.stone c.commit-placed.new.self _ _ _ _ _ c.in_ok-stone.ensures
+      c.in_ok-two_sessions.ensures c.in_ok-first.ensures c.commit-placed.ensures.events c.in_ok-second.ensures;
 }

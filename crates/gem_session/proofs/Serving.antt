@@ -1,0 +1,170 @@
+-- What a session has said so far, and how each reply adds to it.
+use Rattle.std.proofs.Common.{◌≡◌, ◌∙◌, refl, sym, ap, subst, ℕ, suc, ◌+◌, ◌-◌, ◌≤◌, ◌<◌, true, Some, List, [], ◌∷◌, ◌++◌, take, drop, length, arith, get_or, inl}
+use Rattle.std.specs.List.{prefix_len, slice_get}
+use Rattle.std.proofs.Math.Seq.{take-append_seam, take-length}
+use Rattle.std.proofs.lemmas.List.{append-nil, append_assoc, drop_more, drop_all, length-append, get_or-take}
+use Rattle.std.proofs.lemmas.Option.{get_or_from_slice_get, slice_get_read}
+use Rattle.std.proofs.lemmas.List.Folds.{length-prefix_len}
+use Rattle.std.proofs.lemmas.List.Sums.{prefix_len_passes}
+use Rattle.shell_words.specs.Script.{SessionCommands}
+use Rattle.gem_replies.specs.declared.reply.Line.{Line}
+use Rattle.gem_replies.specs.declared.reply.Line.TheVariants.{Login, Logout as LoggedOut}
+use Rattle.gem_replies.specs.declared.reply.Reply.{Reply}
+use Rattle.shell_words.specs.declared.script.Command.{Command}
+use Rattle.shell_words.specs.declared.script.Command.TheVariants.{Chunk, Method, Commit, Abort, Logout, Lock, Unlock}
+use Rattle.gem_meaning.specs.Events.{Opened, Event, Told, after_events, standing, commands_or_none, commands_of, events_of, Extends, OthersCame}
+use Rattle.gem_meaning.specs.Session.{SessionState, user_in, first_transaction, CommandSays, SeesNumber, CommandsSay, SaysOf, Says, until_logout, reply_with, replies_with, TellsLogin}
+use Rattle.gem_session.specs.declared.session.Session.{Session}
+use Rattle.gem_session.specs.Running.{session_state, StandsBefore, HasLoggedIn, goes_on, Replied}
+use Rattle.gem_session.proofs.Others.{extends_twice, nothing_later}
+
+one_more : (n : ℕ) (c : Command) (cs : List Command) → take (1 + n) (c ∷ cs) ≡ c ∷ take n cs
+one_more n c cs =
+    let one : 1 + n ≡ suc n = omega arith in
+    rw one refl
+
+until_more : (n : ℕ) (c : Command) (cs : List Command) → until_logout cs ≡ take n cs ++ Logout ∷ [] →
+    c ∷ until_logout cs ≡ take (1 + n) (c ∷ cs) ++ Logout ∷ []
+until_more n c cs before = ap (λ x. c ∷ x) before ∙ ap (λ x. x ++ Logout ∷ []) (sym (one_more n c cs))
+
+-- what stands before the first logout, and the logout
+pub until_is : (cs : List Command) → until_logout cs ≡ take (prefix_len goes_on cs) cs ++ Logout ∷ []
+until_is [] = refl
+until_is (Chunk prints text ∷ cs) = until_more (prefix_len goes_on cs) (Chunk prints text) cs (until_is cs)
+until_is (Method class_side class text ∷ cs) = until_more (prefix_len goes_on cs) (Method class_side class text) cs (until_is cs)
+until_is (Commit ∷ cs) = until_more (prefix_len goes_on cs) Commit cs (until_is cs)
+until_is (Abort ∷ cs) = until_more (prefix_len goes_on cs) Abort cs (until_is cs)
+until_is (Logout ∷ cs) = refl
+until_is (Lock write name ∷ cs) = until_more (prefix_len goes_on cs) (Lock write name) cs (until_is cs)
+until_is (Unlock name ∷ cs) = until_more (prefix_len goes_on cs) (Unlock name) cs (until_is cs)
+
+-- the command of the session's script that the session comes to
+pub command_at : (o : Opened) (session : ℕ) (script : SessionCommands) (commands body : List Command) (i : ℕ) (c : Command) →
+    slice_get o.script (session - 1) ≡ Some script → commands ≡ script.commands → body ≡ take (length body) commands →
+    i < length body → length body ≤ length commands → c ≡ get_or body i c → slice_get (commands_of o.script session) i ≡ Some c
+command_at o session script commands body i c is whole prefix lt le read =
+    let read_whole : c ≡ get_or commands i c = read ∙ ap (λ x. get_or x i c) prefix ∙ get_or-take (length body) commands i c lt in
+    ap (λ x. slice_get (commands_or_none x) i) is ∙ ap (λ x. slice_get x i) (sym whole)
+    ∙ slice_get_read commands (length commands) i c refl (omega arith) read_whole
+
+-- What is said of the commands that are left, after these events, completes what was said of all:
+-- they begin at `start` with what the session carried then.
+abbrev Leads : Opened → (start events : List Event) → List Command → ℕ → (first now : SessionState) → List Reply → Type 0
+Leads o start events body i first now said = (all : List Event) (q : ℕ) (rest : List Reply) → Extends events all →
+    CommandsSay (record { opened = o; events = all }) (i + 1) (length events) q now (drop i body ++ Logout ∷ []) rest →
+    CommandsSay (record { opened = o; events = all }) 1 (length start) q first (body ++ Logout ∷ []) (said ++ rest)
+
+-- Where a session stands that has replied to the first i commands.
+pub record HasServed (o : Opened) (start events : List Event) (body : List Command) (i : ℕ) (first s : Session) (rs : List Reply) : Type 0 where
+  pub said : List Reply
+  pub login : rs ≡ reply_with 0 (Login first.view) ∷ said
+  pub of_session : s.session ≡ first.session
+  pub stands : StandsBefore (record { opened = o; events = events }) (i + 1) s
+  pub leads : Leads o start events body i (session_state first) (session_state s) said
+
+seen_so_far : (events all : List Event) → Extends events all → take (length events) all ≡ events
+seen_so_far events all more = ap (take (length events)) more.1 ∙ take-append_seam events more.0
+
+longer : (events all : List Event) → Extends events all → length events ≤ length all
+longer events all more = omega (arith, ap length more.1, length-append events more.0)
+
+pub nothing_served : (t : Told) (script : SessionCommands) (body : List Command) (s : Session) (rs : List Reply) → HasLoggedIn t script s →
+    rs ≡ reply_with 0 (Login s.view) ∷ [] → HasServed t.opened t.events t.events body 0 s s rs
+nothing_served t script body s rs logged_in is = record {
+  said = [];
+  login = is;
+  of_session = refl;
+  stands = logged_in.stands;
+  leads = λ all q rest more says. says;
+}
+
+pub one_served : (o : Opened) (start events events' : List Event) (body : List Command) (i : ℕ) (first s s' : Session) (rs : List Reply) (c : Command) (line : Line) →
+    slice_get body i ≡ Some c → i < length body → HasServed o start events body i first s rs → Extends events events' →
+    Replied o (i + 1) events events' s c (line ∷ []) s' → HasServed o start events' body (i + 1) first s' (rs ++ reply_with (i + 1) line ∷ [])
+one_served o start events events' body i first s s' rs c line is lt served grew replied = record {
+  said = served.said ++ reply_with (i + 1) line ∷ [];
+  login = ap (λ xs. xs ++ reply_with (i + 1) line ∷ []) served.login;
+  of_session = replied.of_session ∙ served.of_session;
+  stands = replied.stands;
+  leads = λ all q rest more says.
+      let whole : Extends events all = extends_twice events events' all grew more in
+      let here : drop i body ≡ c ∷ drop (i + 1) body = drop_more body i c lt ∙ ap (λ x. x ∷ drop (i + 1) body) (get_or_from_slice_get body i c c is) in
+      let said : CommandSays (record { opened = o; number = i + 1; before = take (length events) all; after = take (length events') all }) (session_state s) c (line ∷ []) (session_state s') =
+      subst (λ x. CommandSays (record { opened = o; number = i + 1; before = x; after = take (length events') all }) (session_state s) c (line ∷ []) (session_state s')) (sym (seen_so_far events all whole))
+      (subst (λ x. CommandSays (record { opened = o; number = i + 1; before = events; after = x }) (session_state s) c (line ∷ []) (session_state s')) (sym (seen_so_far events' all more)) replied.says) in
+      let these : CommandsSay (record { opened = o; events = all }) (i + 1) (length events) q (session_state s) (drop i body ++ Logout ∷ []) (reply_with (i + 1) line ∷ rest) =
+      subst (λ x. CommandsSay (record { opened = o; events = all }) (i + 1) (length events) q (session_state s) (x ++ Logout ∷ []) (reply_with (i + 1) line ∷ rest)) (sym here)
+      (record {
+        point = length events';
+        next = session_state s';
+        lines = line ∷ [];
+        more = rest;
+        from = longer events events' grew;
+        within = longer events' all more;
+        replies = refl;
+        says = said;
+        rest = says;
+      }) in
+      subst (λ x. CommandsSay (record { opened = o; events = all }) 1 (length start) q (session_state first) (body ++ Logout ∷ []) x)
+      (sym (append_assoc served.said (reply_with (i + 1) line ∷ []) rest))
+      (served.leads all q (reply_with (i + 1) line ∷ rest) whole these);
+}
+
+-- all that the session says, with its logout
+pub all_served : (t : Told) (events : List Event) (script : SessionCommands) (body : List Command) (i : ℕ) (first s : Session) (rs : List Reply) (now : Told) →
+    HasLoggedIn t script first → until_logout script.commands ≡ body ++ Logout ∷ [] → length body ≤ i → Extends t.events events →
+    now ≡ record { opened = t.opened; events = events } → HasServed t.opened t.events events body i first s rs →
+    Says now first.session script (rs ++ reply_with (i + 1) LoggedOut ∷ [])
+all_served t events script body i first s rs now logged_in until over grew now_is served =
+    let o = t.opened in
+    let out : Reply = reply_with (i + 1) LoggedOut in
+    let at_end : CommandsSay (record { opened = o; events = events }) (i + 1) (length events) (length events) (session_state s) (Logout ∷ []) (out ∷ []) = record {
+      point = length events;
+      next = session_state s;
+      lines = LoggedOut ∷ [];
+      more = [];
+      from = omega arith;
+      within = omega arith;
+      replies = refl;
+      says = (LoggedOut, refl, (refl, refl, refl));
+      rest = (refl, refl);
+    } in
+    let front : take (length t.events) events ≡ t.events = seen_so_far t.events events grew in
+    let says = served.leads events (length events) (out ∷ []) (nothing_later events)
+    (subst (λ x. CommandsSay (record { opened = o; events = events }) (i + 1) (length events) (length events) (session_state s) (x ++ Logout ∷ []) (out ∷ [])) (sym (drop_all i body over)) at_end) in
+    subst (λ (x : Told). Says x first.session script (rs ++ out ∷ [])) (sym now_is) (record {
+      point = length t.events;
+      view = first.view;
+      within = longer t.events events grew;
+      sees = subst (λ x. SeesNumber o first.session [] x first.view) (sym front) ((t.events, logged_in.fresh, refl), logged_in.view);
+      says = subst (λ u. SaysOf u (record { opened = o; events = events }) first.session (length t.events) first.view (until_logout script.commands) (rs ++ out ∷ []))
+          (sym (ap (λ x. user_in (after_events o x).image script.user) front ∙ logged_in.user))
+          (record {
+            replies = served.said ++ out ∷ [];
+            end = length events;
+            login = ap (λ xs. xs ++ out ∷ []) served.login;
+            within = omega arith;
+            says = subst (λ cs. CommandsSay (record { opened = o; events = events }) 1 (length t.events) (length events) (first_transaction first.session first.user first.view) cs (served.said ++ out ∷ [])) (sym until)
+                (subst (λ x. CommandsSay (record { opened = o; events = events }) 1 (length t.events) (length events) x (body ++ Logout ∷ []) (served.said ++ out ∷ [])) logged_in.carries says);
+            no_more = ap (events_of first.session) (drop_all (length events) events (omega arith));
+          });
+    })
+
+-- the login tells the view
+pub tells_login : (view : ℕ) (said more : List Reply) (rs : List Reply) → rs ≡ reply_with 0 (Login view) ∷ said → TellsLogin view (rs ++ more)
+tells_login view said more rs is = subst (λ x. TellsLogin view (x ++ more)) (sym is) (inl refl)
+
+-- the commands before the first logout are a front of all
+pub front_of : (cs body : List Command) → body ≡ take (prefix_len goes_on cs) cs → body ≡ take (length body) cs
+front_of cs body is =
+    let size : length body ≡ prefix_len goes_on cs = ap length is ∙ length-prefix_len goes_on cs in
+    is ∙ ap (λ (n : ℕ). take n cs) (sym size)
+
+-- none of them is a logout
+pub goes_on_at : (cs body : List Command) (i : ℕ) (c : Command) → body ≡ take (prefix_len goes_on cs) cs → i < length body → c ≡ get_or body i c →
+    goes_on c ≡ true
+goes_on_at cs body i c is lt read =
+    let size : length body ≡ prefix_len goes_on cs = ap length is ∙ length-prefix_len goes_on cs in
+    let here : c ≡ get_or cs i c =
+    read ∙ ap (λ x. get_or x i c) is ∙ get_or-take (prefix_len goes_on cs) cs i c (omega (arith, lt, size)) in
+    ap goes_on here ∙ prefix_len_passes goes_on cs i c (omega (arith, lt, size))

@@ -1,0 +1,34 @@
+//! The program without its devices.
+ghost use Rattle.std.specs.Prelude.{◌≡◌, ◌↔◌, drop, map, string_bytes, IsErrOf};
+ghost use Rattle.gem_io.specs.Faults.{HasRisen};
+ghost use Rattle.gem_server.specs.Server.{IsServe};
+
+use crate::failure::{Failure, end_of};
+use gem_io::{Sink, Source};
+use gem_server::gemstone;
+use std::alloc::Global;
+
+/// Serves the script that the source gives and writes its report to the sink, where the words of
+/// the command line ask for it. The first of them is the program's own name, and doesn't count.
+pub fn serve<S: Source, K: Sink>(
+    alloc: Global,
+    words: &[String],
+    source: &mut S,
+    sink: &mut K,
+) -> Result<(), Failure>
+    ensures usage { IsErrOf result Failure.Usage
+        ↔ (IsServe (map string_bytes (drop 1 words.now)) → ⊥) }
+    ensures read_fault { IsErrOf result Failure.ReadFault
+        → HasRisen (S.faults source.old) (S.faults source.new) }
+    ensures write_fault { IsErrOf result Failure.WriteFault
+        → HasRisen (K.faults sink.old) (K.faults sink.new) }
+{
+    end_of(gemstone(alloc, own_words(words), source, sink).status)
+}
+
+// The words after the program's own name.
+fn own_words(words: &[String]) -> &[String]
+    ensures { result.now ≡ drop 1 words.now }
+{
+    words.get(1..).unwrap_or(&[])
+}

@@ -1,0 +1,22 @@
+-- The objects that every image has.
+use Rattle.std.specs.Prelude.{Bool, codes, List, [], ◌∷◌}
+use Rattle.std.specs.List.{list_any}
+use Rattle.std.specs.Str.{bytes_eq}
+use Rattle.texts.specs.Bytes.{Bytes}
+
+-- The names of the kernel's objects, and UserGlobals.
+abbrev pub kernel_names : List Bytes
+kernel_names =
+    codes "Object" ∷ codes "Class" ∷ codes "UndefinedObject" ∷ codes "Boolean" ∷ codes "True" ∷ codes "False"
+    ∷ codes "Magnitude" ∷ codes "Character" ∷ codes "SmallInteger" ∷ codes "Block"
+    ∷ codes "Collection" ∷ codes "SequenceableCollection" ∷ codes "Array" ∷ codes "OrderedCollection"
+    ∷ codes "String" ∷ codes "Symbol"
+    ∷ codes "IdentityDictionary" ∷ codes "SymbolDictionary" ∷ codes "RcCounter" ∷ codes "RcIdentityBag"
+    ∷ codes "RcKeyValueDictionary" ∷ codes "RcQueue"
+    ∷ codes "Segment" ∷ codes "UserProfile" ∷ codes "System" ∷ codes "TranscriptStream"
+    ∷ codes "Globals" ∷ codes "AllUsers" ∷ codes "SystemSegment" ∷ codes "DataCuratorSegment"
+    ∷ codes "Transcript" ∷ codes "UserGlobals" ∷ []
+
+-- whether a name is one of them
+abbrev pub is_kernel_name : Bytes → Bool
+is_kernel_name n = list_any (bytes_eq n) kernel_names

@@ -1,0 +1,2 @@
+pub mod SmallInteger
+pub mod Kernel

@@ -1,0 +1,4 @@
+mod Nexts
+mod Root
+mod Slots
+mod Tables

@@ -1,0 +1,5 @@
+use Rattle.radix_pages.proofs.Root.{none_in_empty}
+use Rattle.radix_pages.proofs.pages.Pages.next_from.Goals as goal
+
+pub returns-in-Empty : goal.returns-in-Empty
+returns-in-Empty g c key low = none_in_empty c.self.inside.root c.args.self.now key c.in-Empty.is c.self.view_is

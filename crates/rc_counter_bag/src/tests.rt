@@ -1,0 +1,168 @@
+// Merges as commits make them, and the calls of a bag.
+use super::*;
+use std::alloc::Global;
+use std::test::Fail;
+
+const GREATEST: i64 = 1152921504606846975;
+
+const LEAST: i64 = -1152921504606846976;
+
+#[test]
+fn counters(rt: HostRuntime) {
+    // The value at the view and at the place, the session's updates, and the value that follows.
+    let merges = [
+        (0, 0, [1, 1].as_slice(), Some(2)),
+        // Two sessions count to 10 from 0; the second stands at 20.
+        (0, 10, [1, 1, 1, 1, 1, 1, 1, 1, 1, 1].as_slice(), Some(20)),
+        // At the ends of the range, where only the result counts.
+        (GREATEST - 1, GREATEST - 1, [1].as_slice(), Some(GREATEST)),
+        (GREATEST - 1, GREATEST, [1].as_slice(), None),
+        (LEAST, LEAST, [-1].as_slice(), None),
+        (LEAST + 1, LEAST + 1, [-1].as_slice(), Some(LEAST)),
+        (
+            0,
+            GREATEST,
+            [i64::MAX, i64::MAX, -i64::MAX, -i64::MAX].as_slice(),
+            Some(GREATEST),
+        ),
+        (0, 0, [i64::MIN, i64::MIN].as_slice(), None),
+    ];
+    for (view, place, updates, want) in merges {
+        let (at_view, at_place) = (Counter { value: view }, Counter { value: place });
+        let merged = Counter::merge(at_view, at_place, updates);
+        let want = want.map(|value| Counter { value });
+        assert_eq!(rt; merged.ok(), want, "at {place}");
+    }
+    let last = Counter { value: GREATEST };
+    assert_eq!(rt; last.apply(1), Err(CounterRange));
+    assert_eq!(rt;
+        last.apply(-1),
+        Ok(Counter {
+            value: GREATEST - 1
+        })
+    );
+}
+
+#[derive(Clone, Debug, PartialEq, Eq, PartialOrd, Ord, Drop)]
+struct Name {
+    letter: char,
+}
+
+const fn add(letter: char) -> BagUpdate<Name> {
+    BagUpdate::Add(Name { letter })
+}
+
+const fn remove(letter: char) -> BagUpdate<Name> {
+    BagUpdate::Remove(Name { letter })
+}
+
+fn pairs(alloc: Global, letters: &[(char, u64)]) -> Result<Vec<(Name, u64)>, Fail> {
+    let mut pairs = Vec::new(alloc);
+    for &(letter, occurrences) in letters {
+        pairs.push((Name { letter }, occurrences))?;
+    }
+    Ok(pairs)
+}
+
+// A commit's merge: the bag at the place, the session's updates, and the bag that follows, or
+// the refused removal.
+#[derive(Drop)]
+struct Case<'a> {
+    place: &'a [(char, u64)],
+    updates: &'a [BagUpdate<Name>],
+    want: Result<&'a [(char, u64)], u64>,
+}
+
+#[test]
+fn bags(rt: HostRuntime) -> Result<(), Fail> {
+    let alloc = rt.alloc();
+    let cases = [
+        // One occurrence that two sessions remove: the second is refused. With two it isn't.
+        Case {
+            place: &[('x', 1)],
+            updates: &[remove('x')],
+            want: Ok(&[]),
+        },
+        Case {
+            place: &[],
+            updates: &[remove('x')],
+            want: Err(0),
+        },
+        Case {
+            place: &[('x', 2)],
+            updates: &[remove('x')],
+            want: Ok(&[('x', 1)]),
+        },
+        // Adds beside those of another session, and a removal of what was added.
+        Case {
+            place: &[('b', 1)],
+            updates: &[add('a'), add('b'), add('c')],
+            want: Ok(&[('a', 1), ('b', 2), ('c', 1)]),
+        },
+        Case {
+            place: &[],
+            updates: &[add('a'), remove('a'), remove('a'), remove('b')],
+            want: Err(2),
+        },
+        // Occurrences stand still at the end.
+        Case {
+            place: &[('x', u64::MAX)],
+            updates: &[add('x')],
+            want: Ok(&[('x', u64::MAX)]),
+        },
+        Case {
+            place: &[('x', u64::MAX)],
+            updates: &[remove('x')],
+            want: Ok(&[('x', u64::MAX)]),
+        },
+        Case {
+            place: &[('x', u64::MAX - 1)],
+            updates: &[remove('x')],
+            want: Ok(&[('x', u64::MAX - 2)]),
+        },
+    ];
+    let Some(at_view) = Bag::of_pairs(pairs(alloc, &[('x', 1)])?) else {
+        panic!(rt; "a bag");
+    };
+    for (number, case) in cases.iter().enumerate() {
+        let Some(at_place) = Bag::of_pairs(pairs(alloc, case.place)?) else {
+            panic!(rt; "a bag at the place of case {number}");
+        };
+        match (Bag::merge(&at_view, &at_place, case.updates), case.want) {
+            (Ok(bag), Ok(letters)) => {
+                let want = pairs(alloc, letters)?;
+                assert_eq!(rt; bag.pairs(), want.as_slice(), "case {number}");
+            }
+            (Err(fault), Err(at)) => {
+                assert_eq!(rt; fault, BagFault::Missing(at), "case {number}");
+            }
+            _ => panic!(rt; "case {number}"),
+        }
+    }
+    Ok(())
+}
+
+#[test]
+fn calls_of_a_bag(rt: HostRuntime) -> Result<(), Fail> {
+    let alloc = rt.alloc();
+    for faulty in [
+        [('b', 1), ('a', 1)],
+        [('a', 1), ('a', 1)],
+        [('a', 1), ('b', 0)],
+    ] {
+        assert!(rt; Bag::of_pairs(pairs(alloc, &faulty)?).is_none());
+    }
+    let Some(mut bag) = Bag::of_pairs(pairs(alloc, &[('b', u64::MAX - 1)])?) else {
+        panic!(rt; "a bag");
+    };
+    bag.apply(add('a'))?;
+    bag.apply(add('a'))?;
+    assert_eq!(rt; bag.apply(remove('c')), Err(BagFault::Missing(0)));
+    bag.apply(remove('a'))?;
+    assert_eq!(rt; bag.count(&Name { letter: 'a' }), 1);
+    assert_eq!(rt; bag.count(&Name { letter: 'c' }), 0);
+    bag.apply(add('c'))?;
+    assert_eq!(rt; bag.size(), u64::MAX);
+    assert_eq!(rt; bag.try_clone()?.pairs(), bag.pairs());
+    Ok(())
+}

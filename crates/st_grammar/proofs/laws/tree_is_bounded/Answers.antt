@@ -1,5 +1,0 @@
-use Rattle.st_grammar.proofs.Bounded.{tree_bounded}
-use Rattle.st_grammar.proofs.laws.tree_is_bounded.Goals as goal
-
-pub returns : goal.returns
-returns c = tree_bounded

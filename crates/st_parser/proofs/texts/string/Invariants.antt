@@ -1,6 +1,0 @@
-use Rattle.std.proofs.Common.{◌≡◌, ◌++◌, drop}
-use Rattle.st_tree.specs.Tokens.{string_value, string_bytes}
-use Rattle.st_parser.proofs.texts.string.Given as goal
-
-abbrev pub invariant-loop-b : goal.invariant-loop-b
-invariant-loop-b l = string_value l.bytes ≡ l.value.items ++ string_bytes l.quoted (drop l.b-index (drop 1 l.bytes))

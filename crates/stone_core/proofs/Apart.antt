@@ -1,0 +1,31 @@
+-- Which earlier entries name commands of a session.
+use Rattle.std.proofs.Common.{◌≡◌, ℕ, ◌≤◌, ◌<◌, Bool, true, false, true≢false, cond, List, [], ◌∷◌, ◌++◌, length, sym, ap, ◌∙◌, arith, ◌==◌, refl}
+use Rattle.std.specs.List.{AllByRecursion}
+use Rattle.std.proofs.lemmas.Bool.{eq-eqb}
+use Rattle.gem_value.specs.declared.record.Entry.{Entry}
+use Rattle.gem_meaning.specs.declared.event.What.TheVariants.{Placed}
+use Rattle.gem_meaning.specs.Events.{Event, events_of}
+use Rattle.gem_meaning.specs.Serial.{EndedBefore}
+
+not_taken : (taken : Bool) (x : Event) (xs : List Event) → cond taken (x ∷ xs) xs ≡ [] → (taken ≡ false) × (xs ≡ [])
+not_taken true x xs empty = absurd (omega (arith, ap length empty))
+not_taken false x xs empty = (refl, empty)
+
+-- events of other sessions name none of them
+pub apart_of_others : (session first : ℕ) (es : List Event) → events_of session es ≡ [] → AllByRecursion (EndedBefore session first) es
+apart_of_others session first [] none = tt
+apart_of_others session first ((author, Placed e) ∷ es) none =
+    let both = not_taken (author == session) (author, Placed e) (events_of session es) none in
+    (λ is. absurd (true≢false (sym (eq-eqb author session is) ∙ both.0)), apart_of_others session first es both.1)
+
+pub apart_both : (session first : ℕ) (es fs : List Event) → AllByRecursion (EndedBefore session first) es
+    → AllByRecursion (EndedBefore session first) fs → AllByRecursion (EndedBefore session first) (es ++ fs)
+apart_both session first [] fs es_apart fs_apart = fs_apart
+apart_both session first (e ∷ es) fs es_apart fs_apart = (es_apart.0, apart_both session first es fs es_apart.1 fs_apart)
+
+-- a later command comes after them, too
+pub apart_later : (session first later : ℕ) (es : List Event) → first ≤ later → AllByRecursion (EndedBefore session first) es
+    → AllByRecursion (EndedBefore session later) es
+apart_later session first later [] le apart = tt
+apart_later session first later ((author, Placed e) ∷ es) le apart =
+    (λ is. let lt = apart.0 is in omega (arith, lt, le), apart_later session first later es le apart.1)

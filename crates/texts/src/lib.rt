@@ -1,0 +1,10 @@
+//! Room: shelves. Takes bytes; gives texts, and what is in a name. Knows nothing of Smalltalk.
+#![tactic(auto)]
+
+mod name_bytes;
+#[cfg(test)]
+mod tests;
+mod text;
+
+pub use name_bytes::{are_name_bytes, is_name_byte, starts_name};
+pub use text::Text;
