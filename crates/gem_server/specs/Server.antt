@@ -4,7 +4,8 @@ use Rattle.std.specs.List.{filter}
 use Rattle.std.specs.FinMap as map
 use Rattle.std.specs.Io.KnownBytes.{Consumes, IsAtEnd}
 use Rattle.texts.specs.Bytes.{Bytes}
-use Rattle.shell_words.specs.Script.{SessionCommands, most_script_bytes}
+use Rattle.profile.specs.declared.limits.TheConstants.{SCRIPT_LIMIT}
+use Rattle.shell_words.specs.Script.{SessionCommands}
 use Rattle.shell_words.specs.ScriptGrammar.{ReadsScript}
 use Rattle.gem_replies.specs.declared.reply.RunBook.{RunBook}
 use Rattle.gem_replies.specs.declared.reply.Transcript.{Transcript}
@@ -34,7 +35,7 @@ HasRun _ = ⊥
 
 -- The text that the source gave is all that it has, or it is longer than a script may be.
 abbrev pub IsWhole : Option Bytes → Bytes → Type 0
-IsWhole left text = IsAtEnd left ⊎ (most_script_bytes < length text)
+IsWhole left text = IsAtEnd left ⊎ (SCRIPT_LIMIT < length text)
 
 -- what the Stone is opened with: the image without globals, and no commit
 abbrev pub opened : List SessionCommands → Opened

@@ -1,6 +1,6 @@
 //! Runs the sessions of a script one after another.
 ghost use Rattle.std.specs.Prelude.{◌≡◌, ◌≤◌, [], IfOk, length};
-ghost use Rattle.shell_words.specs.Script.{most_sessions};
+ghost use Rattle.profile.specs.declared.limits.TheConstants.{SESSION_LIMIT};
 ghost use Rattle.gem_meaning.specs.Legal.{IsLegal, AreTranscripts};
 ghost use Rattle.gem_server.specs.Server.{opened, AreInTurn};
 
@@ -42,7 +42,7 @@ fn run_sessions(
 ) -> Result<Vec<Transcript>, AllocError>
     requires script { stone.old.opened.script ≡ sessions.now }
     requires begun { stone.old.events ≡ [] }
-    requires count { length sessions.now ≤ most_sessions }
+    requires count { length sessions.now ≤ SESSION_LIMIT }
     ensures transcripts { IfOk result (λ transcripts. AreTranscripts stone.new.opened stone.new.events 1 sessions.now transcripts.items) }
     ensures in_turn { IfOk result (λ transcripts. AreInTurn stone.new.opened stone.new.events 1 sessions.now transcripts.items) }
     ensures opened { stone.new.opened ≡ stone.old.opened }
