@@ -6,7 +6,10 @@ use Rattle.shell_words.specs.ScriptGrammar.{ReadsScript, BreaksRule}
 use Rattle.shell_words.proofs.OneAnswer.{one_rule, never_both}
 use Rattle.gem_server.specs.declared.status.Status.{Status}
 use Rattle.gem_server.specs.declared.status.Status.TheVariants.{Done, Usage, Script, WriteFault}
-use Rattle.gem_server.specs.Server.{WasRead}
+use Rattle.shell_words.specs.Rules.{script_rule_number, IsScriptFault}
+use Rattle.shell_words.specs.declared.fault.ScriptFault.{ScriptFault}
+use Rattle.shell_words.specs.declared.fault.ScriptFault.TheVariants.{Rule, NoMemory as ShortOfMemory}
+use Rattle.gem_server.specs.Server.{WasRead, status_of}
 
 -- the status tells the rule exactly where the text breaks it first at that line
 abbrev pub Tells : Bytes → Status → Type 0
@@ -27,8 +30,13 @@ script_told text line rule breaks number broken = (
 )
 
 -- the text breaks the rule that the status tells
-pub refused : (text : Bytes) (status : Status) (line rule : ℕ) → status ≡ Script line rule → BreaksRule text line rule → Tells text status
+refused : (text : Bytes) (status : Status) (line rule : ℕ) → status ≡ Script line rule → BreaksRule text line rule → Tells text status
 refused text status line rule is breaks = subst (Tells text) (sym is) (script_told text line rule breaks)
+
+-- a fault's status tells the rule exactly
+pub refused_by : (text : Bytes) (status : Status) (fault : ScriptFault) → status ≡ status_of fault → IsScriptFault text fault → Tells text status
+refused_by text status (Rule line rule) is breaks = refused text status line (script_rule_number rule) is breaks
+refused_by text status ShortOfMemory is breaks = subst (Tells text) (sym is) (λ line rule. (λ same. absurd cc, λ also. absurd also.0))
 
 -- the text is a script, and its report was written, or a part of it
 pub done : (text : Bytes) (script : List SessionCommands) (status : Status) → status ≡ Done → ReadsScript text script → Tells text status

@@ -7,6 +7,9 @@ use Rattle.texts.specs.Bytes.{Bytes}
 use Rattle.profile.specs.declared.limits.TheConstants.{SCRIPT_LIMIT}
 use Rattle.shell_words.specs.Script.{SessionCommands}
 use Rattle.shell_words.specs.ScriptGrammar.{ReadsScript}
+use Rattle.shell_words.specs.Rules.{script_rule_number}
+use Rattle.shell_words.specs.declared.fault.ScriptFault.{ScriptFault}
+use Rattle.shell_words.specs.declared.fault.ScriptFault.TheVariants.{Rule, NoMemory as ShortOfMemory}
 use Rattle.gem_replies.specs.declared.reply.RunBook.{RunBook}
 use Rattle.gem_replies.specs.declared.reply.Transcript.{Transcript}
 use Rattle.gem_meaning.specs.Events.{Opened, Event, after_events}
@@ -14,7 +17,7 @@ use Rattle.gem_meaning.specs.Session.{Says}
 use Rattle.gem_meaning.specs.Legal.{IsLegal}
 use Rattle.gem_session.specs.Login.{TellsLogin}
 use Rattle.gem_server.specs.declared.status.Status.{Status}
-use Rattle.gem_server.specs.declared.status.Status.TheVariants.{Done, Script, WriteFault}
+use Rattle.gem_server.specs.declared.status.Status.TheVariants.{Done, Script, WriteFault, NoMemory}
 
 -- the words of the command line are the one word serve
 abbrev pub IsServe : List Bytes → Type 0
@@ -26,6 +29,11 @@ WasRead Done = Unit {0}
 WasRead WriteFault = Unit {0}
 WasRead (Script line rule) = Unit {0}
 WasRead _ = ⊥
+
+-- how a call ends at this fault of its text
+abbrev pub status_of : ScriptFault → Status
+status_of (Rule line rule) = Script line (script_rule_number rule)
+status_of ShortOfMemory = NoMemory
 
 -- The status says that the script's sessions ran.
 abbrev pub HasRun : Status → Type 0

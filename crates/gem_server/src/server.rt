@@ -5,7 +5,7 @@ ghost use Rattle.gem_io.specs.Faults.{HasRisen};
 ghost use Rattle.shell_words.specs.Script.{SessionCommands};
 ghost use Rattle.shell_words.specs.ScriptGrammar.{ReadsScript, BreaksRule};
 ghost use Rattle.gem_replies.specs.Report.{report_of};
-ghost use Rattle.gem_server.specs.Server.{IsServe, WasRead, IsWhole, HasRun, IsRun, IsBlank};
+ghost use Rattle.gem_server.specs.Server.{IsServe, WasRead, IsWhole, HasRun, IsRun, IsBlank, status_of};
 
 use crate::intake::{IntakeError, read_text};
 use crate::output::write_all;
@@ -79,6 +79,19 @@ fn is_serve(words: &[String]) -> bool
     }
 }
 
+// How a call ends whose text is no script, or is too much for the memory.
+fn status_of(fault: ScriptFault) -> Status
+    ensures { result ≡ status_of fault }
+{
+    match fault {
+        ScriptFault::Rule { line, rule } => Status::Script {
+            line,
+            rule: rule.number(),
+        },
+        ScriptFault::NoMemory => Status::NoMemory,
+    }
+}
+
 fn serve<S: Source, K: Sink>(alloc: Global, source: &mut S, sink: &mut K) -> Ended
     ensures usage { result.status ≢ Status.Usage }
     ensures script { (given : List ℕ) × Consumes (S.left source.old) (S.left source.new) given
@@ -97,17 +110,14 @@ fn serve<S: Source, K: Sink>(alloc: Global, source: &mut S, sink: &mut K) -> End
     let text = match read_text(alloc, source) {
         Ok(text) => text,
         Err(IntakeError::TooLong) => {
-            return Ended::blank(alloc, Status::Script { line: 0, rule: 7 });
+            return Ended::blank(alloc, status_of(ScriptFault::too_long()));
         }
         Err(IntakeError::Failed) => return Ended::blank(alloc, Status::ReadFault),
         Err(IntakeError::NoMemory) => return Ended::blank(alloc, Status::NoMemory),
     };
     let script = match read_script(alloc, &text) {
         Ok(script) => script,
-        Err(ScriptFault::Rule { line, rule }) => {
-            return Ended::blank(alloc, Status::Script { line, rule });
-        }
-        Err(ScriptFault::NoMemory) => return Ended::blank(alloc, Status::NoMemory),
+        Err(fault) => return Ended::blank(alloc, status_of(fault)),
     };
     let Ok((book, events)) = run(alloc, script) else {
         return Ended::blank(alloc, Status::NoMemory);
