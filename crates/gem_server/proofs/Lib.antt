@@ -1,5 +1,4 @@
 pub mod Devices
-pub mod Empty
 pub mod Turns
 pub mod Sessions
 pub mod ScriptRules

@@ -2,7 +2,7 @@ use Rattle.std.proofs.Common.{◌≡◌, ◌∷◌, [], Bool, List, ℕ, codes, 
 use Rattle.std.proofs.lemmas.Slice.Eq.{slice_eq-Decides}
 use Rattle.std.proofs.lemmas.Bool.Decides.{Decides-eqb}
 use Rattle.std.specs.Bool.{Decides}
-use Rattle.gem_server.proofs.Empty.{empty_if}
+use Rattle.shell_words.proofs.Empty.{empty_if}
 use Rattle.gem_server.proofs.server.is_serve.Goals as goal
 
 -- a list of one word is another where the words are the same
