@@ -20,14 +20,14 @@ below-insert n m k v within below q past = get-insert_other m k v q (omega (arit
 -- an empty root
 pub new_root : {X : Type 0} (bits levels : ℕ) → 0 < bits → bits ≤ 8 → 0 < levels → bits * levels ≤ 48 → IsRoot {X = X} bits levels Empty 0
 new_root {X} bits levels some_bits few_bits some_levels in_range = record {
-    some_bits = some_bits;
-    few_bits = few_bits;
-    some_levels = some_levels;
-    in_range = in_range;
-    fits = tt;
-    below = λ q past. get-empty nat_cmp q;
-    counted = sym (len-empty nat_cmp X);
-  }
+  some_bits = some_bits;
+  few_bits = few_bits;
+  some_levels = some_levels;
+  in_range = in_range;
+  fits = tt;
+  below = λ q past. get-empty nat_cmp q;
+  counted = sym (len-empty nat_cmp X);
+}
 
 pub none_in_empty : {X : Type 0} (root : Slot X) (m : FinMap nat_cmp X) (k : ℕ) → root ≡ Empty → slot_map root ≡ m → get m k ≡ None
 none_in_empty root m k is view = ap (λ map. get map k) (sym view ∙ ap slot_map is) ∙ get-empty nat_cmp k
@@ -46,16 +46,16 @@ module _ {X : Type 0} (bits levels : ℕ) (root : Slot X) (count : ℕ) (whole :
   pub root_set : (slot : Slot X) (more : ℕ) (k : ℕ) (v : X) → k < 2 ^ (bits * levels) → SlotFits bits levels slot
       → slot_map slot ≡ insert (slot_map root) k v → cond (contains_key (slot_map root) k) count (count + 1) ≡ more → IsRoot bits levels slot more
   root_set slot more k v within fits is counts = record {
-      some_bits = whole.some_bits;
-      few_bits = whole.few_bits;
-      some_levels = whole.some_levels;
-      in_range = whole.in_range;
-      fits = fits;
-      below = subst (AllBelow (2 ^ (bits * levels))) (sym is) (below-insert (2 ^ (bits * levels)) (slot_map root) k v within whole.below);
-      counted = sym counts
+    some_bits = whole.some_bits;
+    few_bits = whole.few_bits;
+    some_levels = whole.some_levels;
+    in_range = whole.in_range;
+    fits = fits;
+    below = subst (AllBelow (2 ^ (bits * levels))) (sym is) (below-insert (2 ^ (bits * levels)) (slot_map root) k v within whole.below);
+    counted = sym counts
         ∙ ap (λ (n : ℕ). cond (contains_key (slot_map root) k) n (n + 1)) whole.counted
         ∙ sym (len-insert nat_cmp_total (slot_map root) k v) ∙ ap len (sym is);
-    }
+  }
 
 same_some : {X : Type 0} (found : Option (Bor X)) → is_some (option_copied found) ≡ is_some found
 same_some None = refl

@@ -42,9 +42,9 @@ module _ {X : Type 0} (bits height : ℕ) where
   -- each slot fits, also past the end
   pub fits_at : (slots : List (Slot X)) (at : ℕ) → All (SlotFits bits height) slots → SlotFits bits height (get_or slots at Empty)
   fits_at slots at fits = elim (cases_lt at (length slots)) [
-      | inl within ↦ All-get_or (SlotFits bits height) slots at Empty within fits
-      | inr past ↦ subst (SlotFits {X = X} bits height) (sym (get_or_past slots at Empty past)) tt
-    ]
+    | inl within ↦ All-get_or (SlotFits bits height) slots at Empty within fits
+    | inr past ↦ subst (SlotFits {X = X} bits height) (sym (get_or_past slots at Empty past)) tt
+  ]
 
   -- slots that have the same at each place make the same map
   pub same_map_of : (slots others : List (Slot X)) → ((at rest : ℕ) → slot_at (get_or others at Empty) rest ≡ slot_at (get_or slots at Empty) rest) → map_of bits height others ≡ map_of bits height slots
@@ -54,7 +54,7 @@ module _ {X : Type 0} (bits height : ℕ) where
   set_slot : (slots others : List (Slot X)) (k : ℕ) (v : X) → k < 2 ^ (bits * (height + 1))
       → slot_at (get_or others (k / 2 ^ (bits * height)) Empty) (k % 2 ^ (bits * height)) ≡ Some v
       → ((rest : ℕ) → rest < 2 ^ (bits * height) → rest ≢ k % 2 ^ (bits * height)
-        → slot_at (get_or others (k / 2 ^ (bits * height)) Empty) rest ≡ slot_at (get_or slots (k / 2 ^ (bits * height)) Empty) rest)
+      → slot_at (get_or others (k / 2 ^ (bits * height)) Empty) rest ≡ slot_at (get_or slots (k / 2 ^ (bits * height)) Empty) rest)
       → ((at : ℕ) → at ≢ k / 2 ^ (bits * height) → get_or others at Empty ≡ get_or slots at Empty)
       → map_of bits height others ≡ insert (map_of bits height slots) k v
   set_slot slots others k v below here beside elsewhere =
@@ -62,8 +62,8 @@ module _ {X : Type 0} (bits height : ℕ) where
       table-insert (2 ^ (bits * (height + 1))) (slots_at bits height slots) (slots_at bits height others) k v below here (λ q within apart.
       elim (cases_eq (q / 2 ^ s) (k / 2 ^ s)) [
         | inl same ↦ ap (λ (at : ℕ). slot_at (get_or others at Empty) (q % 2 ^ s)) same
-          ∙ beside (q % 2 ^ s) (rest_below q s) (λ rest. apart (same_digits q k s same rest))
-          ∙ sym (ap (λ (at : ℕ). slot_at (get_or slots at Empty) (q % 2 ^ s)) same)
+            ∙ beside (q % 2 ^ s) (rest_below q s) (λ rest. apart (same_digits q k s same rest))
+            ∙ sym (ap (λ (at : ℕ). slot_at (get_or slots at Empty) (q % 2 ^ s)) same)
         | inr other ↦ ap (λ (slot : Slot X). slot_at slot (q % 2 ^ s)) (elsewhere (q / 2 ^ s) other)
       ])
 
@@ -76,12 +76,12 @@ empty_map {X} bits height slots none = table_is (2 ^ (bits * (height + 1))) (slo
 -- an empty slot more changes nothing
 one_more : {X : Type 0} (slots : List (Slot X)) (at : ℕ) → get_or (slots ++ Empty ∷ []) at Empty ≡ get_or slots at Empty
 one_more slots at = elim (cases_lt at (length slots)) [
-    | inl within ↦ get_or-append slots (Empty ∷ []) Empty at within
-    | inr past ↦ elim (cases_eq at (length slots)) [
-        | inl same ↦ ap (λ (n : ℕ). get_or (slots ++ Empty ∷ []) n Empty) same ∙ get_or-append_seam slots Empty [] Empty ∙ sym (get_or_past slots at Empty past)
-        | inr apart ↦ get_or_past (slots ++ Empty ∷ []) at Empty (omega (arith, length-append slots (Empty ∷ []), apart)) ∙ sym (get_or_past slots at Empty past)
-      ]
+  | inl within ↦ get_or-append slots (Empty ∷ []) Empty at within
+  | inr past ↦ elim (cases_eq at (length slots)) [
+    | inl same ↦ ap (λ (n : ℕ). get_or (slots ++ Empty ∷ []) n Empty) same ∙ get_or-append_seam slots Empty [] Empty ∙ sym (get_or_past slots at Empty past)
+    | inr apart ↦ get_or_past (slots ++ Empty ∷ []) at Empty (omega (arith, length-append slots (Empty ∷ []), apart)) ∙ sym (get_or_past slots at Empty past)
   ]
+]
 
 pub pushed : {X : Type 0} (asked : ℕ) (slots others more : List (Slot X)) → more ≡ others ++ Empty ∷ [] → length others < asked → SameSlots asked slots others → SameSlots asked slots more
 pushed asked slots others more is short same =
@@ -118,9 +118,9 @@ fits-clone bits height (Branch node) (Value w) same fits = absurd same
 module _ {X : Type 0} (bits height : ℕ) (slots copies : List (Slot X)) (same : AllZip SlotClones slots copies) where
   clone_at : (at rest : ℕ) → slot_at (get_or copies at Empty) rest ≡ slot_at (get_or slots at Empty) rest
   clone_at at rest = elim (cases_lt at (length slots)) [
-      | inl within ↦ slot_at-clone (get_or slots at Empty) (get_or copies at Empty) rest (AllZip-get_or SlotClones slots copies at Empty Empty same within)
-      | inr past ↦ ap (λ (slot : Slot X). slot_at slot rest) (get_or_past copies at Empty (omega (arith, length_all_zip SlotClones slots copies same)) ∙ sym (get_or_past slots at Empty past))
-    ]
+    | inl within ↦ slot_at-clone (get_or slots at Empty) (get_or copies at Empty) rest (AllZip-get_or SlotClones slots copies at Empty Empty same within)
+    | inr past ↦ ap (λ (slot : Slot X). slot_at slot rest) (get_or_past copies at Empty (omega (arith, length_all_zip SlotClones slots copies same)) ∙ sym (get_or_past slots at Empty past))
+  ]
 
   pub map_of-clone : map_of bits height copies ≡ map_of bits height slots
   map_of-clone = same_map_of bits height slots copies clone_at
@@ -133,9 +133,9 @@ module _ {X : Type 0} (bits height : ℕ) (slots copies : List (Slot X)) (same :
         in_range = built.in_range;
         few_slots = omega (arith, built.few_slots);
         slots_fit = All-from_get_or (SlotFits bits height) copies Empty (λ at within.
-          fits-clone bits height (get_or slots at Empty) (get_or copies at Empty)
-          (AllZip-get_or SlotClones slots copies at Empty Empty same (omega arith))
-          (fits_at bits height slots at built.slots_fit));
+            fits-clone bits height (get_or slots at Empty) (get_or copies at Empty)
+            (AllZip-get_or SlotClones slots copies at Empty Empty same (omega arith))
+            (fits_at bits height slots at built.slots_fit));
       }
 
 -- what a node finds in its slots
@@ -168,20 +168,20 @@ module _ {X : Type 0} (bits height : ℕ) (slots roomy : List (Slot X)) (k : ℕ
 
   pub room_built : IsWellBuilt bits height slots → IsWellBuilt bits height roomy
   room_built built = record {
-      some_bits = built.some_bits;
-      in_range = built.in_range;
-      few_slots = omega (arith, built.few_slots, same.no_longer, digit_below bits height k below);
-      slots_fit = All-from_get_or (SlotFits bits height) roomy Empty (λ at within.
+    some_bits = built.some_bits;
+    in_range = built.in_range;
+    few_slots = omega (arith, built.few_slots, same.no_longer, digit_below bits height k below);
+    slots_fit = All-from_get_or (SlotFits bits height) roomy Empty (λ at within.
         subst (SlotFits {X = X} bits height) (sym (same.each at)) (fits_at bits height slots at built.slots_fit));
-    }
+  }
 
   pub set_built : (slot : Slot X) → SlotFits bits height slot → IsWellBuilt bits height slots → IsWellBuilt bits height (set roomy (k / 2 ^ (bits * height)) slot)
   set_built slot fits built = record {
-      some_bits = built.some_bits;
-      in_range = built.in_range;
-      few_slots = omega (arith, (room_built built).few_slots, length-set roomy (k / 2 ^ (bits * height)) slot);
-      slots_fit = All-set (SlotFits bits height) roomy (k / 2 ^ (bits * height)) slot fits (room_built built).slots_fit;
-    }
+    some_bits = built.some_bits;
+    in_range = built.in_range;
+    few_slots = omega (arith, (room_built built).few_slots, length-set roomy (k / 2 ^ (bits * height)) slot);
+    slots_fit = All-set (SlotFits bits height) roomy (k / 2 ^ (bits * height)) slot fits (room_built built).slots_fit;
+  }
 
   module _ (slot : Slot X) (room : k / 2 ^ (bits * height) + 1 ≤ length roomy) where
     here : get_or (set roomy (k / 2 ^ (bits * height)) slot) (k / 2 ^ (bits * height)) Empty ≡ slot
@@ -203,8 +203,8 @@ module _ {X : Type 0} (bits height : ℕ) (slots roomy : List (Slot X)) (k : ℕ
     unchanged beside = same_map_of bits height slots (set roomy (k / 2 ^ (bits * height)) slot) (λ at rest.
         elim (cases_eq at (k / 2 ^ (bits * height))) [
           | inl is ↦ ap (λ (n : ℕ). slot_at (get_or (set roomy (k / 2 ^ (bits * height)) slot) n Empty) rest) is
-            ∙ ap (λ (s : Slot X). slot_at s rest) here ∙ beside rest
-            ∙ sym (ap (λ (n : ℕ). slot_at (get_or slots n Empty) rest) is)
+              ∙ ap (λ (s : Slot X). slot_at s rest) here ∙ beside rest
+              ∙ sym (ap (λ (n : ℕ). slot_at (get_or slots n Empty) rest) is)
           | inr apart ↦ ap (λ (s : Slot X). slot_at s rest) (there at apart)
         ])
 

@@ -46,16 +46,16 @@ pub get-table_below : {X : Type 0} (n : ℕ) (f : ℕ → Option X) (q : ℕ) �
 unfolding table
 get-table_below zero f q below = absurd (omega arith)
 get-table_below (suc n) f q below = elim (cases_eq q n) [
-    | inl same ↦ get-with_same (table n f) n (f n) q same (get-table_above n f q (omega (arith, same))) ∙ sym (ap f same)
-    | inr apart ↦ get-with_other (table n f) n (f n) q apart ∙ get-table_below n f q (omega (arith, apart))
-  ]
+  | inl same ↦ get-with_same (table n f) n (f n) q same (get-table_above n f q (omega (arith, same))) ∙ sym (ap f same)
+  | inr apart ↦ get-with_other (table n f) n (f n) q apart ∙ get-table_below n f q (omega (arith, apart))
+]
 
 -- the map of a table is what it has at each key below n, and nothing above
 pub table_is : {X : Type 0} (n : ℕ) (f : ℕ → Option X) (m : FinMap nat_cmp X) → ((q : ℕ) → q < n → f q ≡ get m q) → ((q : ℕ) → n ≤ q → get m q ≡ None) → table n f ≡ m
 table_is n f m below above = same_keys _ _ (λ q. elim (cases_lt q n) [
-    | inl within ↦ get-table_below n f q within ∙ below q within
-    | inr past ↦ get-table_above n f q past ∙ sym (above q past)
-  ])
+  | inl within ↦ get-table_below n f q within ∙ below q within
+  | inr past ↦ get-table_above n f q past ∙ sym (above q past)
+])
 
 pub same_table : {X : Type 0} (n : ℕ) (f g : ℕ → Option X) → ((q : ℕ) → q < n → g q ≡ f q) → table n g ≡ table n f
 same_table n f g same = table_is n g (table n f) (λ q within. same q within ∙ sym (get-table_below n f q within)) (get-table_above n f)

@@ -22,8 +22,11 @@ last_tokens n ts = drop (length ts - n) ts
 abbrev pub in_text : Bytes → List Token → Result Program Fault → Result Program TextFault
 in_text text ts (Ok program) = Ok program
 in_text text ts (Err fault) = Err
-    (record { place = place_of text
-    (last_tokens (length fault.left) ts); rule = of_grammar fault.rule })
+    (record {
+      place = place_of text
+          (last_tokens (length fault.left) ts);
+      rule = of_grammar fault.rule;
+    })
 
 -- a bad token comes before all else
 abbrev pub of_tokens : Form → Bytes → Result (List Token) BadToken → Result Program TextFault

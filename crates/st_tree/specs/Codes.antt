@@ -281,19 +281,19 @@ program_to p = gcons (option_to p.selector)
 
 abbrev program_from : Gv → Program
 program_from (gcons a (gcons b (gcons c d))) = record {
-    selector = option_from a;
-    params = texts_from b;
-    temps = texts_from c;
-    body = statements_from d;
+  selector = option_from a;
+  params = texts_from b;
+  temps = texts_from c;
+  body = statements_from d;
 }
 program_from _ = record { selector = None; params = []; temps = []; body = no_statements }
 
 pub program_back : (p : Program) → program_from (program_to p) ≡ p
 program_back p = λ i. record {
-    selector = option_back p.selector i;
-    params = texts_back p.params i;
-    temps = texts_back p.temps i;
-    body = statements_back p.body i;
+  selector = option_back p.selector i;
+  params = texts_back p.params i;
+  temps = texts_back p.temps i;
+  body = statements_back p.body i;
 }
 
 abbrev pub program_code : Coded Program

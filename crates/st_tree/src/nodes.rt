@@ -196,10 +196,10 @@ impl Model for Tree {
     ghost coded = { program_code };
 
     ghost view = { λ t. record {
-        selector = t.selector;
-        params = t.params.items;
-        temps = t.temps.items;
-        body = statements t.body.items;
+      selector = t.selector;
+      params = t.params.items;
+      temps = t.temps.items;
+      body = statements t.body.items;
     } };
 }
 

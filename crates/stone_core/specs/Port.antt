@@ -64,7 +64,7 @@ pub record PortState : Type 0 where
 abbrev pub IsAloneStill : ℕ → PortState → PortState → Type 0
 IsAloneStill session before after = before.alone ≡ true → (after.alone ≡ true)
     × ((other : ℕ) → other ≢ session
-        → events_of other after.told.events ≡ events_of other before.told.events)
+    → events_of other after.told.events ≡ events_of other before.told.events)
 
 -- What every call for a session keeps: the port is on the same Stone and has seen more events,
 -- which are consistent; it serves whom it served; and a port that is alone stays so.
