@@ -1,7 +1,6 @@
 -- Adds in either order.
 use Rattle.std.proofs.Common.{◌≡◌, ℕ, ◌+◌, List, [], ◌∷◌, map, Ok, Ordering, refl, sym, ap, ◌∙◌, subst}
 use Rattle.std.specs.Cmp.{IsTotalOrder}
-use Rattle.std.specs.Ordering.{ordering_reverse}
 use Rattle.std.specs.declared.cmp.Ordering.TheVariants.{Less, Equal, Greater}
 use Rattle.rc_counter_bag.specs.Bag.{one_more, with_one_more, replayed}
 use Rattle.rc_counter_bag.specs.Turns.{merged_after, merged_twice}

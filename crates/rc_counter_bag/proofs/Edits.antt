@@ -1,5 +1,5 @@
 -- What an edit at the place that a search found does to a bag.
-use Rattle.std.proofs.Common.{◌≡◌, ◌==◌, ℕ, zero, suc, ◌<◌, false, cond, List, [], ◌∷◌, length, get_or, set, Some, None, option_map, Result, Ok, Err, OnErr, Ordering, refl, sym, ap, ◌∙◌}
+use Rattle.std.proofs.Common.{◌≡◌, ◌==◌, ℕ, zero, suc, ◌<◌, false, cond, List, [], ◌∷◌, length, get_or, set, Some, None, option_map, Ordering, refl, sym, ap, ◌∙◌}
 use Rattle.std.proofs.lemmas.Bool.{ne_eqb}
 use Rattle.std.proofs.lemmas.List.{get_or_default}
 use Rattle.std.specs.List.{AllByRecursion, insert, remove}

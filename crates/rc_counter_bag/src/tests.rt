@@ -73,54 +73,32 @@ struct Case<'a> {
     want: Result<&'a [(char, u64)], u64>,
 }
 
+macro_rules! cases {
+    ($($place:expr, $updates:expr => $want:expr;)*) => {
+        [$(Case {
+            place: $place,
+            updates: $updates,
+            want: $want,
+        }),*]
+    };
+}
+
 #[test]
 fn bags(rt: HostRuntime) -> Result<(), Fail> {
     let alloc = rt.alloc();
-    let cases = [
+    let cases = cases! {
         // One occurrence that two sessions remove: the second is refused. With two it isn't.
-        Case {
-            place: &[('x', 1)],
-            updates: &[remove('x')],
-            want: Ok(&[]),
-        },
-        Case {
-            place: &[],
-            updates: &[remove('x')],
-            want: Err(0),
-        },
-        Case {
-            place: &[('x', 2)],
-            updates: &[remove('x')],
-            want: Ok(&[('x', 1)]),
-        },
+        &[('x', 1)], &[remove('x')] => Ok(&[]);
+        &[], &[remove('x')] => Err(0);
+        &[('x', 2)], &[remove('x')] => Ok(&[('x', 1)]);
         // Adds beside those of another session, and a removal of what was added.
-        Case {
-            place: &[('b', 1)],
-            updates: &[add('a'), add('b'), add('c')],
-            want: Ok(&[('a', 1), ('b', 2), ('c', 1)]),
-        },
-        Case {
-            place: &[],
-            updates: &[add('a'), remove('a'), remove('a'), remove('b')],
-            want: Err(2),
-        },
-        // Occurrences stand still at the end.
-        Case {
-            place: &[('x', u64::MAX)],
-            updates: &[add('x')],
-            want: Ok(&[('x', u64::MAX)]),
-        },
-        Case {
-            place: &[('x', u64::MAX)],
-            updates: &[remove('x')],
-            want: Ok(&[('x', u64::MAX)]),
-        },
-        Case {
-            place: &[('x', u64::MAX - 1)],
-            updates: &[remove('x')],
-            want: Ok(&[('x', u64::MAX - 2)]),
-        },
-    ];
+        &[('b', 1)], &[add('a'), add('b'), add('c')] => Ok(&[('a', 1), ('b', 2), ('c', 1)]);
+        &[], &[add('a'), remove('a'), remove('a'), remove('b')] => Err(2);
+        // Occurrences stay at the end of their range.
+        &[('x', u64::MAX)], &[add('x')] => Ok(&[('x', u64::MAX)]);
+        &[('x', u64::MAX)], &[remove('x')] => Ok(&[('x', u64::MAX)]);
+        &[('x', u64::MAX - 1)], &[remove('x')] => Ok(&[('x', u64::MAX - 2)]);
+    };
     let Some(at_view) = Bag::of_pairs(pairs(alloc, &[('x', 1)])?) else {
         panic!(rt; "a bag");
     };

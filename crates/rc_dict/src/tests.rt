@@ -34,51 +34,33 @@ struct Case<'a> {
     want: Result<&'a [(char, u32)], u64>,
 }
 
+macro_rules! cases {
+    ($($view:expr, $place:expr, $updates:expr => $want:expr;)*) => {
+        [$(Case {
+            view: $view,
+            place: $place,
+            updates: $updates,
+            want: $want,
+        }),*]
+    };
+}
+
 #[test]
 fn merges(rt: HostRuntime) -> Result<(), Fail> {
     let alloc = rt.alloc();
-    let cases = [
+    let cases = cases! {
         // Two sessions put at one key: the second is refused. At two keys both stand.
-        Case {
-            view: &[],
-            place: &[('a', 1)],
-            updates: &[put('a', 1)],
-            want: Err(0),
-        },
-        Case {
-            view: &[],
-            place: &[('a', 1)],
-            updates: &[put('b', 2)],
-            want: Ok(&[('a', 1), ('b', 2)]),
-        },
+        &[], &[('a', 1)], &[put('a', 1)] => Err(0);
+        &[], &[('a', 1)], &[put('b', 2)] => Ok(&[('a', 1), ('b', 2)]);
         // The first update whose key was changed is named.
-        Case {
-            view: &[('a', 1), ('c', 3)],
-            place: &[('a', 2)],
-            updates: &[put('b', 7), remove('c'), put('a', 2)],
-            want: Err(1),
-        },
+        &[('a', 1), ('c', 3)], &[('a', 2)], &[put('b', 7), remove('c'), put('a', 2)] => Err(1);
         // The last update of each key stands.
-        Case {
-            view: &[('a', 1)],
-            place: &[('a', 1), ('z', 9)],
-            updates: &[put('a', 2), put('b', 3), put('a', 4), remove('b')],
-            want: Ok(&[('a', 4), ('z', 9)]),
-        },
+        &[('a', 1)], &[('a', 1), ('z', 9)], &[put('a', 2), put('b', 3), put('a', 4), remove('b')]
+            => Ok(&[('a', 4), ('z', 9)]);
         // A key without a value at the view and at the place may be removed.
-        Case {
-            view: &[],
-            place: &[],
-            updates: &[remove('a')],
-            want: Ok(&[]),
-        },
-        Case {
-            view: &[('a', 1)],
-            place: &[],
-            updates: &[remove('a')],
-            want: Err(0),
-        },
-    ];
+        &[], &[], &[remove('a')] => Ok(&[]);
+        &[('a', 1)], &[], &[remove('a')] => Err(0);
+    };
     for (number, case) in cases.iter().enumerate() {
         let at_view = KeyDict::of_pairs(pairs(alloc, case.view)?);
         let at_place = KeyDict::of_pairs(pairs(alloc, case.place)?);

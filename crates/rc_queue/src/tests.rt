@@ -44,69 +44,35 @@ struct Case<'a> {
     want: Result<(u64, &'a [u32]), u64>,
 }
 
+macro_rules! cases {
+    ($($view:expr, $place:expr, $updates:expr => $want:expr;)*) => {
+        [$(Case {
+            view: $view,
+            place: $place,
+            updates: $updates,
+            want: $want,
+        }),*]
+    };
+}
+
 #[test]
 fn merges(rt: HostRuntime) -> Result<(), Fail> {
     let alloc = rt.alloc();
-    let cases = [
+    let cases = cases! {
         // A producer beside a consumer, in either order, where 1 and 2 wait.
-        Case {
-            view: 0,
-            place: (0, &[1, 2]),
-            updates: &[add(3)],
-            want: Ok((0, &[1, 2, 3])),
-        },
-        Case {
-            view: 0,
-            place: (0, &[1, 2, 3]),
-            updates: &[remove(1)],
-            want: Ok((1, &[2, 3])),
-        },
-        Case {
-            view: 0,
-            place: (0, &[1, 2]),
-            updates: &[remove(1)],
-            want: Ok((1, &[2])),
-        },
-        Case {
-            view: 0,
-            place: (1, &[2]),
-            updates: &[add(3)],
-            want: Ok((1, &[2, 3])),
-        },
-        // Two consumers: the second is refused, whatever stands at the front by then.
-        Case {
-            view: 0,
-            place: (1, &[2]),
-            updates: &[remove(1)],
-            want: Err(0),
-        },
-        Case {
-            view: 0,
-            place: (1, &[1]),
-            updates: &[add(4), remove(1)],
-            want: Err(1),
-        },
+        0, (0, &[1, 2]), &[add(3)] => Ok((0, &[1, 2, 3]));
+        0, (0, &[1, 2, 3]), &[remove(1)] => Ok((1, &[2, 3]));
+        0, (0, &[1, 2]), &[remove(1)] => Ok((1, &[2]));
+        0, (1, &[2]), &[add(3)] => Ok((1, &[2, 3]));
+        // Two consumers: the second is refused, whatever is at the front by then.
+        0, (1, &[2]), &[remove(1)] => Err(0);
+        0, (1, &[1]), &[add(4), remove(1)] => Err(1);
         // A session takes what it added itself, but another's add stands before it.
-        Case {
-            view: 0,
-            place: (0, &[]),
-            updates: &[add(7), remove(7)],
-            want: Ok((1, &[])),
-        },
-        Case {
-            view: 0,
-            place: (0, &[8]),
-            updates: &[add(7), remove(7)],
-            want: Err(1),
-        },
+        0, (0, &[]), &[add(7), remove(7)] => Ok((1, &[]));
+        0, (0, &[8]), &[add(7), remove(7)] => Err(1);
         // A removal with nothing left.
-        Case {
-            view: 5,
-            place: (5, &[1]),
-            updates: &[remove(1), remove(2)],
-            want: Err(1),
-        },
-    ];
+        5, (5, &[1]), &[remove(1), remove(2)] => Err(1);
+    };
     for (number, case) in cases.iter().enumerate() {
         let at_view = queue(alloc, case.view, &[])?;
         let at_place = queue(alloc, case.place.0, case.place.1)?;
