@@ -67,6 +67,7 @@ pub says_stay : (t : Told) (more : List Event) (session : ℕ) (script : Session
 says_stay t more session script rs none says =
     let front = same_front t.events more says.point says.within in
     record {
+      of_script = says.of_script;
       point = says.point;
       view = says.view;
       within = within t.events more says.point says.within;

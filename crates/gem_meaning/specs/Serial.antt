@@ -10,7 +10,7 @@ use Rattle.shell_words.specs.declared.script.Command.{Command}
 use Rattle.shell_words.specs.declared.script.Command.TheVariants.{Commit, Abort, Logout}
 use Rattle.gem_meaning.specs.declared.event.What.TheVariants.{Placed}
 use Rattle.gem_meaning.specs.Transaction.{written_of, result_of}
-use Rattle.gem_meaning.specs.Events.{Opened, Event, Told, commands_of, entry_commands, run_at_place, run_on_view, after_events, standing}
+use Rattle.gem_meaning.specs.Events.{Opened, Event, Told, commands_of, entry_commands, run_at_place, run_on_view, after_events, standing, conflicts_at}
 
 -- the command is there and may end a transaction: an abort, or a commit, which may also have been
 -- refused
@@ -28,6 +28,7 @@ MayGoOn _ = Unit {0}
 
 -- The entry names commands of its session that may be one transaction: they end with a commit, none
 -- of them is an abort or a logout, and they begin with the session or after a commit or an abort.
+-- Which number the transaction has is for what the session says.
 pub record IsTransaction (script : List SessionCommands) (e : Entry) : Type 0 where
   pub session : (1 ≤ e.session) × (e.session ≤ length script)
   pub first : (e.first_command ≡ 1)
@@ -42,14 +43,16 @@ abbrev pub EndedBefore : (session first : ℕ) → Event → Type 0
 EndedBefore session first (author, Placed e) = author ≡ session → e.last_command < first
 
 -- The entry is a transaction of this session, placed after these events: its view is one that there
--- was, no earlier entry of the session names one of its commands, and at its place it gives all
--- that it gives where all stands as at its view.
+-- was, no earlier entry of the session names one of its commands, it has no conflict there, and at
+-- its place it gives all that it gives where all stands as at its view.
 pub record IsPlaced (o : Opened) (before : List Event) (session : ℕ) (e : Entry) : Type 0 where
   pub of_session : e.session ≡ session
   pub of_script : IsTransaction o.script e
   pub from : o.number ≤ e.view
   pub to : e.view ≤ (after_events o before).number
   pub apart : AllByRecursion (EndedBefore session e.first_command) before
+  pub no_conflict : conflicts_at o (after_events o before) e
+      (run_on_view o (after_events o before) e) ≡ []
   pub same : result_of (run_at_place o (after_events o before) e)
       ≡ result_of (run_on_view o (after_events o before) e)
 

@@ -1,5 +1,6 @@
 -- What a session says: its replies to each command, by the events that had come before them.
 use Rattle.std.specs.Prelude.{◌≡◌, ◌≢◌, ◌⊎◌, ℕ, zero, suc, ◌+◌, ◌-◌, ◌≤◌, Bool, true, false, List, [], ◌∷◌, ◌++◌, length, map, take, drop, codes, bytes_eq, Option, Some, None, if◌then◌else◌}
+use Rattle.std.specs.List.{slice_get}
 use Rattle.texts.specs.Bytes.{Bytes}
 use Rattle.gem_value.specs.Image.{Image}
 use Rattle.gem_value.specs.Oid.{oid_number}
@@ -235,6 +236,7 @@ SaysOf None t session point view commands rs = SaysOfNobody t session point view
 -- What a session of the script replies, by all events: to its login, which saw the first `point`
 -- events, all of other sessions, and then to each command.
 pub record Says (t : Told) (session : ℕ) (script : SessionCommands) (rs : List Reply) : Type 0 where
+  pub of_script : slice_get t.opened.script (session - 1) ≡ Some script
   pub point : ℕ
   pub view : ℕ
   pub within : point ≤ length t.events

@@ -2,7 +2,6 @@
 //! nothing.
 ghost use Rattle.std.specs.Prelude.{◌≡◌, ◌≢◌, ℕ, ℤ, Bool, Some, Ok, Err, List, [], ◌-◌, ◌≤◌, ◌<◌, true, ◌∷◌, ◌++◌, get_or};
 ghost use Rattle.texts.specs.Bytes.{Bytes};
-ghost use Rattle.texts.specs.Bytes.{Bytes};
 ghost use Rattle.st_tree.specs.Trees.{Expression, statement, Statements, append_statements};
 ghost use Rattle.shell_words.specs.Script.{SessionCommands};
 ghost use Rattle.gem_replies.specs.declared.reply.Reply.{Reply};

@@ -24,7 +24,7 @@ pub enum Line {
     Ran,
     /// The text of the chunk's value.
     Printed(Text),
-    /// `spoiled`: nothing is committed, since a chunk of the transaction was short of memory.
+    /// `spoiled`: nothing is committed, since a chunk or method of the transaction was short of memory.
     Spoiled,
     /// `committed unchanged at N view V`: nothing had been written. It counts after commit `at`,
     /// and the view `view` begins.

@@ -1,14 +1,15 @@
 -- What the end of a call of the server says.
 use Rattle.std.specs.Prelude.{◌≡◌, ℕ, ◌<◌, ◌⊎◌, codes, List, [], ◌∷◌, length, Option}
 use Rattle.std.specs.FinMap as map
-use Rattle.std.specs.Io.KnownBytes.{Consumes, IsAtEnd}
+use Rattle.std.specs.Io.KnownBytes.{Consumes, Appends, IsAtEnd}
 use Rattle.texts.specs.Bytes.{Bytes}
 use Rattle.profile.specs.declared.limits.TheConstants.{SCRIPT_LIMIT}
 use Rattle.shell_words.specs.Script.{SessionCommands}
-use Rattle.shell_words.specs.ScriptGrammar.{ReadsScript}
+use Rattle.shell_words.specs.ScriptGrammar.{ReadsScript, BreaksRule}
 use Rattle.shell_words.specs.Rules.{script_rule_number}
 use Rattle.shell_words.specs.declared.fault.ScriptFault.{ScriptFault}
 use Rattle.shell_words.specs.declared.fault.ScriptFault.TheVariants.{Rule, NoMemory as ShortOfMemory}
+use Rattle.gem_replies.specs.Report.{report_of}
 use Rattle.gem_replies.specs.declared.reply.RunBook.{RunBook}
 use Rattle.gem_meaning.specs.Events.{Opened, Event, Told}
 use Rattle.gem_meaning.specs.Legal.{IsLegal, AreInTurn}
@@ -63,6 +64,18 @@ pub record IsRun (left left' : Option Bytes) (events : List Event) (book : RunBo
   pub given : Consumes left left' text
   pub ended : IsAtEnd left'
   pub run : IsRunOf text events book
+
+-- The source gave a text to its end, and the report of a run of it was appended to the sink.
+pub record IsReported (left left' written written' : Option Bytes) : Type 0 where
+  pub events : List Event
+  pub book : RunBook
+  pub run : IsRun left left' events book
+  pub report : Appends written written' (report_of book)
+
+-- The source gave a text that breaks this rule first at this line.
+abbrev pub IsNoScript : (left left' : Option Bytes) → (line rule : ℕ) → Type 0
+IsNoScript left left' line rule =
+    (given : Bytes) × Consumes left left' given × BreaksRule given line rule
 
 -- no event, and a book without a transcript and without a commit
 pub record IsBlank (events : List Event) (book : RunBook) : Type 0 where

@@ -58,10 +58,10 @@ has_logged_in p q image number script s goes says fresh range is user carries st
 -- what a session says whose user isn't there
 pub refused_when : (p q : PortState) (session : ℕ) (image : Image) (number : ℕ) (script : SessionCommands) (rs : List Reply) → GoesOn session p q
     → BeginSays p.told.opened session p.told.events q.told.events image number → events_of session p.told.events ≡ []
-    → user_in image script.user ≡ None → rs ≡ reply_with 0 (NoUser number) ∷ not_logged_in 1 (length (until_logout script.commands))
+    → slice_get p.told.opened.script (session - 1) ≡ Some script → user_in image script.user ≡ None → rs ≡ reply_with 0 (NoUser number) ∷ not_logged_in 1 (length (until_logout script.commands))
     → Says q.told session script rs
-refused_when p q session image number script rs goes says fresh nobody is =
+refused_when p q session image number script rs goes says fresh of_script nobody is =
     let o = q.told.opened in
     let here : BeginSays o session p.told.events q.told.events image number = subst (λ x. BeginSays x session p.told.events q.told.events image number) (sym goes.opened) says in
-    refused q.told session script number rs (fresh_still o session p.told.events q.told.events image number fresh here) here.number_is
+    refused q.told session script number rs (subst (λ x. slice_get x.script (session - 1) ≡ Some script) (sym goes.opened) of_script) (fresh_still o session p.told.events q.told.events image number fresh here) here.number_is
     (subst (λ i. user_in i script.user ≡ None) here.image_is nobody) is

@@ -1,5 +1,6 @@
 -- The replies to commands where nobody is logged in.
-use Rattle.std.proofs.Common.{◌≡◌, ◌∙◌, refl, sym, ap, subst, ℕ, zero, suc, ◌+◌, None, Option, List, [], ◌∷◌, ◌++◌, length, take, drop, arith, length-append, inr}
+use Rattle.std.proofs.Common.{◌≡◌, ◌∙◌, refl, sym, ap, subst, ℕ, zero, suc, ◌+◌, ◌-◌, Some, None, Option, List, [], ◌∷◌, ◌++◌, length, take, drop, arith, length-append, inr}
+use Rattle.std.specs.List.{slice_get}
 use Rattle.std.proofs.Math.Seq.{take-length}
 use Rattle.std.proofs.lemmas.List.{drop_all}
 use Rattle.gem_replies.specs.declared.reply.Line.TheVariants.{NoUser, NotLoggedIn}
@@ -39,12 +40,13 @@ pub counted_commands : (cs body : List Command) (c : Command) → cs ≡ body ++
 counted_commands cs body c is = sym (ap length is ∙ length-append body (c ∷ []))
 
 -- what a session says whose user may not log in
-pub refused : (t : Told) (session : ℕ) (script : SessionCommands) (view : ℕ) (rs : List Reply) → events_of session t.events ≡ [] → view ≡ (standing t).number
+pub refused : (t : Told) (session : ℕ) (script : SessionCommands) (view : ℕ) (rs : List Reply) → slice_get t.opened.script (session - 1) ≡ Some script → events_of session t.events ≡ [] → view ≡ (standing t).number
     → user_in (standing t).image script.user ≡ None → rs ≡ reply_with 0 (NoUser view) ∷ not_logged_in 1 (length (until_logout script.commands))
     → Says t session script rs
-refused t session script view rs fresh view_is unknown is =
+refused t session script view rs of_script fresh view_is unknown is =
     let front : take (length t.events) t.events ≡ t.events = take-length t.events in
     record {
+      of_script = of_script;
       point = length t.events;
       view = view;
       within = omega arith;

@@ -133,6 +133,7 @@ all_served t events script body i first s rs now logged_in until over grew now_i
     let says = served.leads events (length events) (out ∷ []) (nothing_later events)
     (subst (λ x. CommandsSay (record { opened = o; events = events }) (i + 1) (length events) (length events) (session_state s) (x ++ Logout ∷ []) (out ∷ [])) (sym (drop_all i body over)) at_end) in
     subst (λ (x : Told). Says x first.session script (rs ++ out ∷ [])) (sym now_is) (record {
+      of_script = logged_in.of_script;
       point = length t.events;
       view = first.view;
       within = longer t.events events grew;

@@ -1,7 +1,7 @@
 //! The program without its devices.
-ghost use Rattle.std.specs.Prelude.{◌≡◌, ◌↔◌, drop, map, string_bytes, IsErrOf};
+ghost use Rattle.std.specs.Prelude.{◌≡◌, ◌<◌, ◌↔◌, ℕ, drop, map, string_bytes, IsErrOf, OnOk};
 ghost use Rattle.gem_io.specs.Faults.{HasRisen};
-ghost use Rattle.gem_server.specs.Server.{IsServe};
+ghost use Rattle.gem_server.specs.Server.{IsServe, IsNoScript, IsReported};
 
 use crate::failure::{Failure, end_of};
 use gem_io::{Sink, Source};
@@ -20,8 +20,16 @@ pub fn serve<S: Source, K: Sink>(
         ↔ (IsServe (map string_bytes (drop 1 words.now)) → ⊥) }
     ensures read_fault { IsErrOf result Failure.ReadFault
         → HasRisen (S.faults source.old) (S.faults source.new) }
+    ensures read_fault_told { S.faults source.old < S.faults source.new
+        → IsErrOf result Failure.ReadFault }
     ensures write_fault { IsErrOf result Failure.WriteFault
         → HasRisen (K.faults sink.old) (K.faults sink.new) }
+    ensures write_fault_told { K.faults sink.old < K.faults sink.new
+        → IsErrOf result Failure.WriteFault }
+    ensures script { (line rule : ℕ) → IsErrOf result (Failure.Script line rule)
+        → IsNoScript (S.left source.old) (S.left source.new) line rule }
+    ensures reported { OnOk result (IsReported (S.left source.old) (S.left source.new)
+        (K.written sink.old) (K.written sink.new)) }
 {
     end_of(gemstone(alloc, own_words(words), source, sink).status)
 }

@@ -4,3 +4,4 @@ pub mod Script
 pub mod ScriptGrammar
 pub mod Rules
 pub mod Reading
+pub mod FaultText

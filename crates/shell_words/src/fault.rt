@@ -1,16 +1,17 @@
 //! Why a text is no script.
-ghost use Rattle.std.specs.Prelude.{◌≡◌};
+ghost use Rattle.std.specs.Prelude.{◌≡◌, Some};
+ghost use Rattle.shell_words.specs.FaultText.{fault_text};
 ghost use Rattle.shell_words.specs.declared.fault.ScriptFault.TheVariants.{NoMemory};
 
 use crate::rule::ScriptRule;
 use std::alloc::{AllocError, AllocFailed};
-use thiserror::Error;
+use std::error::Error;
+use std::fmt;
 
 /// Why a text is no script.
-#[derive(Clone, Copy, Debug, PartialEq, Eq, Error)]
+#[derive(Clone, Copy, Debug, PartialEq, Eq)]
 pub enum ScriptFault {
     /// The text breaks this rule first, at this line.
-    #[error("script line {line} rule S{}", .rule.number())]
     Rule {
         /// The number of the line, from 1, or 0 for `ScriptSize`, a rule of the text as a whole.
         line: u32,
@@ -18,7 +19,6 @@ pub enum ScriptFault {
         rule: ScriptRule,
     },
     /// Memory ran out.
-    #[error("out of memory")]
     NoMemory,
 }
 
@@ -33,6 +33,22 @@ impl ScriptFault {
         }
     }
 }
+
+impl fmt::Display for ScriptFault {
+    ghost output = { λ fault. Some (fault_text fault) };
+
+    fn fmt<W: fmt::Write>(&self, f: &mut fmt::Formatter<W>) -> fmt::Result {
+        match *self {
+            ScriptFault::Rule { line, rule } => {
+                let rule = rule.number();
+                write!(f, "script line {line} rule S{rule}")
+            }
+            ScriptFault::NoMemory => f.write_str("out of memory"),
+        }
+    }
+}
+
+impl Error for ScriptFault {}
 
 impl From<AllocError> for ScriptFault {
     ghost from_gives = { λ _ fault. fault ≡ NoMemory };

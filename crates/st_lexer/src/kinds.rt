@@ -1,9 +1,11 @@
 //! The kinds of token, tokens, and why a text has none.
-ghost use Rattle.std.specs.Prelude.{◌≡◌};
+ghost use Rattle.std.specs.Prelude.{◌≡◌, Some};
+ghost use Rattle.st_lexer.specs.FaultText.{fault_text};
 ghost use Rattle.st_lexer.specs.declared.kinds.LexFault.TheVariants.{NoMemory};
 
 use std::alloc::{AllocError, AllocFailed};
-use thiserror::Error;
+use std::error::Error;
+use std::fmt;
 
 /// The kinds of token.
 #[derive(Clone, Copy, Debug, PartialEq, Eq)]
@@ -58,12 +60,11 @@ pub struct Token {
 }
 
 /// Why a text has no tokens.
-#[derive(Clone, Copy, Debug, PartialEq, Eq, Error)]
+#[derive(Clone, Copy, Debug, PartialEq, Eq)]
 pub enum LexFault {
     /// A bad token begins at offset `at`. P1: no token begins with this byte. P2: a string,
     /// comment, character or symbol without its end, or a `#` with which nothing begins. P3: a
     /// number that isn't of the form or is too large, or a symbol that is too long.
-    #[error("P{rule} at {at}")]
     Bad {
         /// The offset where the bad token begins.
         at: u32,
@@ -71,9 +72,21 @@ pub enum LexFault {
         rule: u8,
     },
     /// Memory ran out.
-    #[error("out of memory")]
     NoMemory,
 }
+
+impl fmt::Display for LexFault {
+    ghost output = { λ fault. Some (fault_text fault) };
+
+    fn fmt<W: fmt::Write>(&self, f: &mut fmt::Formatter<W>) -> fmt::Result {
+        match *self {
+            LexFault::Bad { at, rule } => write!(f, "P{rule} at {at}"),
+            LexFault::NoMemory => f.write_str("out of memory"),
+        }
+    }
+}
+
+impl Error for LexFault {}
 
 impl From<AllocError> for LexFault {
     ghost from_gives = { λ _ fault. fault ≡ NoMemory };

@@ -6,3 +6,4 @@ pub mod Scopes
 pub mod Descent
 pub mod Literals
 pub mod Levels
+pub mod FaultText

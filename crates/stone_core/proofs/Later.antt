@@ -44,13 +44,14 @@ later_commit_conflicts o before more session placed e run old none =
     let since = no_commit_since o (after_events o ((before ++ (session, Placed placed) ∷ []) ++ more)) e run none in
     omega arith
 
-shown_where : (b : Bool) (view : ℕ) (c : Conflict) → (b ≡ true → view < c.shown) → AllByRecursion (λ (conflict : Conflict). view < conflict.shown) (if b then c ∷ [] else [])
-shown_where true view c after = (after refl, tt)
-shown_where false view c after = tt
+shown_where : (b : Bool) (view number : ℕ) (c : Conflict) → (b ≡ true → view < c.shown) → c.shown ≤ number
+    → AllByRecursion (λ (conflict : Conflict). (view < conflict.shown) × (conflict.shown ≤ number)) (if b then c ∷ [] else [])
+shown_where true view number c after most = ((after refl, most), tt)
+shown_where false view number c after most = tt
 
 -- what is shown comes after the view
-pub shown_after_view : (o : Opened) (s : Standing) (e : Entry) (run : Run) → AllByRecursion (λ (conflict : Conflict). e.view < conflict.shown) (conflicts_at o s e run)
-shown_after_view o s e run = shown_where (nat_lt e.view s.number) e.view _ (ltb-true e.view s.number)
+pub shown_after_view : (o : Opened) (s : Standing) (e : Entry) (run : Run) → AllByRecursion (λ (conflict : Conflict). (e.view < conflict.shown) × (conflict.shown ≤ s.number)) (conflicts_at o s e run)
+shown_after_view o s e run = shown_where (nat_lt e.view s.number) e.view s.number _ (ltb-true e.view s.number) (omega arith)
 
 -- an answer that isn't that the commit was placed makes no event
 pub nothing_changed : (o : Opened) (before after : List Event) (r : TxnRecord) (answer : CommitAnswer) → ((number : ℕ) → answer ≢ PlacedAt number)

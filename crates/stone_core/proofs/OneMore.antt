@@ -65,13 +65,14 @@ runs_here : (o : Opened) (s : Standing) (e : Entry) → e.view ≡ s.number → 
 unfolding run_at_place run_on_view
 runs_here o s e now = ap (λ place. run_at o e place (image_at s e.view)) (image_now s e.view now)
 
-placed_now : (t : Told) (r : TxnRecord) → IsRecorded t r → r.view ≡ (standing t).number → IsPlaced t.opened t.events r.session (entry_of r)
-placed_now t r recorded now = record {
+placed_now : (t : Told) (r : TxnRecord) → IsRecorded t r → conflicts_of_record t.opened (standing t) r ≡ [] → r.view ≡ (standing t).number → IsPlaced t.opened t.events r.session (entry_of r)
+placed_now t r recorded none now = record {
   of_session = refl;
   of_script = recorded.of_script;
   from = recorded.from;
   to = recorded.to;
   apart = recorded.apart;
+  no_conflict = none;
   same = ap result_of (sym (runs_here t.opened (standing t) (entry_of r) now));
 }
 
@@ -98,7 +99,7 @@ next_stone t image next number history entries r events whole recorded none next
         sessions = subst (AllByRecursion (IsOfScript t.opened.script)) (sym events_is)
             (all_one_more (IsOfScript t.opened.script) t.events event whole.consistent.sessions recorded.of_script.session);
         serial = subst (λ es. IsSerial (record t { events = es })) (sym events_is)
-            (serial_one_more t event whole.consistent.serial (placed_now t r recorded now));
+            (serial_one_more t event whole.consistent.serial (placed_now t r recorded none now));
       };
     }
 

@@ -26,7 +26,8 @@ event_of_answer s session e (PlacedAt number) = (session, Placed e) ∷ []
 event_of_answer s session e _ = []
 
 -- Where nothing was written, the commit is read only. Otherwise it is refused where it has
--- conflicts at this point, and else placed, with the next number; only then memory may be wanting.
+-- conflicts at this point, and else placed, with the next number. Where something was written memory
+-- may be wanting instead.
 abbrev pub AnswerFits : Opened → Standing → TxnRecord → CommitAnswer → Type 0
 AnswerFits o s r (ReadOnly number) = IsUnchangedRecord r × (number ≡ r.view)
 AnswerFits o s r (Conflicts found) =

@@ -38,7 +38,8 @@ pub fn first_committer_wins()
         conflicts_at o (after_events o
         ((before ++ (session, Placed placed) ∷ []) ++ more)) e run ≢ [] }
     ensures shown { (o : Opened) (s : Standing) (e : Entry) (run : Run) →
-        AllByRecursion (λ conflict. e.view < conflict.shown) (conflicts_at o s e run) }
+        AllByRecursion (λ conflict. (e.view < conflict.shown) × (conflict.shown ≤ s.number))
+        (conflicts_at o s e run) }
 {}
 
 /// A refusal changes nothing, nor does any other answer but that the commit was placed: what stands

@@ -38,7 +38,7 @@ returns-in_ok-replies-in-None-clause-says g c =
     let begun = c.in_ok-begun.begun in
     let nobody = sym c.user_in.ensures ∙ c.in-None.is in
     refused_when p q c.args.session begun.image begun.number c.args.script.now _ c.begin.ensures.port c.in_ok-begun.ensures.begun
-    c.requires.fresh (subst (λ n. user_in begun.image n ≡ None) c.user.ensures nobody) c.in_ok-replies-in-None.ensures
+    c.requires.fresh c.requires.script (subst (λ n. user_in begun.image n ≡ None) c.user.ensures nobody) c.in_ok-replies-in-None.ensures
 
 pub returns-in_ok-replies-in-Some-clause-login : goal.returns-in_ok-replies-in-Some-clause-login
 returns-in_ok-replies-in-Some-clause-login g c =
