@@ -23,11 +23,6 @@ with-last [] last command = refl
 with-last (s ∷ []) last command = refl
 with-last (s ∷ t ∷ sessions) last command = ap (λ more. s ∷ more) (with-last (t ∷ sessions) last command)
 
-pub count-with : (sessions : List SessionCommands) (command : Command) → length (with_next_command sessions command) ≡ length sessions
-count-with [] command = refl
-count-with (s ∷ []) command = refl
-count-with (s ∷ t ∷ sessions) command = let more = count-with (t ∷ sessions) command in omega (arith, more)
-
 first_if : (a b : Bool) → (a && b) ≡ true → a ≡ true
 first_if true b is = refl
 first_if false b is = is
