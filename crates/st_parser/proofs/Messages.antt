@@ -113,7 +113,7 @@ named_plain k names y (word assign x t ∷ ws) e h = let part : is_full (level_o
     ≡ false = and_true (is_full (level_of k)) h in rw (e, part) refl
 named_plain k names y (word _ x t ∷ ws) e h = rw e refl
 
--- what is read of a statement is behind it
+-- what is read of a statement is after it
 pub statement_ended : (b : Body) (ss : Statements) (s : Statement) (ws : List Word)
     → starts (is_kind period) ws ≡ false → is_quiet_statement s ws
     → Runs (behind_statement (holding b ss) s) ws
@@ -261,7 +261,7 @@ plain_step b (word open_array x t ∷ ws) h c =
     (word open_array x t ∷ ws) ws
 plain_step b (word _ x t ∷ ws) h c = cc
 
--- a `.` behind a statement
+-- a `.` after a statement
 pub period_behind : (b : Body) (ss : Statements) (s : Statement) (ws us : List Word)
     → starts (is_kind period) ws ≡ true → returns_of s ≡ false → us ≡ others ws
     → Runs (behind_statement (holding b ss) s) ws
@@ -289,7 +289,7 @@ pub suits_body : (b : Body) (ss : Statements) (r : Bool) (scopes : List Scope) (
 suits_body (top selector ps ts body) ss r scopes d h = h
 suits_body (in_block k names ps ts body) ss r scopes d h = h
 
--- a `]` or none behind the statements of a block
+-- a `]` or none after the statements of a block
 pub block_ends : (k : Slot) (names ps ts : List Bytes) (body : Statements) (ws us : List Word)
     → starts (is_kind close_bracket) ws ≡ true → us ≡ others ws
     → Runs (ended (in_block k names ps ts body)) ws (have k (bare names (block (closure ps ts body))) any_message) us
@@ -328,7 +328,7 @@ pub minus_reached : (k : Slot) (names : List Bytes) (x : Bytes) (t : Bool) (ws u
     → is_minus x ≡ true → ws ≡ word binary x t ∷ us → Runs (want k names) ws (minus k names) us
 minus_reached k names x t ws us m f = rw (f, m) refl
 
--- behind the statements of a whole text
+-- after the statements of a whole text
 pub top_stuck : (selector : Option Bytes) (ps ts : List Bytes) (body : Statements) (ws : List Word)
     → 0 < length ws
     → machine_run every (ended (top selector ps ts body)) ws ≡ Err (record { left = ws; rule = p4 })

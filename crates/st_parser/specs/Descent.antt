@@ -1,4 +1,4 @@
--- What the functions of the parser do, told by the machine of the grammar: where the machine stands before and behind what they read.
+-- What the functions of the parser do, told by the machine of the grammar: where the machine stands before and after what they read.
 use Rattle.std.specs.Prelude.{◌≡◌, ℕ, Bool, true, false, ◌&&◌, ◌||◌, ◌==◌, Result, Ok, Err, Some, List, [], ◌∷◌}
 use Rattle.texts.specs.Bytes.{Bytes}
 use Rattle.st_tree.specs.Trees.{Program, Statement, statement, Statements, no_statements, Expression, expression}
@@ -120,7 +120,7 @@ begins_expression _ = false
 abbrev pub begins_statement : List Word → Bool
 begins_statement ws = starts (is_kind caret) ws || begins_expression ws
 
--- the machine behind a statement of this body
+-- the machine after a statement of this body
 abbrev pub behind_statement : Body → Statement → State
 behind_statement b (statement r e) = have (outer (alone (in_body b r))) e no_message
 

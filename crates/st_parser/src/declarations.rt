@@ -17,7 +17,7 @@ use st_lexer::TokenKind;
 use std::alloc::Global;
 use texts::Text;
 
-// Reads the name of a parameter, and puts it behind the others.
+// Reads the name of a parameter, and puts it after the others.
 fn parameter(alloc: Global, r: &mut Reader, params: &mut Vec<Text>) -> Result<(), Stop>
     ensures block { (k : Slot) (names : List Bytes)
         → Reached (param_wanted k names params.old.items) r.old
@@ -65,7 +65,7 @@ pub(crate) fn parameters(alloc: Global, r: &mut Reader) -> Result<Vec<Text>, Sto
     Ok(params)
 }
 
-// Goes past the `|` behind parameters, which may be left out before a `]`.
+// Goes past the `|` after parameters, which may be left out before a `]`.
 pub(crate) fn skip_bar(r: &mut Reader, params: &[Text]) -> Result<(), Stop>
     requires { starts (is_kind colon) r.old ≡ false }
     ensures met { (k : Slot) (names : List Bytes)
@@ -86,7 +86,7 @@ pub(crate) fn skip_bar(r: &mut Reader, params: &[Text]) -> Result<(), Stop>
     Ok(())
 }
 
-// The name may be declared behind these parameters and temporaries.
+// The name may be declared after these parameters and temporaries.
 fn may_add(params: &[Text], temps: &[Text], name: &[u8]) -> bool
     ensures { result ≡ may_declare (params.now ++ temps.now) name.now }
 {

@@ -114,7 +114,7 @@ fn literal_head(alloc: Global, r: &mut Reader, lexeme: &Lexeme) -> Result<Primar
     }
 }
 
-// The number behind a `-`, which has to touch it.
+// The number after a `-`, which has to touch it.
 fn negative_number(r: &mut Reader) -> Result<Primary, Stop>
     ensures met { (k : Slot) (names : List Bytes)
         → Reached (minus k names) r.old (with_head k names) r.new result }
@@ -363,7 +363,7 @@ fn messages(
     Ok(messages)
 }
 
-// The messages behind semicolons, of which there is none where there are no messages before.
+// The messages after semicolons, of which there is none where there are no messages before.
 #[cycle(expression)]
 fn cascade(
     alloc: Global,
@@ -450,7 +450,7 @@ fn argument(alloc: Global, r: &mut Reader, scopes: &Scopes, depth: usize) -> Res
     })
 }
 
-// The binary messages, put behind the unary ones.
+// The binary messages, put after the unary ones.
 #[cycle(expression)]
 fn binary_messages(
     alloc: Global,

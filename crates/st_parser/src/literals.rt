@@ -85,7 +85,7 @@ fn keyword_run(alloc: Global, r: &mut Reader, first: &[u8]) -> Result<Literal, S
     Ok(Literal::Sym(Text::of(symbol)))
 }
 
-// A binary selector as a symbol, or the number behind a `-` that it touches. The selector is read.
+// A binary selector as a symbol, or the number after a `-` that it touches. The selector is read.
 fn selector(alloc: Global, r: &mut Reader, selector: &[u8]) -> Result<Literal, Stop>
     ensures met { (n : Nest) (cs : Constants)
         → Reached (behind_selector n cs selector.now) r.old (with_literal n cs) r.new result }
@@ -125,7 +125,7 @@ pub(crate) fn elements(alloc: Global, r: &mut Reader, depth: usize) -> Result<Li
     Ok(Literals { items })
 }
 
-// An array in parentheses or behind `#(`, as an element.
+// An array in parentheses or after `#(`, as an element.
 #[cycle(array)]
 fn nested(alloc: Global, r: &mut Reader, depth: usize) -> Result<Literal, Stop>
     requires small { depth ≤ DEPTH_LIMIT }
