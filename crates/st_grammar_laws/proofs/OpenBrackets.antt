@@ -2,10 +2,22 @@
 use Rattle.std.proofs.Common.{◌≡◌, ℕ, Bool, true, false, cond, Some, List, [], ◌∷◌, refl, ap, ◌∙◌, subst}
 use Rattle.texts.specs.Bytes.{Bytes}
 use Rattle.st_tree.specs.Trees.{Expression, Statement, Constants, no_statements, name, sym as sym_constant}
-use Rattle.st_grammar.specs.Tokens.{Kind, identifier, keyword, number, character, string, symbol, binary, bar, assign, colon, caret, semicolon, period, open_paren, close_paren, open_bracket, close_bracket, open_array, Token}
-use Rattle.st_grammar.specs.Grammar.{word, GrammarRule, Kept, passes, is_minus, Next, any_message, takes_unary, goes_on, words_after, Form, chunk, method}
+use Rattle.st_grammar.specs.Tokens.{Kind, identifier, keyword, number, character, string, symbol, binary, bar, assign}
+use Rattle.st_grammar.specs.Tokens.{colon, caret, semicolon, period, open_paren, close_paren, open_bracket}
+use Rattle.st_grammar.specs.Tokens.{close_bracket, open_array, Token}
+use Rattle.st_grammar.specs.Grammar.{word, GrammarRule, Kept, passes, is_minus, Next, any_message, takes_unary, goes_on}
+use Rattle.st_grammar.specs.Grammar.{words_after, Form, chunk, method}
 use Rattle.st_grammar.specs.Fails.{Bracket, square, round, open_behind, open_after, first_of, innermost}
-use Rattle.st_grammar_laws.specs.Machine.{Body, top, in_block, Seat, in_body, in_paren, Wide, alone, keyword_part, Slot, outer, binary_part, Nest, of_head, in_array, State, at_pattern, pattern_operator, pattern_keyword, pattern_more, header, in_temps, begin, ended, want, named, minus, have, after_semicolon, in_params, param_wanted, in_elements, element_minus, element_run, Verdict, goes, breaks, stuck, check, bare, one_more, has_messages, with_statement, with_temp, wide_of, seat_of, held, next_in, closed, keyword_at, period_at, round_at, square_at, close_block, have_step, named_step, head_step, begin_step, header_step, params_step, close_array, elements_step, more_step, level_of, is_full, machine_step, bracket, bracket_body, bracket_seat, start}
+use Rattle.st_grammar_laws.specs.Machine.{Body, top, in_block, Seat, in_body, in_paren, Wide, alone, keyword_part, Slot}
+use Rattle.st_grammar_laws.specs.Machine.{outer, binary_part, Nest, of_head, in_array, State, at_pattern}
+use Rattle.st_grammar_laws.specs.Machine.{pattern_operator, pattern_keyword, pattern_more, header, in_temps, begin}
+use Rattle.st_grammar_laws.specs.Machine.{ended, want, named, minus, have, after_semicolon, in_params, param_wanted}
+use Rattle.st_grammar_laws.specs.Machine.{in_elements, element_minus, element_run, Verdict, goes, breaks, stuck, check}
+use Rattle.st_grammar_laws.specs.Machine.{bare, one_more, has_messages, with_statement, with_temp, wide_of, seat_of}
+use Rattle.st_grammar_laws.specs.Machine.{held, next_in, closed, keyword_at, period_at, round_at, square_at}
+use Rattle.st_grammar_laws.specs.Machine.{close_block, have_step, named_step, head_step, begin_step, header_step}
+use Rattle.st_grammar_laws.specs.Machine.{params_step, close_array, elements_step, more_step, level_of, is_full}
+use Rattle.st_grammar_laws.specs.Machine.{machine_step, bracket, bracket_body, bracket_seat, start}
 use Rattle.st_grammar_laws.proofs.Paths.{Path, path_end, path_on}
 
 -- the brackets that stand open around a place, the innermost first
@@ -78,10 +90,12 @@ if_leaves : (bs : List Bracket) (v : Bool) (a b : Verdict) → Leaves bs a → L
 if_leaves bs true a b p q = p
 if_leaves bs false a b p q = q
 
-check_leaves : (kept : Kept) (r : GrammarRule) (test : Bool) (u : State) (bs : List Bracket) → brackets u ≡ bs → Leaves bs (check kept r test u)
+check_leaves : (kept : Kept) (r : GrammarRule) (test : Bool) (u : State) (bs : List Bracket) → brackets u ≡ bs
+    → Leaves bs (check kept r test u)
 check_leaves kept r test u bs e = if_leaves bs (passes kept r test) (goes u) (breaks r) e tt
 
-keyword_leaves : (w : Wide) (e : Expression) (next : Next) (x : Bytes) → Leaves (brackets_wide w) (keyword_at w e next x)
+keyword_leaves : (w : Wide) (e : Expression) (next : Next) (x : Bytes)
+    → Leaves (brackets_wide w) (keyword_at w e next x)
 keyword_leaves (alone o) e next x = if_leaves (brackets_seat o) (goes_on next) _ stuck refl tt
 keyword_leaves (keyword_part o role f selector es) e next x = refl
 
@@ -103,22 +117,34 @@ square_leaves (in_body (top selector ps ts body) r) e = tt
 square_leaves (in_body (in_block k names ps ts body) r) e = refl
 square_leaves (in_paren k names) e = tt
 
-have_leaves : (k : Slot) (e : Expression) (next : Next) (kind : Kind) (x : Bytes) → Leaves (open_behind kind (brackets_slot k)) (have_step k e next kind x)
+have_leaves : (k : Slot) (e : Expression) (next : Next) (kind : Kind) (x : Bytes)
+    → Leaves (open_behind kind (brackets_slot k)) (have_step k e next kind x)
 have_leaves k e next identifier x = if_leaves (brackets_slot k) (takes_unary next) _ stuck refl tt
 have_leaves k e next binary x = if_leaves (brackets_slot k) (goes_on (next_in k next)) _ stuck (wide_brackets k) tt
 have_leaves k e next bar x = if_leaves (brackets_slot k) (goes_on (next_in k next)) _ stuck (wide_brackets k) tt
-have_leaves k e next keyword x = subst (λ bs. Leaves bs (have_step k e next keyword x)) (wide_brackets k) (keyword_leaves (wide_of k) (held k e) (next_in k next) x)
+have_leaves k e next keyword x = subst
+    (λ bs. Leaves bs (have_step k e next keyword x)) (wide_brackets k)
+    (keyword_leaves (wide_of k) (held k e) (next_in k next) x)
 have_leaves k e next semicolon x = if_leaves (brackets_slot k) (has_messages (closed k e)) _ stuck (seat_brackets k) tt
-have_leaves k e next period x = subst (λ bs. Leaves bs (have_step k e next period x)) (seat_brackets k) (period_leaves (seat_of k) (closed k e))
-have_leaves k e next close_paren x = subst (λ bs. Leaves (open_behind close_paren bs) (have_step k e next close_paren x)) (seat_brackets k) (round_leaves (seat_of k) (closed k e))
-have_leaves k e next close_bracket x = subst (λ bs. Leaves (open_behind close_bracket bs) (have_step k e next close_bracket x)) (seat_brackets k) (square_leaves (seat_of k) (closed k e))
+have_leaves k e next period x = subst
+    (λ bs. Leaves bs (have_step k e next period x)) (seat_brackets k) (period_leaves (seat_of k) (closed k e))
+have_leaves k e next close_paren x = subst
+    (λ bs. Leaves (open_behind close_paren bs) (have_step k e next close_paren x)) (seat_brackets k)
+    (round_leaves (seat_of k) (closed k e))
+have_leaves k e next close_bracket x = subst
+    (λ bs. Leaves (open_behind close_bracket bs) (have_step k e next close_bracket x)) (seat_brackets k)
+    (square_leaves (seat_of k) (closed k e))
 have_leaves k e next _ x = tt
 
-named_leaves : (kept : Kept) (k : Slot) (names : List Bytes) (y : Bytes) (kind : Kind) (x : Bytes) → Leaves (open_behind kind (brackets_slot k)) (named_step kept k names y kind x)
-named_leaves kept k names y assign x = if_leaves (brackets_slot k) (is_full (level_of k)) _ stuck (check_leaves kept _ _ _ (brackets_slot k) refl) tt
-named_leaves kept k names y kind x = if_leaves (open_behind kind (brackets_slot k)) _ stuck (have_step k (bare names (name y)) any_message kind x) tt (have_leaves k (bare names (name y)) any_message kind x)
+named_leaves : (kept : Kept) (k : Slot) (names : List Bytes) (y : Bytes) (kind : Kind) (x : Bytes)
+    → Leaves (open_behind kind (brackets_slot k)) (named_step kept k names y kind x)
+named_leaves kept k names y assign x = if_leaves (brackets_slot k) (is_full (level_of k)) _ stuck
+    (check_leaves kept _ _ _ (brackets_slot k) refl) tt
+named_leaves kept k names y kind x = if_leaves (open_behind kind (brackets_slot k)) _ stuck
+    (have_step k (bare names (name y)) any_message kind x) tt (have_leaves k (bare names (name y)) any_message kind x)
 
-head_leaves : (kept : Kept) (k : Slot) (names : List Bytes) (kind : Kind) (x : Bytes) → Leaves (open_behind kind (brackets_slot k)) (head_step kept k names kind x)
+head_leaves : (kept : Kept) (k : Slot) (names : List Bytes) (kind : Kind) (x : Bytes)
+    → Leaves (open_behind kind (brackets_slot k)) (head_step kept k names kind x)
 head_leaves kept k names identifier x = refl
 head_leaves kept k names number x = refl
 head_leaves kept k names character x = refl
@@ -130,16 +156,19 @@ head_leaves kept k names open_bracket x = check_leaves kept _ _ _ (square ∷ br
 head_leaves kept k names open_array x = check_leaves kept _ _ _ (round ∷ brackets_slot k) refl
 head_leaves kept k names _ x = tt
 
-begin_leaves : (kept : Kept) (b : Body) (kind : Kind) (x : Bytes) → Leaves (open_behind kind (brackets_body b)) (begin_step kept b kind x)
+begin_leaves : (kept : Kept) (b : Body) (kind : Kind) (x : Bytes)
+    → Leaves (open_behind kind (brackets_body b)) (begin_step kept b kind x)
 begin_leaves kept b caret x = refl
 begin_leaves kept b close_bracket x = block_leaves b
 begin_leaves kept b kind x = head_leaves kept (outer (alone (in_body b false))) [] kind x
 
-header_leaves : (kept : Kept) (b : Body) (kind : Kind) (x : Bytes) → Leaves (open_behind kind (brackets_body b)) (header_step kept b kind x)
+header_leaves : (kept : Kept) (b : Body) (kind : Kind) (x : Bytes)
+    → Leaves (open_behind kind (brackets_body b)) (header_step kept b kind x)
 header_leaves kept b bar x = refl
 header_leaves kept b kind x = begin_leaves kept b kind x
 
-params_leaves : (kept : Kept) (k : Slot) (names ps : List Bytes) (kind : Kind) (x : Bytes) → Leaves (open_behind kind (square ∷ brackets_slot k)) (params_step kept k names ps kind x)
+params_leaves : (kept : Kept) (k : Slot) (names ps : List Bytes) (kind : Kind) (x : Bytes)
+    → Leaves (open_behind kind (square ∷ brackets_slot k)) (params_step kept k names ps kind x)
 params_leaves kept k names ps colon x = refl
 params_leaves kept k names [] kind x = header_leaves kept (in_block k names [] [] no_statements) kind x
 params_leaves kept k names (p ∷ ps) bar x = refl
@@ -150,7 +179,8 @@ array_leaves : (n : Nest) (c : _) → brackets (close_array n c) ≡ open_behind
 array_leaves (of_head k names) c = refl
 array_leaves (in_array n cs) c = refl
 
-elements_leave : (kept : Kept) (n : Nest) (cs : Constants) (kind : Kind) (x : Bytes) → Leaves (open_behind kind (brackets_nest n)) (elements_step kept n cs kind x)
+elements_leave : (kept : Kept) (n : Nest) (cs : Constants) (kind : Kind) (x : Bytes)
+    → Leaves (open_behind kind (brackets_nest n)) (elements_step kept n cs kind x)
 elements_leave kept n cs identifier x = refl
 elements_leave kept n cs number x = refl
 elements_leave kept n cs character x = refl
@@ -164,11 +194,13 @@ elements_leave kept n cs open_array x = check_leaves kept _ _ _ (round ∷ brack
 elements_leave kept n cs close_paren x = array_leaves n _
 elements_leave kept n cs _ x = tt
 
-more_leaves : (kept : Kept) (selector : Bytes) (ps : List Bytes) (kind : Kind) (x : Bytes) → Leaves (open_behind kind []) (more_step kept selector ps kind x)
+more_leaves : (kept : Kept) (selector : Bytes) (ps : List Bytes) (kind : Kind) (x : Bytes)
+    → Leaves (open_behind kind []) (more_step kept selector ps kind x)
 more_leaves kept selector ps keyword x = refl
 more_leaves kept selector ps kind x = header_leaves kept (top (Some selector) ps [] no_statements) kind x
 
-step_leaves : (kept : Kept) (s : State) (kind : Kind) (x : Bytes) (t : Bool) → Leaves (open_behind kind (brackets s)) (machine_step kept s (word kind x t))
+step_leaves : (kept : Kept) (s : State) (kind : Kind) (x : Bytes) (t : Bool)
+    → Leaves (open_behind kind (brackets s)) (machine_step kept s (word kind x t))
 step_leaves kept at_pattern identifier x t = refl
 step_leaves kept at_pattern binary x t = refl
 step_leaves kept at_pattern bar x t = refl
@@ -245,10 +277,12 @@ first_bracket (element_minus n cs m) = nest_first n
 first_bracket (element_run n cs run) = nest_first n
 
 -- The brackets of the state that tokens lead to.
-pub path_brackets : {kept : Kept} {s u : State} (at : ℕ) (text : Bytes) (ts : List Token) → Path kept s (words_after at text ts) u → brackets u ≡ open_after (brackets s) ts
+pub path_brackets : {kept : Kept} {s u : State} (at : ℕ) (text : Bytes) (ts : List Token)
+    → Path kept s (words_after at text ts) u → brackets u ≡ open_after (brackets s) ts
 path_brackets at text [] path_end = refl
 path_brackets {kept} {s} at text (t ∷ ts) (path_on {u = v} e p) =
-    let here : brackets v ≡ open_behind t.kind (brackets s) = subst (Leaves (open_behind t.kind (brackets s))) e (step_leaves kept s t.kind _ _) in
+    let here : brackets v ≡ open_behind t.kind (brackets s) = subst (Leaves (open_behind t.kind (brackets s))) e
+    (step_leaves kept s t.kind _ _) in
     path_brackets t.to text ts p ∙ ap (λ bs. open_after bs ts) here
 
 start_brackets : (form : Form) → brackets (start form) ≡ []
@@ -256,5 +290,7 @@ start_brackets chunk = refl
 start_brackets method = refl
 
 -- The innermost bracket that tokens leave open is that of the state that they lead to.
-pub path_bracket : {kept : Kept} {u : State} (form : Form) (text : Bytes) (ts : List Token) → Path kept (start form) (words_after 0 text ts) u → bracket u ≡ innermost ts
-path_bracket {u = u} form text ts p = first_bracket u ∙ ap first_of (path_brackets 0 text ts p ∙ ap (λ bs. open_after bs ts) (start_brackets form))
+pub path_bracket : {kept : Kept} {u : State} (form : Form) (text : Bytes) (ts : List Token)
+    → Path kept (start form) (words_after 0 text ts) u → bracket u ≡ innermost ts
+path_bracket {u = u} form text ts p = first_bracket u
+    ∙ ap first_of (path_brackets 0 text ts p ∙ ap (λ bs. open_after bs ts) (start_brackets form))

@@ -2,10 +2,21 @@
 use Rattle.std.proofs.Common.{◌≡◌, Bool, true, false, cond, ◌&&◌, not, Some, List, [], ◌∷◌, refl, sym, ◌∙◌, subst}
 use Rattle.texts.specs.Bytes.{Bytes}
 use Rattle.st_tree.specs.Trees.{Expression, Constants, no_statements, name, sym as sym_constant}
-use Rattle.st_grammar.specs.Tokens.{Kind, identifier, keyword, number, character, string, symbol, binary, bar, assign, colon, caret, semicolon, period, open_paren, close_paren, open_bracket, close_bracket, open_array}
-use Rattle.st_grammar.specs.Grammar.{Word, word, GrammarRule, p7, p8, p9, Kept, is_super, is_minus, Next, any_message, takes_unary, goes_on}
+use Rattle.st_grammar.specs.Tokens.{Kind, identifier, keyword, number, character, string, symbol, binary, bar, assign}
+use Rattle.st_grammar.specs.Tokens.{colon, caret, semicolon, period, open_paren, close_paren, open_bracket}
+use Rattle.st_grammar.specs.Tokens.{close_bracket, open_array}
+use Rattle.st_grammar.specs.Grammar.{Word, word, GrammarRule, p7, p8, p9, Kept, is_super, is_minus, Next, any_message}
+use Rattle.st_grammar.specs.Grammar.{takes_unary, goes_on}
 use Rattle.st_grammar.specs.Fails.{every, but}
-use Rattle.st_grammar_laws.specs.Machine.{Body, top, in_block, Seat, in_body, in_paren, Wide, alone, keyword_part, Slot, outer, Nest, State, at_pattern, pattern_operator, pattern_keyword, pattern_more, header, in_temps, begin, ended, want, named, minus, have, after_semicolon, in_params, param_wanted, in_elements, element_minus, element_run, Verdict, goes, breaks, stuck, check, bare, one_more, has_messages, with_statement, wide_of, seat_of, held, next_in, closed, keyword_at, period_at, round_at, square_at, close_block, have_step, named_step, head_step, begin_step, header_step, params_step, elements_step, more_step, level_of, super_takes, is_full, machine_step}
+use Rattle.st_grammar_laws.specs.Machine.{Body, top, in_block, Seat, in_body, in_paren, Wide, alone, keyword_part, Slot}
+use Rattle.st_grammar_laws.specs.Machine.{outer, Nest, State, at_pattern, pattern_operator, pattern_keyword}
+use Rattle.st_grammar_laws.specs.Machine.{pattern_more, header, in_temps, begin, ended, want, named, minus, have}
+use Rattle.st_grammar_laws.specs.Machine.{after_semicolon, in_params, param_wanted, in_elements, element_minus}
+use Rattle.st_grammar_laws.specs.Machine.{element_run, Verdict, goes, breaks, stuck, check, bare, one_more}
+use Rattle.st_grammar_laws.specs.Machine.{has_messages, with_statement, wide_of, seat_of, held, next_in, closed}
+use Rattle.st_grammar_laws.specs.Machine.{keyword_at, period_at, round_at, square_at, close_block, have_step}
+use Rattle.st_grammar_laws.specs.Machine.{named_step, head_step, begin_step, header_step, params_step, elements_step}
+use Rattle.st_grammar_laws.specs.Machine.{more_step, level_of, super_takes, is_full, machine_step}
 
 -- the rules that a text may be let off
 pub data MayBeLeft : GrammarRule → Type 0 where
@@ -17,7 +28,8 @@ pub data MayBeLeft : GrammarRule → Type 0 where
 pub data Shape (f : Kept → Verdict) : Type 0 where
   goes_always : (u : State) → ((kept : Kept) → f kept ≡ goes u) → Shape f
   stuck_always : ((kept : Kept) → f kept ≡ stuck) → Shape f
-  checks : (r : GrammarRule) → MayBeLeft r → (test : Bool) (u : State) → ((kept : Kept) → f kept ≡ check kept r test u) → Shape f
+  checks : (r : GrammarRule) → MayBeLeft r → (test : Bool) (u : State) → ((kept : Kept) → f kept ≡ check kept r test u)
+      → Shape f
 
 goes_shape : (u : State) → Shape (λ kept. goes u)
 goes_shape u = goes_always u (λ kept. refl)
@@ -53,20 +65,29 @@ square_shape : (o : Seat) (e : Expression) → Shape (λ kept. square_at o e)
 square_shape (in_body b r) e = block_shape (with_statement b _)
 square_shape (in_paren k names) e = stuck_shape
 
-have_shape : (k : Slot) (e : Expression) (next : Next) (kind : Kind) (x : Bytes) → Shape (λ kept. have_step k e next kind x)
-have_shape k e next identifier x = if_shape (takes_unary next) (λ kept. goes _) (λ kept. stuck) (goes_shape _) stuck_shape
-have_shape k e next binary x = if_shape (goes_on (next_in k next)) (λ kept. goes _) (λ kept. stuck) (goes_shape _) stuck_shape
-have_shape k e next bar x = if_shape (goes_on (next_in k next)) (λ kept. goes _) (λ kept. stuck) (goes_shape _) stuck_shape
+have_shape : (k : Slot) (e : Expression) (next : Next) (kind : Kind) (x : Bytes)
+    → Shape (λ kept. have_step k e next kind x)
+have_shape k e next identifier x = if_shape (takes_unary next) (λ kept. goes _)
+    (λ kept. stuck) (goes_shape _) stuck_shape
+have_shape k e next binary x = if_shape (goes_on (next_in k next)) (λ kept. goes _)
+    (λ kept. stuck) (goes_shape _) stuck_shape
+have_shape k e next bar x = if_shape (goes_on (next_in k next)) (λ kept. goes _)
+    (λ kept. stuck) (goes_shape _) stuck_shape
 have_shape k e next keyword x = keyword_shape (wide_of k) (held k e) (next_in k next) x
-have_shape k e next semicolon x = if_shape (has_messages (closed k e)) (λ kept. goes _) (λ kept. stuck) (goes_shape _) stuck_shape
+have_shape k e next semicolon x = if_shape (has_messages (closed k e)) (λ kept. goes _)
+    (λ kept. stuck) (goes_shape _) stuck_shape
 have_shape k e next period x = period_shape (seat_of k) (closed k e)
 have_shape k e next close_paren x = round_shape (seat_of k) (closed k e)
 have_shape k e next close_bracket x = square_shape (seat_of k) (closed k e)
 have_shape k e next _ x = stuck_shape
 
-named_shape : (k : Slot) (names : List Bytes) (y : Bytes) (kind : Kind) (x : Bytes) → Shape (λ kept. named_step kept k names y kind x)
-named_shape k names y assign x = if_shape (is_full (level_of k)) (λ kept. check kept p8 _ _) (λ kept. stuck) (check_shape p8 p8_may _ _) stuck_shape
-named_shape k names y kind x = if_shape (is_super y && not (super_takes (level_of k) kind)) (λ kept. stuck) (λ kept. have_step k (bare names (name y)) any_message kind x) stuck_shape (have_shape k (bare names (name y)) any_message kind x)
+named_shape : (k : Slot) (names : List Bytes) (y : Bytes) (kind : Kind) (x : Bytes)
+    → Shape (λ kept. named_step kept k names y kind x)
+named_shape k names y assign x = if_shape (is_full (level_of k)) (λ kept. check kept p8 _ _)
+    (λ kept. stuck) (check_shape p8 p8_may _ _) stuck_shape
+named_shape k names y kind x = if_shape (is_super y && not (super_takes (level_of k) kind)) (λ kept. stuck)
+    (λ kept. have_step k (bare names (name y)) any_message kind x) stuck_shape
+    (have_shape k (bare names (name y)) any_message kind x)
 
 head_shape : (k : Slot) (names : List Bytes) (kind : Kind) (x : Bytes) → Shape (λ kept. head_step kept k names kind x)
 head_shape k names identifier x = goes_shape _
@@ -89,7 +110,8 @@ header_shape : (b : Body) (kind : Kind) (x : Bytes) → Shape (λ kept. header_s
 header_shape b bar x = goes_shape _
 header_shape b kind x = begin_shape b kind x
 
-params_shape : (k : Slot) (names ps : List Bytes) (kind : Kind) (x : Bytes) → Shape (λ kept. params_step kept k names ps kind x)
+params_shape : (k : Slot) (names ps : List Bytes) (kind : Kind) (x : Bytes)
+    → Shape (λ kept. params_step kept k names ps kind x)
 params_shape k names ps colon x = goes_shape _
 params_shape k names [] kind x = header_shape (in_block k names [] [] no_statements) kind x
 params_shape k names (p ∷ ps) bar x = goes_shape _
@@ -110,7 +132,8 @@ elements_shape n cs open_array x = check_shape p9 p9_may _ _
 elements_shape n cs close_paren x = goes_shape _
 elements_shape n cs _ x = stuck_shape
 
-more_shape : (selector : Bytes) (ps : List Bytes) (kind : Kind) (x : Bytes) → Shape (λ kept. more_step kept selector ps kind x)
+more_shape : (selector : Bytes) (ps : List Bytes) (kind : Kind) (x : Bytes)
+    → Shape (λ kept. more_step kept selector ps kind x)
 more_shape selector ps keyword x = goes_shape _
 more_shape selector ps kind x = header_shape (top (Some selector) ps [] no_statements) kind x
 
@@ -171,7 +194,8 @@ passed : (kept : Bool) (r : GrammarRule) (v : State) → cond (cond kept true tr
 passed true r v = refl
 passed false r v = refl
 
-check_lax : (kept : Kept) (r : GrammarRule) (test : Bool) (v u : State) → check every r test v ≡ goes u → check kept r test v ≡ goes u
+check_lax : (kept : Kept) (r : GrammarRule) (test : Bool) (v u : State) → check every r test v ≡ goes u
+    → check kept r test v ≡ goes u
 check_lax kept r true v u h = passed (kept r) r v ∙ h
 check_lax kept r false v u h = absurd (goes_does_not_break u r (sym h))
 
@@ -200,14 +224,18 @@ left_off r v p7_may = refl
 left_off r v p8_may = refl
 left_off r v p9_may = refl
 
-check_excused : (q r : GrammarRule) (test : Bool) (v : State) → MayBeLeft q → check every q test v ≡ breaks r → Excused (λ kept. check kept q test v) r
+check_excused : (q r : GrammarRule) (test : Bool) (v : State) → MayBeLeft q → check every q test v ≡ breaks r
+    → Excused (λ kept. check kept q test v) r
 check_excused q r true v may h = absurd (goes_does_not_break v r h)
-check_excused q r false v may h = subst (λ r. Excused (λ kept. check kept q false v) r) (same_broken q r h) (record { may = may; next = v; goes_there = left_off q v may })
+check_excused q r false v may h = subst
+    (λ r. Excused (λ kept. check kept q false v) r) (same_broken q r h) (record
+    { may = may; next = v; goes_there = left_off q v may })
 
 excused_by : {f : Kept → Verdict} {r : GrammarRule} → Shape f → f every ≡ breaks r → Excused f r
 excused_by {r = r} (goes_always v e) h = absurd (goes_does_not_break v r (sym (e every) ∙ h))
 excused_by {r = r} (stuck_always e) h = absurd (stuck_does_not_break r (sym (e every) ∙ h))
-excused_by {r = r} (checks q may test v e) h = let x = check_excused q r test v may (sym (e every) ∙ h) in record { may = x.may; next = x.next; goes_there = e (but r) ∙ x.goes_there }
+excused_by {r = r} (checks q may test v e) h = let x = check_excused q r test v may (sym (e every) ∙ h) in record
+    { may = x.may; next = x.next; goes_there = e (but r) ∙ x.goes_there }
 
 -- only without that rule it can come
 check_only : (p q : GrammarRule) (v u : State) → MayBeLeft p → MayBeLeft q → check (but p) q false v ≡ goes u → p ≡ q
@@ -221,14 +249,17 @@ check_only p q v u p9_may p7_may h = absurd (goes_does_not_break u _ (sym h))
 check_only p q v u p9_may p8_may h = absurd (goes_does_not_break u _ (sym h))
 check_only p q v u p9_may p9_may h = refl
 
-check_only_excused : (p q r : GrammarRule) (test : Bool) (v u : State) → MayBeLeft p → MayBeLeft q → check every q test v ≡ breaks r → check (but p) q test v ≡ goes u → p ≡ r
+check_only_excused : (p q r : GrammarRule) (test : Bool) (v u : State) → MayBeLeft p → MayBeLeft q
+    → check every q test v ≡ breaks r → check (but p) q test v ≡ goes u → p ≡ r
 check_only_excused p q r true v u may there h g = absurd (goes_does_not_break v r h)
 check_only_excused p q r false v u may there h g = check_only p q v u may there g ∙ same_broken q r h
 
-only_excused_by : {f : Kept → Verdict} {r : GrammarRule} (p : GrammarRule) (u : State) → MayBeLeft p → Shape f → f every ≡ breaks r → f (but p) ≡ goes u → p ≡ r
+only_excused_by : {f : Kept → Verdict} {r : GrammarRule} (p : GrammarRule) (u : State) → MayBeLeft p → Shape f
+    → f every ≡ breaks r → f (but p) ≡ goes u → p ≡ r
 only_excused_by {r = r} p u may (goes_always v e) h g = absurd (goes_does_not_break v r (sym (e every) ∙ h))
 only_excused_by {r = r} p u may (stuck_always e) h g = absurd (stuck_does_not_break r (sym (e every) ∙ h))
-only_excused_by {r = r} p u may (checks q there test v e) h g = check_only_excused p q r test v u may there (sym (e every) ∙ h) (sym (e (but p)) ∙ g)
+only_excused_by {r = r} p u may (checks q there test v e) h g = check_only_excused p q r test v u may there
+    (sym (e every) ∙ h) (sym (e (but p)) ∙ g)
 
 pub lax : (kept : Kept) (s u : State) (w : Word) → machine_step every s w ≡ goes u → machine_step kept s w ≡ goes u
 lax kept s u (word kind x t) h = lax_by (shape s kind x t) kept u h
@@ -236,8 +267,10 @@ lax kept s u (word kind x t) h = lax_by (shape s kind x t) kept u h
 pub always_stuck : (kept : Kept) (s : State) (w : Word) → machine_step every s w ≡ stuck → machine_step kept s w ≡ stuck
 always_stuck kept s (word kind x t) h = stuck_by (shape s kind x t) kept h
 
-pub excused : (s : State) (w : Word) (r : GrammarRule) → machine_step every s w ≡ breaks r → Excused (λ kept. machine_step kept s w) r
+pub excused : (s : State) (w : Word) (r : GrammarRule) → machine_step every s w ≡ breaks r
+    → Excused (λ kept. machine_step kept s w) r
 excused s (word kind x t) r h = excused_by (shape s kind x t) h
 
-pub only_excused : (s u : State) (w : Word) (p r : GrammarRule) → MayBeLeft p → machine_step every s w ≡ breaks r → machine_step (but p) s w ≡ goes u → p ≡ r
+pub only_excused : (s u : State) (w : Word) (p r : GrammarRule) → MayBeLeft p → machine_step every s w ≡ breaks r
+    → machine_step (but p) s w ≡ goes u → p ≡ r
 only_excused s u (word kind x t) p r may h g = only_excused_by p u may (shape s kind x t) h g

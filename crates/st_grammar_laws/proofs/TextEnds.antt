@@ -1,5 +1,6 @@
 -- Texts that go on with the words that complete a state.
-use Rattle.std.proofs.Common.{◌≡◌, refl, sym, ap, ◌∙◌, subst, ℕ, zero, suc, ◌+◌, ◌≤◌, cond, true, false, true≢false, List, [], ◌∷◌, ◌++◌, length, take, drop, replicate, arith, append_assoc, append-nil}
+use Rattle.std.proofs.Common.{◌≡◌, refl, sym, ap, ◌∙◌, subst, ℕ, zero, suc, ◌+◌, ◌≤◌, cond, true, false, true≢false}
+use Rattle.std.proofs.Common.{List, [], ◌∷◌, ◌++◌, length, take, drop, replicate, arith, append_assoc, append-nil}
 use Rattle.std.specs.List.{prefix_len}
 use Rattle.std.proofs.lemmas.List.{take-take}
 use Rattle.texts.specs.Bytes.{Bytes}
@@ -7,9 +8,14 @@ use Rattle.texts.specs.NameBytes.{is_name_byte}
 use Rattle.st_grammar.specs.Tokens.{identifier, keyword, Piece, Token, token, piece, is_keyword_end, Lexes, end_after}
 use Rattle.st_grammar.specs.Grammar.{Word, word, Kept, Form, words_of}
 use Rattle.st_grammar.specs.Fails.{Continues}
-use Rattle.st_grammar_laws.specs.Machine.{Body, top, in_block, Seat, in_body, in_paren, Wide, alone, keyword_part, Slot, outer, binary_part, Nest, of_head, in_array, State, at_pattern, pattern_operator, pattern_keyword, pattern_more, header, in_temps, begin, ended, want, named, minus, have, after_semicolon, in_params, param_wanted, in_elements, element_minus, element_run, machine_run, start}
+use Rattle.st_grammar_laws.specs.Machine.{Body, top, in_block, Seat, in_body, in_paren, Wide, alone, keyword_part, Slot}
+use Rattle.st_grammar_laws.specs.Machine.{outer, binary_part, Nest, of_head, in_array, State, at_pattern}
+use Rattle.st_grammar_laws.specs.Machine.{pattern_operator, pattern_keyword, pattern_more, header, in_temps, begin}
+use Rattle.st_grammar_laws.specs.Machine.{ended, want, named, minus, have, after_semicolon, in_params, param_wanted}
+use Rattle.st_grammar_laws.specs.Machine.{in_elements, element_minus, element_run, machine_run, start}
 use Rattle.st_grammar_laws.proofs.Sound.{sound}
-use Rattle.st_grammar_laws.proofs.Viable.{longest, close_body, close_seat, close_wide, close_slot, close_nest, end_of, leads}
+use Rattle.st_grammar_laws.proofs.Viable.{longest, close_body, close_seat, close_wide, close_slot, close_nest, end_of}
+use Rattle.st_grammar_laws.proofs.Viable.{leads}
 use Rattle.st_grammar_laws.proofs.Paths.{Path, run_path}
 use Rattle.st_grammar_laws.proofs.TextWords.{end_joined, Continued, OneMore, none_more, one_more}
 
@@ -41,7 +47,9 @@ word_by n text = cond (is_keyword_end (drop n text)) (token keyword (n + 1)) (to
 
 name_piece : (n : ℕ) → piece (letters (suc n)) ≡ token identifier (length (letters (suc n)))
 name_piece n =
-    ap (λ (m : ℕ). word_by m (letters (suc n))) (letters_prefix (suc n)) ∙ ap (λ (l : Bytes). cond (is_keyword_end l) (token keyword (suc n + 1)) (token identifier (suc n))) (nothing_left (suc n))
+    ap (λ (m : ℕ). word_by m (letters (suc n))) (letters_prefix (suc n))
+    ∙ ap (λ (l : Bytes). cond (is_keyword_end l) (token keyword (suc n + 1)) (token identifier (suc n)))
+    (nothing_left (suc n))
     ∙ ap (λ (m : ℕ). token identifier m) (sym (letters_long (suc n)))
 
 -- the words that complete a state, but for the number that touches a `-`
@@ -92,30 +100,39 @@ end_spelled (element_minus n cs m) h = nest_spelled n
 end_spelled (element_run n cs r) h = nest_spelled n
 
 -- one word, and then others
-pub behind_one : (text : Bytes) (seen : List Token) (w : Word) (ws : List Word) (o : OneMore text seen w) → Continued o.other (seen ++ o.next ∷ []) ws → Continued text seen (w ∷ ws)
+pub behind_one : (text : Bytes) (seen : List Token) (w : Word) (ws : List Word) (o : OneMore text seen w)
+    → Continued o.other (seen ++ o.next ∷ []) ws → Continued text seen (w ∷ ws)
 behind_one text seen w ws o c =
     let stop : end_after 0 (seen ++ o.next ∷ []) ≡ o.next.to = end_joined 0 seen o.next in
-    let later : end_after 0 seen ≤ end_after 0 (seen ++ o.next ∷ []) = subst (λ (n : ℕ). end_after 0 seen ≤ n) (sym stop) o.later in
+    let later : end_after 0 seen ≤ end_after 0 (seen ++ o.next ∷ []) = subst
+    (λ (n : ℕ). end_after 0 seen ≤ n) (sym stop) o.later in
     let same : take (end_after 0 seen) c.other ≡ take (end_after 0 seen) o.other =
-    sym (take-take (end_after 0 seen) (end_after 0 (seen ++ o.next ∷ [])) c.other later) ∙ ap (take (end_after 0 seen)) c.alike ∙ take-take (end_after 0 seen) (end_after 0 (seen ++ o.next ∷ [])) o.other later in
+    sym (take-take (end_after 0 seen) (end_after 0 (seen ++ o.next ∷ [])) c.other later)
+    ∙ ap (take (end_after 0 seen)) c.alike
+    ∙ take-take (end_after 0 seen) (end_after 0 (seen ++ o.next ∷ [])) o.other later in
     let tokens : (seen ++ o.next ∷ []) ++ c.more ≡ seen ++ o.next ∷ c.more = append_assoc seen (o.next ∷ []) c.more in
     record {
       other = c.other;
       more = o.next ∷ c.more;
       alike = same ∙ o.alike;
       lexes = subst (λ (ts : List Token). Lexes 0 c.other ts) tokens c.lexes;
-      words = ap (words_of c.other) (sym tokens) ∙ c.words ∙ ap (λ (us : List Word). us ++ ws) o.words ∙ append_assoc (words_of text seen) (w ∷ []) ws;
+      words = ap (words_of c.other) (sym tokens) ∙ c.words ∙ ap (λ (us : List Word). us ++ ws) o.words
+          ∙ append_assoc (words_of text seen) (w ∷ []) ws;
     }
 
-pub words_more : (ws : List Word) → AreSpelled ws → (text : Bytes) (seen left : List Token) → Lexes 0 text (seen ++ left) → Continued text seen ws
+pub words_more : (ws : List Word) → AreSpelled ws → (text : Bytes) (seen left : List Token)
+    → Lexes 0 text (seen ++ left) → Continued text seen ws
 words_more [] h text seen left lexes = none_more text seen left lexes
 words_more (word k x true ∷ ws) h text seen left lexes = absurd (true≢false h.0)
 words_more (word k x false ∷ ws) h text seen left lexes =
     let o : OneMore text seen (word k x false) = one_more text seen left k x lexes h.1 in
-    behind_one text seen (word k x false) ws o (words_more ws h.2 o.other (seen ++ o.next ∷ []) [] (subst (λ (ts : List Token). Lexes 0 o.other ts) (sym (append-nil (seen ++ o.next ∷ []))) o.lexes))
+    behind_one text seen (word k x false) ws o
+    (words_more ws h.2 o.other (seen ++ o.next ∷ []) []
+    (subst (λ (ts : List Token). Lexes 0 o.other ts) (sym (append-nil (seen ++ o.next ∷ []))) o.lexes))
 
 -- A text whose tokens seen lead the machine to a state goes on, where the words of that state do.
-pub continued_reads : (kept : Kept) (form : Form) (text : Bytes) (seen : List Token) (s : State) → Path kept (start form) (words_of text seen) s → Continued text seen (end_of s) → Continues kept form text seen
+pub continued_reads : (kept : Kept) (form : Form) (text : Bytes) (seen : List Token) (s : State)
+    → Path kept (start form) (words_of text seen) s → Continued text seen (end_of s) → Continues kept form text seen
 continued_reads kept form text seen s path c =
     let end = leads kept s in
     record {
@@ -124,9 +141,12 @@ continued_reads kept form text seen s path c =
       program = end.0;
       alike = c.alike;
       lexes = c.lexes;
-      reads = sound kept form (words_of c.other (seen ++ c.more)) end.0 (ap (machine_run kept (start form)) c.words ∙ run_path path (end_of s) ∙ end.1);
+      reads = sound kept form (words_of c.other (seen ++ c.more)) end.0 (ap (machine_run kept (start form)) c.words
+          ∙ run_path path (end_of s) ∙ end.1);
     }
 
-pub continues_apart : (kept : Kept) (form : Form) (text : Bytes) (seen left : List Token) (s : State) → Lexes 0 text (seen ++ left) → Path kept (start form) (words_of text seen) s → StandsApart s
+pub continues_apart : (kept : Kept) (form : Form) (text : Bytes) (seen left : List Token) (s : State)
+    → Lexes 0 text (seen ++ left) → Path kept (start form) (words_of text seen) s → StandsApart s
     → Continues kept form text seen
-continues_apart kept form text seen left s lexes path h = continued_reads kept form text seen s path (words_more (end_of s) (end_spelled s h) text seen left lexes)
+continues_apart kept form text seen left s lexes path h = continued_reads kept form text seen s path
+    (words_more (end_of s) (end_spelled s h) text seen left lexes)

@@ -16,11 +16,13 @@ pub ascend : {at : ℕ} {text : Bytes} {ts : List Token} → Lexes at text ts �
 ascend (at_end e) = omega arith
 ascend (after_gap {at = at} {n = n} {text = text} {ts = ts} e h) =
     let fits : (0 < n) × (n ≤ length text) = subst (Inside (length text)) e (inside text) in
-    let rest : SpansAscend (at + n) (at + length text) ts = subst (λ (stop : ℕ). SpansAscend (at + n) stop ts) (same_stop at n text fits.1) (ascend h) in
+    let rest : SpansAscend (at + n) (at + length text) ts = subst
+    (λ (stop : ℕ). SpansAscend (at + n) stop ts) (same_stop at n text fits.1) (ascend h) in
     from_before at (at + n) (at + length text) ts (omega arith) rest
 ascend (after_token {at = at} {n = n} {k = k} {text = text} {ts = ts} e h) =
     let fits : (0 < n) × (n ≤ length text) = subst (Inside (length text)) e (inside text) in
-    let rest : SpansAscend (at + n) (at + length text) ts = subst (λ (stop : ℕ). SpansAscend (at + n) stop ts) (same_stop at n text fits.1) (ascend h) in
+    let rest : SpansAscend (at + n) (at + length text) ts = subst
+    (λ (stop : ℕ). SpansAscend (at + n) stop ts) (same_stop at n text fits.1) (ascend h) in
     (omega arith, omega (arith, fits.0), rest)
 
 pub within : (text : Bytes) (ts : List Token) → Lexes 0 text ts → SpansAscend 0 (length text) ts

@@ -20,7 +20,7 @@ use Rattle.st_grammar.specs.Tokens.{string_to, string_end, string_bytes, sized, 
 use Rattle.st_grammar.specs.Tokens.{symbol_name, is_operator, is_keyword_end, word, character_at, colon_before, mark}
 use Rattle.st_lexer.specs.Numbers.{IsNumber, front_len, front_value, has_radix}
 use Rattle.st_lexer.proofs.Sizes.{on_cond}
-use Rattle.st_lexer.proofs.Cuts.{token_len}
+use Rattle.st_lexer.proofs.Once.{token_len}
 
 abbrev is_number : Piece → Bool
 is_number (token number n) = true
@@ -69,7 +69,8 @@ mark_other b =
     on_cond IsOther (b == 93) _ _ (λ _. refl) (λ _. refl))))))))
 
 word_other : (text : Bytes) → IsOther (word text)
-word_other text = on_cond IsOther (is_keyword_end (drop (prefix_len is_name_byte text) text)) _ _ (λ _. refl) (λ _. refl)
+word_other text = on_cond IsOther (is_keyword_end (drop (prefix_len is_name_byte text) text)) _ _ (λ _. refl)
+    (λ _. refl)
 
 character_other : (rest : Bytes) → IsOther (character_at rest)
 character_other rest = on_cond IsOther (begins (λ c. nat_le 32 c && nat_le c 126) rest) _ _ (λ _. refl) (λ _. refl)
@@ -78,7 +79,8 @@ colon_other : (rest : Bytes) → IsOther (colon_before rest)
 colon_other rest = on_cond IsOther (begins_with 61 rest) _ _ (λ _. refl) (λ _. refl)
 
 -- only a digit begins a number
-of_class : (c : Class) (b : ℕ) (rest : Bytes) → is_number (piece_in c b rest) ≡ true → piece_in c b rest ≡ number_at (b ∷ rest)
+of_class : (c : Class) (b : ℕ) (rest : Bytes) → is_number (piece_in c b rest) ≡ true
+    → piece_in c b rest ≡ number_at (b ∷ rest)
 of_class blank b rest h = cc
 of_class comment b rest h = absurd (both (comment_to (comment_end rest)) h (comment_other (comment_end rest)))
 of_class name b rest h = absurd (both (word (b ∷ rest)) h (word_other (b ∷ rest)))
@@ -100,7 +102,8 @@ prefix_take p [] zero h = refl
 prefix_take p [] (suc n) h = refl
 prefix_take p (b ∷ bs) zero h = omega arith
 prefix_take p (b ∷ bs) (suc n) h =
-    elim (p b) as (λ v. cond v (1 + prefix_len p bs) 0 ≤ suc n → cond v (1 + prefix_len p (take n bs)) 0 ≡ cond v (1 + prefix_len p bs) 0) [
+    elim (p b) as (λ v. cond v (1 + prefix_len p bs) 0 ≤ suc n
+    → cond v (1 + prefix_len p (take n bs)) 0 ≡ cond v (1 + prefix_len p bs) 0) [
       | true ↦ λ i. ap (λ m. 1 + m) (prefix_take p bs n (omega arith))
       | false ↦ λ i. refl
     ] h
@@ -109,14 +112,16 @@ prefix_take p (b ∷ bs) (suc n) h =
 differ : {v : Bool} → v ≡ true → v ≡ false → ⊥
 differ h i = cc
 
-plain_number : (xs : Bytes) → begins_with 114 (drop (front_len xs) xs) ≡ false → front_value xs < INTEGER_LIMIT → IsNumber xs
+plain_number : (xs : Bytes) → begins_with 114 (drop (front_len xs) xs) ≡ false → front_value xs < INTEGER_LIMIT
+    → IsNumber xs
 plain_number xs none small = record { radix = λ some. absurd (differ some none); small = rw none small }
 
 radix_number : (xs : Bytes) → has_radix xs → 1 ≤ front_value xs → front_value xs ≤ 36
     → value_of (front_value xs) (drop (front_len xs + 1) xs) < INTEGER_LIMIT → IsNumber xs
 radix_number xs some low high small = record { radix = λ _. (low, high); small = rw some small }
 
-before_parts : (m value : ℕ) (after : Bytes) (n : ℕ) → number_before m value after ≡ token number n → (m ≡ n) × (value < INTEGER_LIMIT)
+before_parts : (m value : ℕ) (after : Bytes) (n : ℕ) → number_before m value after ≡ token number n
+    → (m ≡ n) × (value < INTEGER_LIMIT)
 before_parts m value after n =
     let P : Piece → Type 0 = λ q. q ≡ token number n → (m ≡ n) × (value < INTEGER_LIMIT) in
     on_cond P (ends_number after && nat_lt value INTEGER_LIMIT) (token number m) (bad p3)
@@ -136,18 +141,22 @@ without_radix bs n e =
     let within : front_len bs ≤ n = omega (arith, parts.0) in
     let len : length (take n bs) ≤ front_len (take n bs) =
     omega (arith, parts.0, prefix_take is_ascii_digit bs n within, length-take n bs) in
-    plain_number (take n bs) (ap (begins_with 114) (drop_of_length-le (take n bs) len)) (rw (same_front bs n within) parts.1)
+    plain_number (take n bs) (ap (begins_with 114) (drop_of_length-le (take n bs) len))
+    (rw (same_front bs n within) parts.1)
 
 begins_take : (p : ℕ → Bool) (m : ℕ) (xs : Bytes) → begins p xs ≡ true → begins p (take (suc m) xs) ≡ true
 begins_take p m [] h = cc
 begins_take p m (x ∷ xs) h = h
 
 in_parts : (radix m : ℕ) (rest : Bytes) (n : ℕ) → number_in radix m rest ≡ token number n
-    → (m + prefix_len is_radix_digit rest ≡ n) × (value_of radix (take (prefix_len is_radix_digit rest) rest) < INTEGER_LIMIT) × (2 ≤ radix) × (radix ≤ 36)
+    → (m + prefix_len is_radix_digit rest ≡ n)
+    × (value_of radix (take (prefix_len is_radix_digit rest) rest) < INTEGER_LIMIT) × (2 ≤ radix) × (radix ≤ 36)
 in_parts radix m rest n =
     let k : ℕ = prefix_len is_radix_digit rest in
-    let P : Piece → Type 0 = λ q. q ≡ token number n → (m + k ≡ n) × (value_of radix (take k rest) < INTEGER_LIMIT) × (2 ≤ radix) × (radix ≤ 36) in
-    on_cond P (are_digits radix (take k rest)) (number_before (m + k) (value_of radix (take k rest)) (drop k rest)) (bad p3)
+    let P : Piece → Type 0 = λ q. q ≡ token number n
+    → (m + k ≡ n) × (value_of radix (take k rest) < INTEGER_LIMIT) × (2 ≤ radix) × (radix ≤ 36) in
+    on_cond P (are_digits radix (take k rest)) (number_before (m + k) (value_of radix (take k rest)) (drop k rest))
+    (bad p3)
     (λ t e. let A : Bool = not (length (take k rest) == 0) in
     let B : Bool = list_all (λ b. nat_lt (digit_value b) radix) (take k rest) in
     let one = and_parts ((nat_le 2 radix && nat_le radix 36) && A) B t in
@@ -170,13 +179,15 @@ with_radix bs n some e =
     let front : front_len (take n bs) ≡ d = prefix_take is_ascii_digit bs n within in
     let value : front_value (take n bs) ≡ front_value bs = ap (value_of 10) (same_front bs n within) in
     let sum : d + suc k ≡ n = omega (arith, len) in
-    let cut : drop d (take n bs) ≡ take (suc k) (drop d bs) = ap (λ m. drop d (take m bs)) (sym sum) ∙ drop-take d (suc k) bs in
+    let cut : drop d (take n bs) ≡ take (suc k) (drop d bs) = ap (λ m. drop d (take m bs)) (sym sum)
+    ∙ drop-take d (suc k) bs in
     let radix : has_radix (take n bs) =
     ap (λ m. begins_with 114 (drop m (take n bs))) front ∙ ap (begins_with 114) cut
     ∙ begins_take (λ b. b == 114) k (drop d bs) some in
     let digits : drop (front_len (take n bs) + 1) (take n bs) ≡ take k (drop (d + 1) bs) =
     ap (λ m. drop (m + 1) (take n bs)) front ∙ ap (λ m. drop (d + 1) (take m bs)) (sym len) ∙ drop-take (d + 1) k bs in
-    radix_number (take n bs) radix (omega (arith, value, parts.2)) (omega (arith, value, parts.3)) (rw (value, digits) parts.1)
+    radix_number (take n bs) radix (omega (arith, value, parts.2)) (omega (arith, value, parts.3))
+    (rw (value, digits) parts.1)
 
 number_token : (bs : Bytes) (n : ℕ) → number_at bs ≡ token number n → IsNumber (take n bs)
 number_token bs n =

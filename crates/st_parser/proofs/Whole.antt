@@ -8,7 +8,8 @@ use Rattle.st_lexer.proofs.Reading.{gap_within, token_within}
 use Rattle.st_lexer.proofs.NumberTokens.{number_bytes}
 use Rattle.st_parser.specs.Reader.{AreWhole}
 
-whole_from : {at : ℕ} {rest : Bytes} {ts : List Token} → Lexes at rest ts → (text : Bytes) → rest ≡ drop at text
+whole_from : {at : ℕ} {rest : Bytes} {ts : List Token} → Lexes at rest ts → (text : Bytes)
+    → rest ≡ drop at text
     → at ≤ length text → AreWhole text ts
 whole_from (at_end e) text same within = tt
 whole_from (after_gap {at = at} {n = n} {text = rest} e h) text same within =

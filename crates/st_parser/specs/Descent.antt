@@ -1,5 +1,5 @@
--- What the functions of the parser do, told by the machine of the grammar: where the machine stands before and behind what they read.
-use Rattle.std.specs.Prelude.{◌≡◌, ℕ, Bool, true, false, ◌&&◌, ◌||◌, Result, Ok, Err, Some, List, [], ◌∷◌}
+-- What the functions of the parser do, told by the machine of the grammar: where the machine stands before and after what they read.
+use Rattle.std.specs.Prelude.{◌≡◌, ℕ, Bool, true, false, ◌&&◌, ◌||◌, ◌==◌, Result, Ok, Err, Some, List, [], ◌∷◌}
 use Rattle.texts.specs.Bytes.{Bytes}
 use Rattle.st_tree.specs.Trees.{Program, Statement, statement, Statements, no_statements, Expression, expression}
 use Rattle.st_tree.specs.Trees.{Constants, Head, Send, sends, no_sends}
@@ -38,46 +38,35 @@ abbrev pub Reached : {X : Type 0} → State → List Word → (X → State) → 
 Reached s old to new (Ok x) = Runs s old (to x) new
 Reached s old to new (Err e) = StopsAt s old new e
 
+-- the kinds of token, numbered in the order of their definition
+abbrev pub kind_number : Kind → ℕ
+kind_number identifier = 0
+kind_number keyword = 1
+kind_number number = 2
+kind_number character = 3
+kind_number string = 4
+kind_number symbol = 5
+kind_number binary = 6
+kind_number bar = 7
+kind_number assign = 8
+kind_number colon = 9
+kind_number caret = 10
+kind_number semicolon = 11
+kind_number period = 12
+kind_number open_paren = 13
+kind_number close_paren = 14
+kind_number open_bracket = 15
+kind_number close_bracket = 16
+kind_number open_array = 17
+
+-- the kind is this one
+abbrev pub is_kind : Kind → Kind → Bool
+is_kind this k = kind_number k == kind_number this
+
 -- tests of the first word
 abbrev pub starts : (Kind → Bool) → List Word → Bool
 starts p [] = false
 starts p (word k x t ∷ ws) = p k
-
-abbrev pub is_identifier : Kind → Bool
-is_identifier identifier = true
-is_identifier _ = false
-
-abbrev pub is_keyword : Kind → Bool
-is_keyword keyword = true
-is_keyword _ = false
-
-abbrev pub is_bar : Kind → Bool
-is_bar bar = true
-is_bar _ = false
-
-abbrev pub is_colon : Kind → Bool
-is_colon colon = true
-is_colon _ = false
-
-abbrev pub is_caret : Kind → Bool
-is_caret caret = true
-is_caret _ = false
-
-abbrev pub is_semicolon : Kind → Bool
-is_semicolon semicolon = true
-is_semicolon _ = false
-
-abbrev pub is_period : Kind → Bool
-is_period period = true
-is_period _ = false
-
-abbrev pub is_close_paren : Kind → Bool
-is_close_paren close_paren = true
-is_close_paren _ = false
-
-abbrev pub is_close_bracket : Kind → Bool
-is_close_bracket close_bracket = true
-is_close_bracket _ = false
 
 -- an identifier, a binary selector or a keyword
 abbrev pub is_message : Kind → Bool
@@ -86,22 +75,6 @@ is_message binary = true
 is_message bar = true
 is_message keyword = true
 is_message _ = false
-
-abbrev pub is_assign : Kind → Bool
-is_assign assign = true
-is_assign _ = false
-
-abbrev pub is_open_paren : Kind → Bool
-is_open_paren open_paren = true
-is_open_paren _ = false
-
-abbrev pub is_open_bracket : Kind → Bool
-is_open_bracket open_bracket = true
-is_open_bracket _ = false
-
-abbrev pub is_open_array : Kind → Bool
-is_open_array open_array = true
-is_open_array _ = false
 
 -- a binary selector
 abbrev pub is_selector : Kind → Bool
@@ -127,7 +100,7 @@ is_other_head _ = true
 
 -- an identifier and `:=`
 abbrev pub assigns : List Word → Bool
-assigns (word identifier x t ∷ ws) = starts is_assign ws
+assigns (word identifier x t ∷ ws) = starts (is_kind assign) ws
 assigns _ = false
 
 -- an expression
@@ -145,9 +118,9 @@ begins_expression _ = false
 
 -- a statement
 abbrev pub begins_statement : List Word → Bool
-begins_statement ws = starts is_caret ws || begins_expression ws
+begins_statement ws = starts (is_kind caret) ws || begins_expression ws
 
--- the machine behind a statement of this body
+-- the machine after a statement of this body
 abbrev pub behind_statement : Body → Statement → State
 behind_statement b (statement r e) = have (outer (alone (in_body b r))) e no_message
 
@@ -156,7 +129,7 @@ returns_of (statement r e) = r
 
 -- an expression that isn't followed by a cascade, though it has messages
 abbrev pub is_quiet : Expression → List Word → Type 0
-is_quiet e ws = (has_messages e && starts is_semicolon ws) ≡ false
+is_quiet e ws = (has_messages e && starts (is_kind semicolon) ws) ≡ false
 
 abbrev pub is_quiet_statement : Statement → List Word → Type 0
 is_quiet_statement (statement r e) ws = is_quiet e ws

@@ -37,6 +37,6 @@ is_other open_array = false
 is_other close_paren = false
 is_other _ = true
 
--- the machine behind a binary selector among the elements of an array
+-- the machine after a binary selector among the elements of an array
 abbrev pub behind_selector : Nest → Constants → Bytes → State
 behind_selector n cs x = cond (is_minus x) (element_minus n cs x) (in_elements n (one_more cs (sym x)))

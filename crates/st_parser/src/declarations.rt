@@ -6,7 +6,8 @@ ghost use Rattle.st_grammar.specs.Grammar.{may_declare};
 ghost use Rattle.st_grammar_laws.specs.Machine.{Slot, Body, top, in_block, at_pattern};
 ghost use Rattle.st_grammar_laws.specs.Machine.{pattern_operator, pattern_keyword, pattern_more};
 ghost use Rattle.st_grammar_laws.specs.Machine.{header, in_temps, begin, in_params, param_wanted};
-ghost use Rattle.st_parser.specs.Descent.{with_pattern, Reached, starts, is_colon, filled};
+ghost use Rattle.st_grammar.specs.Tokens.{colon};
+ghost use Rattle.st_parser.specs.Descent.{with_pattern, Reached, starts, is_kind, filled};
 ghost use Rattle.st_parser.specs.Descent.{params_of};
 
 use crate::reader::{Lexeme, Reader};
@@ -16,7 +17,7 @@ use st_lexer::TokenKind;
 use std::alloc::Global;
 use texts::Text;
 
-// Reads the name of a parameter, and puts it behind the others.
+// Reads the name of a parameter, and puts it after the others.
 fn parameter(alloc: Global, r: &mut Reader, params: &mut Vec<Text>) -> Result<(), Stop>
     ensures block { (k : Slot) (names : List Bytes)
         → Reached (param_wanted k names params.old.items) r.old
@@ -53,20 +54,20 @@ pub(crate) fn parameters(alloc: Global, r: &mut Reader) -> Result<Vec<Text>, Sto
     ensures met { (k : Slot) (names : List Bytes)
         → Reached (in_params k names []) r.old
         (λ params. in_params k names params.items) r.new result }
-    ensures stops { IfOk result (λ _. starts is_colon r.new ≡ false) }
+    ensures stops { IfOk result (λ _. starts (is_kind colon) r.new ≡ false) }
     ensures shorter { IfOk result (λ _. length r.new ≤ length r.old) }
 {
     let mut params = Vec::new(alloc);
-    'params: while r.is_at_colon() {
+    'params: while r.is_at(TokenKind::Colon) {
         r.skip();
         parameter(alloc, r, &mut params)?;
     }
     Ok(params)
 }
 
-// Goes past the `|` behind parameters, which may be left out before a `]`.
+// Goes past the `|` after parameters, which may be left out before a `]`.
 pub(crate) fn skip_bar(r: &mut Reader, params: &[Text]) -> Result<(), Stop>
-    requires { starts is_colon r.old ≡ false }
+    requires { starts (is_kind colon) r.old ≡ false }
     ensures met { (k : Slot) (names : List Bytes)
         → Reached (in_params k names params.now) r.old
         (λ _. header (in_block k names params.now [] no_statements)) r.new result }
@@ -75,17 +76,17 @@ pub(crate) fn skip_bar(r: &mut Reader, params: &[Text]) -> Result<(), Stop>
     if params.is_empty() {
         return Ok(());
     }
-    if r.is_at_close_bracket() {
+    if r.is_at(TokenKind::CloseBracket) {
         return Ok(());
     }
-    if !r.is_at_bar() {
+    if !r.is_at(TokenKind::Bar) {
         return Err(Stop::Breaks(Broken::MissingBracket));
     }
     r.skip();
     Ok(())
 }
 
-// The name may be declared behind these parameters and temporaries.
+// The name may be declared after these parameters and temporaries.
 fn may_add(params: &[Text], temps: &[Text], name: &[u8]) -> bool
     ensures { result ≡ may_declare (params.now ++ temps.now) name.now }
 {
@@ -114,7 +115,7 @@ fn temporary_names(alloc: Global, r: &mut Reader, params: &[Text]) -> Result<Vec
         temps.push(Text::copy_of(alloc, bytes)?)?;
         r.skip();
     }
-    if !r.is_at_bar() {
+    if !r.is_at(TokenKind::Bar) {
         return Err(Stop::Breaks(Broken::Unexpected));
     }
     r.skip();
@@ -128,7 +129,7 @@ pub(crate) fn temporaries(alloc: Global, r: &mut Reader, params: &[Text]) -> Res
         (λ temps. begin (filled b temps.items no_statements)) r.new result }
     ensures shorter { IfOk result (λ _. length r.new ≤ length r.old) }
 {
-    if !r.is_at_bar() {
+    if !r.is_at(TokenKind::Bar) {
         return Ok(Vec::new(alloc));
     }
     r.skip();

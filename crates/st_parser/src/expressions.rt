@@ -18,11 +18,11 @@ ghost use Rattle.st_parser.specs.declared.stops.Stop.TheVariants.{Memory};
 ghost use Rattle.st_parser.specs.Scopes.{scopes_seen};
 ghost use Rattle.st_parser.specs.Levels.{level_seen};
 ghost use Rattle.st_parser.specs.Lexemes.{HoldsNumber, word_of, others};
+ghost use Rattle.st_grammar.specs.Tokens.{assign, caret, identifier, open_array, open_bracket, open_paren, semicolon};
 ghost use Rattle.st_parser.specs.Descent.{with_head, with_sends, Reached, Suits, starts, assigns};
 ghost use Rattle.st_parser.specs.Descent.{begins_statement, behind_statement, returns_of, is_quiet};
-ghost use Rattle.st_parser.specs.Descent.{is_quiet_statement, holding, is_assign, is_identifier};
-ghost use Rattle.st_parser.specs.Descent.{is_caret, is_semicolon, is_open_paren, is_open_bracket};
-ghost use Rattle.st_parser.specs.Descent.{is_open_array, is_short_message, is_other_head};
+ghost use Rattle.st_parser.specs.Descent.{is_quiet_statement, holding};
+ghost use Rattle.st_parser.specs.Descent.{is_kind, is_short_message, is_other_head};
 
 use crate::declarations::{parameters, skip_bar, temporaries};
 use crate::levels::Level;
@@ -62,7 +62,7 @@ fn unary_messages(alloc: Global, r: &mut Reader) -> Result<Vec<Message>, Stop>
     ensures met { (k : Slot) (names : List Bytes) (h : Head)
         → Reached (have k (bare names h) any_message) r.old
         (λ ms. with_sends k names h ms.items any_message) r.new result }
-    ensures stops { IfOk result (λ _. starts is_identifier r.new ≡ false) }
+    ensures stops { IfOk result (λ _. starts (is_kind identifier) r.new ≡ false) }
     ensures shorter { IfOk result (λ _. length r.new ≤ length r.old) }
 {
     let mut messages = Vec::new(alloc);
@@ -82,7 +82,7 @@ fn unary_messages(alloc: Global, r: &mut Reader) -> Result<Vec<Message>, Stop>
 
 // A variable, which is read, or `super` before a message that may stand here.
 fn variable(alloc: Global, r: &mut Reader, name: &[u8], level: Level) -> Result<Primary, Stop>
-    requires { (is_full (level_seen level) && starts is_assign r.old) ≡ false }
+    requires { (is_full (level_seen level) && starts (is_kind assign) r.old) ≡ false }
     ensures met { (k : Slot) (names : List Bytes) → level_of k ≡ level_seen level
         → Reached (named k names name.now) r.old (with_head k names) r.new result }
     ensures shorter { length r.new ≤ length r.old }
@@ -114,7 +114,7 @@ fn literal_head(alloc: Global, r: &mut Reader, lexeme: &Lexeme) -> Result<Primar
     }
 }
 
-// The number behind a `-`, which has to touch it.
+// The number after a `-`, which has to touch it.
 fn negative_number(r: &mut Reader) -> Result<Primary, Stop>
     ensures met { (k : Slot) (names : List Bytes)
         → Reached (minus k names) r.old (with_head k names) r.new result }
@@ -138,7 +138,7 @@ fn negative_number(r: &mut Reader) -> Result<Primary, Stop>
 // A literal array, at its `#(`.
 fn array_head(alloc: Global, r: &mut Reader, depth: usize) -> Result<Primary, Stop>
     requires small { depth ≤ DEPTH_LIMIT }
-    requires opens { starts is_open_array r.old ≡ true }
+    requires opens { starts (is_kind open_array) r.old ≡ true }
     ensures met { (k : Slot) (names : List Bytes) → depth_of k ≡ depth
         → Reached (want k names) r.old (with_head k names) r.new result }
     ensures shorter { IfOk result (λ _. length r.new < length r.old) }
@@ -212,7 +212,7 @@ fn head(
 #[cycle(expression)]
 fn paren(alloc: Global, r: &mut Reader, scopes: &Scopes, depth: usize) -> Result<Primary, Stop>
     requires small { depth ≤ DEPTH_LIMIT }
-    requires opens { starts is_open_paren r.old ≡ true }
+    requires opens { starts (is_kind open_paren) r.old ≡ true }
     ensures met { (k : Slot) (names : List Bytes) → Suits k (scopes_seen scopes.now) depth
         → Reached (want k names) r.old (with_head k names) r.new result }
     ensures shorter { IfOk result (λ _. length r.new < length r.old) }
@@ -222,7 +222,7 @@ fn paren(alloc: Global, r: &mut Reader, scopes: &Scopes, depth: usize) -> Result
     }
     r.skip();
     let inner = expression(alloc, r, scopes, depth + 1)?;
-    if !r.is_at_close_paren() {
+    if !r.is_at(TokenKind::CloseParen) {
         return Err(Stop::Breaks(Broken::MissingParen));
     }
     r.skip();
@@ -233,7 +233,7 @@ fn paren(alloc: Global, r: &mut Reader, scopes: &Scopes, depth: usize) -> Result
 #[cycle(expression)]
 fn block(alloc: Global, r: &mut Reader, scopes: &Scopes, depth: usize) -> Result<Primary, Stop>
     requires small { depth ≤ DEPTH_LIMIT }
-    requires opens { starts is_open_bracket r.old ≡ true }
+    requires opens { starts (is_kind open_bracket) r.old ≡ true }
     ensures met { (k : Slot) (names : List Bytes) → Suits k (scopes_seen scopes.now) depth
         → Reached (want k names) r.old (with_head k names) r.new result }
     ensures shorter { IfOk result (λ _. length r.new < length r.old) }
@@ -245,7 +245,7 @@ fn block(alloc: Global, r: &mut Reader, scopes: &Scopes, depth: usize) -> Result
     let names = block_names(alloc, r)?;
     let inner = within(&names.params, &names.temps, &*scopes);
     let body = statements(alloc, r, &inner, depth + 1)?;
-    if !r.is_at_close_bracket() {
+    if !r.is_at(TokenKind::CloseBracket) {
         return Err(Stop::Breaks(Broken::MissingBracket));
     }
     r.skip();
@@ -273,9 +273,9 @@ pub(crate) fn statements(
 {
     let mut body = Vec::new(alloc);
     'statements: while r.begins_statement() {
-        let returns = r.is_at_caret();
+        let returns = r.is_at(TokenKind::Caret);
         body.push(statement(alloc, r, scopes, depth)?)?;
-        if !r.is_at_period() {
+        if !r.is_at(TokenKind::Period) {
             return Ok(body);
         }
         r.skip();
@@ -293,11 +293,11 @@ fn statement(alloc: Global, r: &mut Reader, scopes: &Scopes, depth: usize) -> Re
     ensures met { (b : Body) → Suits (outer (alone (in_body b false)))
         (scopes_seen scopes.now) depth
         → Reached (begin b) r.old (λ s. behind_statement b s) r.new result }
-    ensures returns { IfOk result (λ s. returns_of s ≡ starts is_caret r.old) }
+    ensures returns { IfOk result (λ s. returns_of s ≡ starts (is_kind caret) r.old) }
     ensures quiet { IfOk result (λ s. is_quiet_statement s r.new) }
     ensures shorter { IfOk result (λ _. length r.new < length r.old) }
 {
-    if r.is_at_caret() {
+    if r.is_at(TokenKind::Caret) {
         r.skip();
         return Ok(Stat {
             returns: true,
@@ -363,7 +363,7 @@ fn messages(
     Ok(messages)
 }
 
-// The messages behind semicolons, of which there is none where there are no messages before.
+// The messages after semicolons, of which there is none where there are no messages before.
 #[cycle(expression)]
 fn cascade(
     alloc: Global,
@@ -386,7 +386,7 @@ fn cascade(
     if messages.is_empty() {
         return Ok(cascade);
     }
-    'cascade: while r.is_at_semicolon() {
+    'cascade: while r.is_at(TokenKind::Semicolon) {
         r.skip();
         cascade.push(message(alloc, r, scopes, depth)?)?;
     }
@@ -450,7 +450,7 @@ fn argument(alloc: Global, r: &mut Reader, scopes: &Scopes, depth: usize) -> Res
     })
 }
 
-// The binary messages, put behind the unary ones.
+// The binary messages, put after the unary ones.
 #[cycle(expression)]
 fn binary_messages(
     alloc: Global,
@@ -460,7 +460,7 @@ fn binary_messages(
     messages: &mut Vec<Message>,
 ) -> Result<(), Stop>
     requires small { depth ≤ DEPTH_LIMIT }
-    requires unary { starts is_identifier r.old ≡ false }
+    requires unary { starts (is_kind identifier) r.old ≡ false }
     ensures met { (w : Wide) (names : List Bytes) (h : Head)
         → Suits (outer w) (scopes_seen scopes.now) depth
         → Reached (with_sends (outer w) names h messages.old.items no_unary) r.old
@@ -489,7 +489,7 @@ fn binary_message(
         → Suits (outer w) (scopes_seen scopes.now) depth
         → Reached (want (binary_part w role f selector.now) []) r.old
         (λ m. have (outer w) (added role f m) (behind_role role)) r.new result }
-    ensures stops { IfOk result (λ _. starts is_identifier r.new ≡ false) }
+    ensures stops { IfOk result (λ _. starts (is_kind identifier) r.new ≡ false) }
     ensures shorter { IfOk result (λ _. length r.new < length r.old) }
 {
     let head = head(alloc, r, scopes, depth, Level::OfBinary)?;

@@ -6,7 +6,8 @@ ghost use Rattle.st_tree.specs.Views.{constant_of};
 ghost use Rattle.st_grammar.specs.Grammar.{named_constant, starts_with_joined_number};
 ghost use Rattle.st_grammar_laws.specs.Machine.{Nest, Slot, in_elements, element_run, minus, have};
 ghost use Rattle.st_grammar_laws.specs.Machine.{one_more, close_array, depth_nest, bare};
-ghost use Rattle.st_parser.specs.Descent.{with_literal, Reached, starts, is_close_paren};
+ghost use Rattle.st_grammar.specs.Tokens.{close_paren};
+ghost use Rattle.st_parser.specs.Descent.{with_literal, Reached, starts, is_kind};
 ghost use Rattle.st_parser.specs.Literals.{atom_of, constants_in, opens_array, is_other};
 ghost use Rattle.st_parser.specs.Literals.{behind_selector};
 ghost use Rattle.st_parser.specs.Lexemes.{HoldsNumber, word_of, others};
@@ -84,7 +85,7 @@ fn keyword_run(alloc: Global, r: &mut Reader, first: &[u8]) -> Result<Literal, S
     Ok(Literal::Sym(Text::of(symbol)))
 }
 
-// A binary selector as a symbol, or the number behind a `-` that it touches. The selector is read.
+// A binary selector as a symbol, or the number after a `-` that it touches. The selector is read.
 fn selector(alloc: Global, r: &mut Reader, selector: &[u8]) -> Result<Literal, Stop>
     ensures met { (n : Nest) (cs : Constants)
         → Reached (behind_selector n cs selector.now) r.old (with_literal n cs) r.new result }
@@ -117,14 +118,14 @@ pub(crate) fn elements(alloc: Global, r: &mut Reader, depth: usize) -> Result<Li
     ensures shorter { IfOk result (λ _. length r.new < length r.old) }
 {
     let mut items = Vec::new(alloc);
-    'elements: while !r.is_at_close_paren() {
+    'elements: while !r.is_at(TokenKind::CloseParen) {
         items.push(element(alloc, r, depth)?)?;
     }
     r.skip();
     Ok(Literals { items })
 }
 
-// An array in parentheses or behind `#(`, as an element.
+// An array in parentheses or after `#(`, as an element.
 #[cycle(array)]
 fn nested(alloc: Global, r: &mut Reader, depth: usize) -> Result<Literal, Stop>
     requires small { depth ≤ DEPTH_LIMIT }
@@ -160,7 +161,7 @@ fn atom_element(alloc: Global, r: &mut Reader, lexeme: &Lexeme) -> Result<Litera
 #[cycle(array)]
 fn element(alloc: Global, r: &mut Reader, depth: usize) -> Result<Literal, Stop>
     requires small { depth ≤ DEPTH_LIMIT }
-    requires goes_on { starts is_close_paren r.old ≡ false }
+    requires goes_on { starts (is_kind close_paren) r.old ≡ false }
     ensures met { (n : Nest) (cs : Constants) → depth_nest n ≡ depth
         → Reached (in_elements n cs) r.old (with_literal n cs) r.new result }
     ensures shorter { IfOk result (λ _. length r.new < length r.old) }

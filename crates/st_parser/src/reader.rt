@@ -1,12 +1,11 @@
 //! A reader over the tokens of a text.
 ghost use Rattle.std.specs.Prelude.{◌≡◌, length};
 ghost use Rattle.st_grammar.specs.Grammar.{words_of};
-ghost use Rattle.st_parser.specs.Descent.{starts, is_bar, is_colon, is_caret, is_semicolon};
-ghost use Rattle.st_parser.specs.Descent.{is_period, is_close_paren, is_close_bracket};
+ghost use Rattle.st_parser.specs.Descent.{starts, is_kind};
 ghost use Rattle.st_parser.specs.Descent.{begins_expression, begins_statement};
 ghost use Rattle.st_parser.specs.Levels.{level_seen, Assigned, Selects};
 ghost use Rattle.st_grammar_laws.specs.Machine.{super_takes};
-ghost use Rattle.st_lexer.specs.Views.{tokens_seen};
+ghost use Rattle.st_lexer.specs.Views.{kind_seen, tokens_seen};
 ghost use Rattle.st_parser.specs.Reader.{AreWhole};
 ghost use Rattle.st_parser.specs.Lexemes.{Shows, NumberIn, others};
 
@@ -86,95 +85,14 @@ impl<'a> Reader<'a> {
         self.tokens.len()
     }
 
-    // The next token is `|`.
-    pub(crate) fn is_at_bar(&self) -> bool
-        ensures { result ≡ starts is_bar self.now }
+    // The next token is of this kind.
+    pub(crate) fn is_at(&self, kind: TokenKind) -> bool
+        ensures { result ≡ starts (is_kind (kind_seen kind)) self.now }
     {
-        matches!(
-            self.peek(),
-            Some(Lexeme {
-                kind: TokenKind::Bar,
-                ..
-            })
-        )
-    }
-
-    // The next token is `:`.
-    pub(crate) fn is_at_colon(&self) -> bool
-        ensures { result ≡ starts is_colon self.now }
-    {
-        matches!(
-            self.peek(),
-            Some(Lexeme {
-                kind: TokenKind::Colon,
-                ..
-            })
-        )
-    }
-
-    // The next token is `^`.
-    pub(crate) fn is_at_caret(&self) -> bool
-        ensures { result ≡ starts is_caret self.now }
-    {
-        matches!(
-            self.peek(),
-            Some(Lexeme {
-                kind: TokenKind::Caret,
-                ..
-            })
-        )
-    }
-
-    // The next token is `;`.
-    pub(crate) fn is_at_semicolon(&self) -> bool
-        ensures { result ≡ starts is_semicolon self.now }
-    {
-        matches!(
-            self.peek(),
-            Some(Lexeme {
-                kind: TokenKind::Semicolon,
-                ..
-            })
-        )
-    }
-
-    // The next token is `.`.
-    pub(crate) fn is_at_period(&self) -> bool
-        ensures { result ≡ starts is_period self.now }
-    {
-        matches!(
-            self.peek(),
-            Some(Lexeme {
-                kind: TokenKind::Period,
-                ..
-            })
-        )
-    }
-
-    // The next token is `)`.
-    pub(crate) fn is_at_close_paren(&self) -> bool
-        ensures { result ≡ starts is_close_paren self.now }
-    {
-        matches!(
-            self.peek(),
-            Some(Lexeme {
-                kind: TokenKind::CloseParen,
-                ..
-            })
-        )
-    }
-
-    // The next token is `]`.
-    pub(crate) fn is_at_close_bracket(&self) -> bool
-        ensures { result ≡ starts is_close_bracket self.now }
-    {
-        matches!(
-            self.peek(),
-            Some(Lexeme {
-                kind: TokenKind::CloseBracket,
-                ..
-            })
-        )
+        match self.peek() {
+            Some(lexeme) => lexeme.kind == kind,
+            None => false,
+        }
     }
 
     // The name at the next token, if a `:=` follows it.
@@ -244,6 +162,6 @@ impl<'a> Reader<'a> {
     pub(crate) fn begins_statement(&self) -> bool
         ensures { result ≡ begins_statement self.now }
     {
-        self.is_at_caret() || self.begins_expression()
+        self.is_at(TokenKind::Caret) || self.begins_expression()
     }
 }

@@ -82,7 +82,7 @@ pub(crate) fn may_assign(scopes: &Scopes, name: &[u8]) -> bool
     !(is_pseudo_variable(name) || is_parameter(scopes, name))
 }
 
-// The name may be declared behind these.
+// The name may be declared after these.
 pub(crate) fn may_declare(before: &[Text], name: &[u8]) -> bool
     ensures { result ≡ may_declare before.now name.now }
 {

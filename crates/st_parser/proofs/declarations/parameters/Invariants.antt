@@ -6,7 +6,8 @@ use Rattle.st_parser.proofs.declarations.parameters.Given as goal
 
 abbrev pub invariant-params : goal.invariant-params
 invariant-params l = record {
-  runs : (k : Slot) (names : List Bytes) → Runs (in_params k names []) l.fn.r (in_params k names l.params.items) l.r;
+  runs : (k : Slot) (names : List Bytes)
+      → Runs (in_params k names []) l.fn.r (in_params k names l.params.items) l.r;
   shorter : length l.r ≤ length l.fn.r;
 }
 

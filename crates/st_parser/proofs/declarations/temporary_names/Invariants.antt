@@ -6,7 +6,9 @@ use Rattle.st_parser.proofs.declarations.temporary_names.Given as goal
 
 abbrev pub invariant-temps : goal.invariant-temps
 invariant-temps l = record {
-  runs : (b : Body) → params_of b ≡ l.params → Runs (in_temps (filled b [] no_statements)) l.fn.r (in_temps (filled b l.temps.items no_statements)) l.r;
+  runs : (b : Body) → params_of b ≡ l.params
+      → Runs (in_temps (filled b [] no_statements)) l.fn.r
+      (in_temps (filled b l.temps.items no_statements)) l.r;
   shorter : length l.r ≤ length l.fn.r;
 }
 

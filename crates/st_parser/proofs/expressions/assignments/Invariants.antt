@@ -6,7 +6,8 @@ use Rattle.st_parser.proofs.expressions.assignments.Given as goal
 
 abbrev pub invariant-names : goal.invariant-names
 invariant-names l = record {
-  runs : (o : Seat) → scopes_seat o ≡ scopes_seen l.scopes → Runs (want (outer (alone o)) []) l.fn.r (want (outer (alone o)) l.names.items) l.r;
+  runs : (o : Seat) → scopes_seat o ≡ scopes_seen l.scopes
+      → Runs (want (outer (alone o)) []) l.fn.r (want (outer (alone o)) l.names.items) l.r;
   shorter : length l.r ≤ length l.fn.r;
 }
 

@@ -8,7 +8,9 @@ use Rattle.st_parser.proofs.expressions.unary_messages.Given as goal
 
 abbrev pub invariant-unary : goal.invariant-unary
 invariant-unary l = record {
-  runs : (k : Slot) (names : List Bytes) (h : Head) → Runs (have k (bare names h) any_message) l.fn.r (have k (expression names h (sends l.messages.items) no_sends) any_message) l.r;
+  runs : (k : Slot) (names : List Bytes) (h : Head)
+      → Runs (have k (bare names h) any_message) l.fn.r
+      (have k (expression names h (sends l.messages.items) no_sends) any_message) l.r;
   shorter : length l.r ≤ length l.fn.r;
 }
 

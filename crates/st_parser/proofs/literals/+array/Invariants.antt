@@ -17,7 +17,9 @@ decreases-nested l = 4 * length l.r.now + 1
 
 abbrev pub invariant-elements-elements : goal.invariant-elements-elements
 invariant-elements-elements l = record {
-  runs : (n : Nest) → depth_nest n ≡ l.depth → Runs (in_elements n no_constants) l.fn.r (in_elements n (constants (map constant_of l.items.items))) l.r;
+  runs : (n : Nest) → depth_nest n ≡ l.depth
+      → Runs (in_elements n no_constants) l.fn.r
+      (in_elements n (constants (map constant_of l.items.items))) l.r;
   shorter : length l.r ≤ length l.fn.r;
 }
 

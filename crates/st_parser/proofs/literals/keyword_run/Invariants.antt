@@ -6,7 +6,8 @@ use Rattle.st_parser.proofs.literals.keyword_run.Given as goal
 
 abbrev pub invariant-joined : goal.invariant-joined
 invariant-joined l = record {
-  runs : (n : Nest) (cs : Constants) → Runs (element_run n cs l.first) l.fn.r (element_run n cs l.symbol.items) l.r;
+  runs : (n : Nest) (cs : Constants)
+      → Runs (element_run n cs l.first) l.fn.r (element_run n cs l.symbol.items) l.r;
   shorter : length l.r ≤ length l.fn.r;
 }
 
