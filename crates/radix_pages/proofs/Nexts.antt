@@ -1,13 +1,14 @@
 -- How far a search for the next key has come in a node.
-use Rattle.std.proofs.Common.{◌≡◌, ℕ, ◌+◌, ◌-◌, ◌*◌, ◌/◌, ◌%◌, ◌^◌, ◌<◌, ◌≤◌, List, length, get_or, None, Some, sym, ap, ◌∙◌, inl, inr, arith}
+use Rattle.std.proofs.Common.{◌≡◌, ℕ, ◌+◌, ◌-◌, ◌*◌, ◌/◌, ◌%◌, ◌^◌, ◌<◌, ◌≤◌, List, length, get_or, None, Some, sym, ap, subst, ◌∙◌, inl, inr, arith}
 use Rattle.std.proofs.lemmas.Bool.{cases_lt}
 use Rattle.std.proofs.lemmas.List.{get_or_default, get_or_past}
 use Rattle.std.proofs.lemmas.Nat.{pow_pos, shr_split, mod_below, div-add-mod', same_from_place, le-div, mul-add-lt, pow-add}
+use Rattle.std.specs.List.{All}
 use Rattle.radix_pages.specs.declared.node.Slot.{Slot}
 use Rattle.radix_pages.specs.declared.node.Slot.TheVariants.{Empty, Value, Branch}
 use Rattle.radix_pages.specs.Next.{IsNext, IsNextAt, NoneBetween}
 use Rattle.radix_pages.specs.Node.{slot_at, slots_at, map_of, SlotFits, SlotTakes}
-use Rattle.radix_pages.proofs.Slots.{rest_below}
+use Rattle.radix_pages.proofs.Slots.{rest_below, fits_at}
 use Rattle.radix_pages.proofs.Tables.{get-table_below, get-table_above}
 
 -- how high the node in a slot is, and one more; the measure of the search in a slot
@@ -75,6 +76,12 @@ module _ {X : Type 0} (bits height : ℕ) (slots : List (Slot X)) where
   pub read_slot : (at : ℕ) (slot : Slot X) → at < length slots → slot ≡ get_or slots at slot
       → slot ≡ get_or slots at Empty
   read_slot at slot within is = is ∙ get_or_default slots at slot Empty within
+
+  pub read_fits : (at : ℕ) (slot : Slot X) → at < length slots → slot ≡ get_or slots at slot
+      → All (SlotFits bits height) slots → SlotFits bits height slot
+  read_fits at slot within is fits =
+      subst (λ (s : Slot X). SlotFits bits height s) (sym (read_slot at slot within is))
+      (fits_at bits height slots at fits)
 
   pub in_node : (at rest : ℕ) → at < 2 ^ bits → rest < 2 ^ (bits * height)
       → at * 2 ^ (bits * height) + rest < 2 ^ (bits * (height + 1))

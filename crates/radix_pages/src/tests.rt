@@ -78,6 +78,9 @@ fn finds_each(map: &Map) -> bool {
     map.next_from(from).is_none()
 }
 
+/// Takes what threads may share.
+fn goes_to_threads<T: Send + Sync>(_shared: &T) {}
+
 fn set_greatest<R: Abort, L: Ledger>(rt: &R, alloc: Global, blank: Blank) -> Result<(), Fail>
     requires name { blank.name ≡ L.name }
     requires parts { blank.parts ≡ L.parts }
@@ -86,6 +89,7 @@ fn set_greatest<R: Abort, L: Ledger>(rt: &R, alloc: Global, blank: Blank) -> Res
     let mut steps = Steps::<L>::start(blank);
     let old = filled(alloc, MANY, &mut steps)?;
     let new = with_greatest(alloc, &old, &mut steps)?;
+    goes_to_threads(&old);
     assert!(rt; has_first(&old, MANY));
     assert_eq!(rt; old.get(GREATEST).copied(), None);
     assert_eq!(rt; new.get(GREATEST).copied(), Some(7));
