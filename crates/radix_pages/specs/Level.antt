@@ -15,7 +15,8 @@ pub record Level (X : Type 0) : Type 0 where
 abbrev pub level_code : {X : Type 0} → Coded X → Coded (Level X)
 level_code {X} x =
     code_by (ℕ × (ℕ × FinMap nat_cmp X)) (coded× coded_ℕ (coded× coded_ℕ (fin.code coded_ℕ x)))
-    (λ l. (l.bits, (l.height, l.map))) (λ p. record { bits = p.0; height = p.1.0; map = p.1.1 }) (λ _. refl)
+    (λ l. (l.bits, (l.height, l.map)))
+    (λ p. record { bits = p.0; height = p.1.0; map = p.1.1 }) (λ _. refl)
 
 abbrev pub level : {X : Type 0} → ℕ → ℕ → FinMap nat_cmp X → Level X
 level bits height map = record { bits = bits; height = height; map = map }

@@ -4,14 +4,16 @@ use Rattle.std.specs.Borrow.{Bor}
 use Rattle.std.specs.Ordering.{nat_cmp}
 use Rattle.std.specs.FinMap.{FinMap, get}
 
--- nothing stands from one number up to another
+-- f has nothing from one number up to the one before another
 abbrev pub NoneBetween : {X : Type 0} → (ℕ → Option X) → ℕ → ℕ → Type 0
 NoneBetween f from to = (key : ℕ) → from ≤ key → key < to → f key ≡ None
 
--- the lowest key from a number on at which f has something, with what it has there; none exactly where f has nothing there
+-- the lowest key from a number on at which f has something, with what it has there, and none
+-- exactly where f has nothing from that number on
 abbrev pub IsNextAt : {X : Type 0} → (ℕ → Option X) → ℕ → Option (ℕ × X) → Type 0
 IsNextAt f from None = (key : ℕ) → from ≤ key → f key ≡ None
-IsNextAt f from (Some entry) = (from ≤ entry.0) × ((f entry.0 ≡ Some entry.1) × NoneBetween f from entry.0)
+IsNextAt f from (Some entry) =
+    (from ≤ entry.0) × ((f entry.0 ≡ Some entry.1) × NoneBetween f from entry.0)
 
 -- the same in a map
 abbrev pub IsNext : {X : Type 0} → FinMap nat_cmp X → ℕ → Option (ℕ × X) → Type 0

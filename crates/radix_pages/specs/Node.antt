@@ -14,15 +14,18 @@ slot_at Empty rest = None
 slot_at (Value v) rest = Some v.value
 slot_at (Branch node) rest = get node.value.map rest
 
--- what the slots of a node have at a key: its upper digit names the slot, and the rest of it a key there
+-- what the slots of a node have at a key: its upper digit names the slot, and its rest is a key of
+-- what stands there
 abbrev pub slots_at : {X : Type 0} → ℕ → ℕ → List (Slot X) → ℕ → Option X
-slots_at bits height slots key = slot_at (get_or slots (key / 2 ^ (bits * height)) Empty) (key % 2 ^ (bits * height))
+slots_at bits height slots key =
+    slot_at (get_or slots (key / 2 ^ (bits * height)) Empty) (key % 2 ^ (bits * height))
 
 -- the map of a node with these slots
 abbrev pub map_of : {X : Type 0} → ℕ → ℕ → List (Slot X) → FinMap nat_cmp X
 map_of bits height slots = table (2 ^ (bits * (height + 1))) (slots_at bits height slots)
 
--- a slot of a node of this height: values stand at the height 0, and nodes of the height below this one above
+-- what may stand in a slot of a node of this height: values at the height 0, and above it nodes
+-- that are one lower
 abbrev pub SlotFits : {X : Type 0} → ℕ → ℕ → Slot X → Type 0
 SlotFits bits height Empty = Unit {0}
 SlotFits bits height (Value v) = height ≡ 0
@@ -46,7 +49,8 @@ SlotTakes Empty key = Unit {0}
 SlotTakes (Value v) key = key ≡ 0
 SlotTakes (Branch node) key = key < 2 ^ (node.value.bits * (node.value.height + 1))
 
--- the others have the same in each slot, and are at most as long as these or as the length that was asked for
+-- the others have the same in each slot, and are no shorter than these; they are longer at most up
+-- to the length that was asked for
 pub record SameSlots {X : Type 0} (asked : ℕ) (slots others : List (Slot X)) : Type 0 where
   pub each : (at : ℕ) → get_or others at Empty ≡ get_or slots at Empty
   pub longer : length slots ≤ length others

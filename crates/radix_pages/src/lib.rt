@@ -3,11 +3,14 @@
 #![tactic(auto)]
 
 mod digits;
+pub mod laws;
 mod next;
 mod node;
 mod pages;
 mod set;
 mod steps;
+#[cfg(test)]
+mod tests;
 
 pub use pages::Pages;
 pub use steps::Steps;

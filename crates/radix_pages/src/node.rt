@@ -1,5 +1,5 @@
 //! A node of the tree, to contracts a map of its own, and the look-up of a key in it.
-ghost use Rattle.std.specs.Prelude.{◌≡◌, ◌+◌, ◌*◌, ◌^◌, ◌<◌, ◌≤◌, IfOk, option_copied};
+ghost use Rattle.std.specs.Prelude.{◌≡◌, ◌+◌, ◌*◌, ◌^◌, ◌<◌, ◌≤◌, IfOk, OnOk, OnErr, option_copied};
 ghost use Rattle.std.specs.FinMap as map;
 ghost use Rattle.radix_pages.specs.Level.{level};
 
@@ -112,7 +112,8 @@ impl<T: Drop> Node<T> {
     /// The same node once more, which shares what stands in its slots.
     pub(crate) fn copy<L: Ledger>(&self, steps: &mut Steps<L>) -> Result<Node<T>, AllocError>
         ensures node { IfOk result (λ node. node ≡ self.now) }
-        ensures nodes { steps.new ≤ steps.old + 1 }
+        ensures nodes { OnOk result (steps.new ≡ steps.old + 1) }
+        ensures err { OnErr result (steps.new ≡ steps.old) }
     {
         let slots = self.slots.clone()?;
         steps.tick();

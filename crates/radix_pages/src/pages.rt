@@ -13,11 +13,14 @@ use std::marker::Model;
 use std::sync::Arc;
 use std::sync::ledger::Ledger;
 
-/// A map from keys below 2^(BITS * LEVELS), as a tree of nodes with 2^BITS slots each, LEVELS nodes
-/// deep. Contracts see the finite map.
+/// A map from keys below 2^(BITS * LEVELS), as a tree of nodes with up to 2^BITS slots each, LEVELS
+/// nodes deep. Contracts see the finite map.
 ///
-/// Maps share their nodes: `share` copies nothing, and what is set in one map leaves every other
-/// as it was. A map with all else shared with its source costs at most LEVELS new nodes a key.
+/// Maps share their nodes: `share` copies nothing, and what is set in one map leaves every other as
+/// it was. To set a key builds at most LEVELS new nodes, and all else is shared.
+///
+/// The contract doesn't say what a call costs otherwise: `get` and `set` go down LEVELS nodes, and
+/// the copy of a node takes up to 2^BITS slots.
 #[derive(Drop)]
 pub struct Pages<T, const BITS: usize, const LEVELS: usize> {
     root: Slot<T>,

@@ -86,6 +86,7 @@ pub(crate) fn set_below<T: Drop, L: Ledger>(
             }
             match Arc::get_mut(below) {
                 Some(node) => set_node(alloc, node, key, value, steps),
+                // It doesn't come, since the node has no other owner; but no clause says so.
                 None => Err(AllocError),
             }
         }

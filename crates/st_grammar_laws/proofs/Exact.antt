@@ -177,27 +177,47 @@ blamed_by : Stands → (form : Form) (text : Bytes) (seen left : List Token) (u 
     → (b : Option Bracket) (v w : Verdict) → bracket u ≡ b
     → machine_step every u (word close_bracket (93 ∷ []) false) ≡ v
     → machine_step every u (word close_paren (41 ∷ []) false) ≡ w → Breaks (blame_of b v w) form text seen left
-blamed_by stands form text seen left u lexes p forbidden (Some square) (goes s) w is v1 w1 =
-    (forbidden, (sym (path_bracket form text seen p)
-    ∙ is, stands close_bracket (93 ∷ []) square_closes form text seen left u s lexes p v1))
-blamed_by stands form text seen left u lexes p forbidden (Some square) (breaks r) w is v1 w1 =
-    (forbidden, λ m. (let on = stands_goes square_closes m.1 p in goes_not_breaks on.0 r (sym v1 ∙ on.1)),
-    λ m. square_is_not_round (sym (sym (path_bracket form text seen p) ∙ is) ∙ m.0))
-blamed_by stands form text seen left u lexes p forbidden (Some square) stuck w is v1 w1 =
-    (forbidden, λ m. (let on = stands_goes square_closes m.1 p in goes_not_stuck on.0 (sym v1 ∙ on.1)),
-    λ m. square_is_not_round (sym (sym (path_bracket form text seen p) ∙ is) ∙ m.0))
-blamed_by stands form text seen left u lexes p forbidden (Some round) v (goes s) is v1 w1 =
-    (forbidden, (sym (path_bracket form text seen p)
-    ∙ is, stands close_paren (41 ∷ []) round_closes form text seen left u s lexes p w1))
-blamed_by stands form text seen left u lexes p forbidden (Some round) v (breaks r) is v1 w1 =
-    (forbidden, λ m. square_is_not_round (sym m.0 ∙ (sym (path_bracket form text seen p) ∙ is)),
-    λ m. (let on = stands_goes round_closes m.1 p in goes_not_breaks on.0 r (sym w1 ∙ on.1)))
-blamed_by stands form text seen left u lexes p forbidden (Some round) v stuck is v1 w1 =
-    (forbidden, λ m. square_is_not_round (sym m.0 ∙ (sym (path_bracket form text seen p) ∙ is)),
-    λ m. (let on = stands_goes round_closes m.1 p in goes_not_stuck on.0 (sym w1 ∙ on.1)))
-blamed_by stands form text seen left u lexes p forbidden None v w is v1 w1 =
-    (forbidden, λ m. none_open square (sym (sym (path_bracket form text seen p) ∙ is) ∙ m.0),
-    λ m. none_open round (sym (sym (path_bracket form text seen p) ∙ is) ∙ m.0))
+blamed_by stands form text seen left u lexes p forbidden (Some square) (goes s) w is v1 w1 = (
+  forbidden,
+  (
+    sym (path_bracket form text seen p)
+        ∙ is,
+    stands close_bracket (93 ∷ []) square_closes form text seen left u s lexes p v1,
+  ),
+)
+blamed_by stands form text seen left u lexes p forbidden (Some square) (breaks r) w is v1 w1 = (
+  forbidden,
+  λ m. (let on = stands_goes square_closes m.1 p in goes_not_breaks on.0 r (sym v1 ∙ on.1)),
+  λ m. square_is_not_round (sym (sym (path_bracket form text seen p) ∙ is) ∙ m.0),
+)
+blamed_by stands form text seen left u lexes p forbidden (Some square) stuck w is v1 w1 = (
+  forbidden,
+  λ m. (let on = stands_goes square_closes m.1 p in goes_not_stuck on.0 (sym v1 ∙ on.1)),
+  λ m. square_is_not_round (sym (sym (path_bracket form text seen p) ∙ is) ∙ m.0),
+)
+blamed_by stands form text seen left u lexes p forbidden (Some round) v (goes s) is v1 w1 = (
+  forbidden,
+  (
+    sym (path_bracket form text seen p)
+        ∙ is,
+    stands close_paren (41 ∷ []) round_closes form text seen left u s lexes p w1,
+  ),
+)
+blamed_by stands form text seen left u lexes p forbidden (Some round) v (breaks r) is v1 w1 = (
+  forbidden,
+  λ m. square_is_not_round (sym m.0 ∙ (sym (path_bracket form text seen p) ∙ is)),
+  λ m. (let on = stands_goes round_closes m.1 p in goes_not_breaks on.0 r (sym w1 ∙ on.1)),
+)
+blamed_by stands form text seen left u lexes p forbidden (Some round) v stuck is v1 w1 = (
+  forbidden,
+  λ m. square_is_not_round (sym m.0 ∙ (sym (path_bracket form text seen p) ∙ is)),
+  λ m. (let on = stands_goes round_closes m.1 p in goes_not_stuck on.0 (sym w1 ∙ on.1)),
+)
+blamed_by stands form text seen left u lexes p forbidden None v w is v1 w1 = (
+  forbidden,
+  λ m. none_open square (sym (sym (path_bracket form text seen p) ∙ is) ∙ m.0),
+  λ m. none_open round (sym (sym (path_bracket form text seen p) ∙ is) ∙ m.0),
+)
 
 blamed : Stands → (form : Form) (text : Bytes) (seen left : List Token) (u : State) (r : GrammarRule)
     → Lexes 0 text (seen ++ left) → Path every (start form) (words_of text seen) u → IsForbidden form text seen left

@@ -63,21 +63,21 @@ pub tree_reads : Supplies → Stands → (form : Form) (text : Bytes) (program :
     → Reads form text program
 tree_reads supplies stands form text program is = elim (some_answer_there supplies stands form text) as
     (λ v. Reads form text program) [
-  | inl found ↦ subst (Reads form text)
-      (same_program (tree_of form text) program found.0 is (reads_tree form text found.0 found.1)) found.1
-  | inr bad ↦ absurd (not_both_here (tree_of form text) program (record { place = bad.0; rule = bad.1 }) is
-      (fails_tree supplies stands form text bad.0 bad.1 bad.2))
-]
+      | inl found ↦ subst (Reads form text)
+          (same_program (tree_of form text) program found.0 is (reads_tree form text found.0 found.1)) found.1
+      | inr bad ↦ absurd (not_both_here (tree_of form text) program (record { place = bad.0; rule = bad.1 }) is
+          (fails_tree supplies stands form text bad.0 bad.1 bad.2))
+    ]
 
 pub fault_fails : Supplies → Stands → (form : Form) (text : Bytes) (fault : TextFault) → tree_of form text ≡ Err fault
     → Fails form text fault.place fault.rule
 fault_fails supplies stands form text fault is = elim (some_answer_there supplies stands form text) as
     (λ v. Fails form text fault.place fault.rule) [
-  | inl found ↦ absurd (not_both_here (tree_of form text) found.0 fault (reads_tree form text found.0 found.1) is)
-  | inr bad ↦ subst (λ (f : TextFault). Fails form text f.place f.rule)
-      (same_text_fault (tree_of form text) fault (record { place = bad.0; rule = bad.1 }) is
-      (fails_tree supplies stands form text bad.0 bad.1 bad.2)) bad.2
-]
+      | inl found ↦ absurd (not_both_here (tree_of form text) found.0 fault (reads_tree form text found.0 found.1) is)
+      | inr bad ↦ subst (λ (f : TextFault). Fails form text f.place f.rule)
+          (same_text_fault (tree_of form text) fault (record { place = bad.0; rule = bad.1 }) is
+          (fails_tree supplies stands form text bad.0 bad.1 bad.2)) bad.2
+    ]
 
 -- where the machine can't go on, the text fails
 pub stop_fails : Supplies → Stands → (form : Form) (text : Bytes) (seen left : List Token) (r : GrammarRule)

@@ -145,8 +145,12 @@ halts_so supplies stands form text seen left r lexes f =
     let h = halted_by supplies form text seen left on.0 lexes on.1 f.halts
     (outcome every text on.0 (end_after 0 seen) left) in
     let is : r ≡ h.0 = rule_is supplies stands form text seen left on.0 r h.0 lexes f.breaks on.1 h.1 in
-    record { state = on.0; path = on.1; halted = subst
-    (λ q. Halted every on.0 (words_after (end_after 0 seen) text left) q) (sym is) h.1 }
+    record {
+      state = on.0;
+      path = on.1;
+      halted = subst
+          (λ q. Halted every on.0 (words_after (end_after 0 seen) text left) q) (sym is) h.1;
+    }
 
 pub run_so : {form : Form} {text : Bytes} {seen left : List Token} {r : GrammarRule} → HaltsSo form text seen left r
     → machine_run every (start form) (words_of text (seen ++ left))

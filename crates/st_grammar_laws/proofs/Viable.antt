@@ -173,9 +173,9 @@ letter_sent : (k : Slot) (y : Bytes) (e : Expression)
     ≡ goes (have k (added as_message e (unary (97 ∷ []))) any_message)
 letter_sent k y e = ap (λ (b : Bool). cond b stuck (have_step k e any_message identifier (97 ∷ [])))
     (and_false (is_super y)) where
-  and_false : (b : Bool) → (b && false) ≡ false
-  and_false true = refl
-  and_false false = refl
+      and_false : (b : Bool) → (b && false) ≡ false
+      and_false true = refl
+      and_false false = refl
 
 named_leads : (kept : Kept) (k : Slot) (names : List Bytes) (y : Bytes)
     → Leads kept (named k names y) (letter ∷ close_slot k)

@@ -43,7 +43,7 @@ no_keyword here (b ∷ bs) some e =
     let P : Bool → Type 0 = λ v. is_name_byte b ≡ v → keywords here (b ∷ bs) ≡ 0 in
     elim (is_name_byte b) as P [
       | true ↦ λ h. keyword_by here b bs true some h
-      ∙ no_keyword (here + 1) bs (omega arith) (subst (λ (l : Bytes). is_keyword_end l ≡ false) (behind_cons b bs h) e)
+          ∙ no_keyword (here + 1) bs (omega arith) (subst (λ (l : Bytes). is_keyword_end l ≡ false) (behind_cons b bs h) e)
       | false ↦ λ h. keyword_by here b bs false some h
           ∙ ap (λ t. cond (nat_lt 0 here && t) (here + 1 + keywords 0 bs) 0)
           (subst (λ (l : Bytes). is_keyword_end l ≡ false) (behind_none b bs h) e)
@@ -57,8 +57,8 @@ some_keyword here (b ∷ bs) some e =
     let P : Bool → Type 0 = λ v. is_name_byte b ≡ v → here < keywords here (b ∷ bs) in
     elim (is_name_byte b) as P [
       | true ↦ λ h. let more = some_keyword (here + 1) bs (omega arith)
-      (subst (λ (l : Bytes). is_keyword_end l ≡ true) (behind_cons b bs h) e) in omega
-      (arith, more, keyword_by here b bs true some h)
+          (subst (λ (l : Bytes). is_keyword_end l ≡ true) (behind_cons b bs h) e) in omega
+          (arith, more, keyword_by here b bs true some h)
       | false ↦ λ h.
           let last : keywords here (b ∷ bs) ≡ here + 1 + keywords 0 bs = keyword_by here b bs false some h
           ∙ ap (λ t. cond (nat_lt 0 here && t) (here + 1 + keywords 0 bs) 0)

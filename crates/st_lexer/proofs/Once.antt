@@ -83,8 +83,14 @@ by_piece at text more end e fits = inl ([], at_end e)
 by_piece at text more (gap n) e fits = elim
     (more n fits.0 fits.1) [ inl a ↦ inl (a.0, after_gap e a.1) | inr a ↦ inr (a.0, a.1, past_gap e a.2) ]
 by_piece at text more (token k n) e fits = elim
-    (more n fits.0 fits.1) [ inl a ↦ inl (record
-    { kind = k; from = at; to = at + n } ∷ a.0, after_token e a.1) | inr a ↦ inr (a.0, a.1, past_token e a.2) ]
+    (more n fits.0 fits.1) [
+      | inl a ↦ inl (
+        record
+            { kind = k; from = at; to = at + n } ∷ a.0,
+        after_token e a.1,
+      )
+      | inr a ↦ inr (a.0, a.1, past_token e a.2)
+    ]
 by_piece at text more (bad r) e fits = inr (at, r, here e)
 
 answer : (fuel at : ℕ) (text : Bytes) → length text ≤ fuel → Answer at text

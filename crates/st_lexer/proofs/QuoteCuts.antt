@@ -34,7 +34,7 @@ comment_cut (c ∷ f) back other m e fits =
     → cond v (Some 1) (later 1 (comment_end (f ++ other))) ≡ Some m) [
       | true ↦ λ h. h
       | false ↦ λ h. let k = later_one (comment_end (f ++ back)) m h in ap (later 1)
-      (comment_cut f back other k.0 k.1.0 (omega (arith, k.1.1))) ∙ ap Some k.1.1
+          (comment_cut f back other k.0 k.1.0 (omega (arith, k.1.1))) ∙ ap Some k.1.1
     ] e
 
 -- a string that ends in the front of a text ends there whatever follows a space after that front

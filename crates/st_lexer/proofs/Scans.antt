@@ -25,8 +25,12 @@ pub record InString (text : Bytes) (i size : ℕ) (quoted : Bool) : Type 0 where
   pub small : size ≤ i
 
 pub string_starts : (text : Bytes) → InString text 0 0 false
-string_starts text = record { ends = later_zero (string_end false text); bytes = sym
-    (zero-add (length (string_bytes false text))); small = omega arith }
+string_starts text = record {
+  ends = later_zero (string_end false text);
+  bytes = sym
+      (zero-add (length (string_bytes false text)));
+  small = omega arith;
+}
 
 -- what one byte does to each of the two
 ends_plain : (text : Bytes) (i : ℕ) → i < length text
@@ -138,7 +142,7 @@ keywords_name text done here h e s =
     ≡ keywords (here + 1) (drop (done + here + 1) text) = keywords_step text (done + here) here h ∙ rw e refl in
     record {
       len = s.len ∙ ap (λ n. done + n) step
-      ∙ ap (λ k. done + keywords (here + 1) (drop k text)) (add_assoc done here 1);
+          ∙ ap (λ k. done + keywords (here + 1) (drop k text)) (add_assoc done here 1);
       within = omega arith;
     }
 

@@ -63,7 +63,7 @@ first_none c bs h e =
     let P : Bool → Type 0 = λ v. is_keyword_end (behind_name (c ∷ bs)) ≡ v → v ≡ false in
     elim (is_keyword_end (behind_name (c ∷ bs))) as P [
       | true ↦ λ t. let some : 1 < keywords 1 bs = some_keyword 1 bs (omega arith)
-      (subst (λ (l : Bytes). is_keyword_end l ≡ true) (behind_first c bs h) t) in absurd (omega (arith, some, none))
+          (subst (λ (l : Bytes). is_keyword_end l ≡ true) (behind_first c bs h) t) in absurd (omega (arith, some, none))
       | false ↦ λ _. refl
     ] refl
 
@@ -150,10 +150,10 @@ keywords_cut here (c ∷ f) back more (suc m) e some fits same =
     (cond (nat_lt 0 here && is_keyword_end (c ∷ f ++ 32 ∷ more)) (here + 1 + keywords 0 (f ++ 32 ∷ more)) 0)
     ≡ here + suc m) [
       | true ↦ λ h. let rest : keywords (here + 1) (f ++ 32 ∷ more)
-      ≡ here + 1 + m = keywords_cut (here + 1) f back more m (omega (arith, h)) (omega arith)
-      (omega arith) same in omega (arith, rest)
+          ≡ here + 1 + m = keywords_cut (here + 1) f back more m (omega (arith, h)) (omega arith)
+          (omega arith) same in omega (arith, rest)
       | false ↦ λ h. colon_stays here c f back more m (nat_lt 0 here && is_keyword_end (c ∷ f ++ back)) refl h
-      (λ l. keywords_rest f back more m
+          (λ l. keywords_rest f back more m
           (λ p. let deep : keywords 0 (f ++ 32 ∷ more)
           ≡ 0 + m = keywords_cut 0 f back more m (omega (arith, l)) (omega arith) (omega arith) same in omega
           (arith, deep)) l same)
@@ -267,7 +267,7 @@ unnamed_cut c g back more k m fits =
     ≡ token k (suc m) → cond v (token symbol (binary_len (g ++ 32 ∷ more) + 1)) (marked c (g ++ 32 ∷ more))
     ≡ token k (suc m)) [
       | true ↦ λ h. let len : binary_len (g ++ back) + 1
-      ≡ suc m = token_len symbol k (binary_len (g ++ back) + 1) (suc m) h in
+          ≡ suc m = token_len symbol k (binary_len (g ++ back) + 1) (suc m) h in
           let same : binary_len (g ++ 32 ∷ more)
           ≡ binary_len (g ++ back) = binary_cut g back more (omega (arith, len)) in
           ap (λ n. token symbol (n + 1)) same ∙ h

@@ -97,8 +97,12 @@ pub fault_stops : (form : Form) (text : Bytes) (tokens : List Token) (new : List
 fault_stops form text tokens new b lexes e =
     let w = halted (outcome every text (start form) 0 (tokens_seen tokens)) new (rule_of b) e in
     let count : length tokens - length new
-    ≡ length w.0 = omega (arith, sym (tokens_len tokens) ∙ ap length w.2 ∙ length-append w.0 w.1, ap length w.3
-    ∙ words_len (end_after 0 w.0) text w.1) in
+    ≡ length w.0 = omega (
+      arith,
+      sym (tokens_len tokens) ∙ ap length w.2 ∙ length-append w.0 w.1,
+      ap length w.3
+          ∙ words_len (end_after 0 w.0) text w.1,
+    ) in
     let rest : tokens_seen (drop (length tokens - length new) tokens)
     ≡ w.1 = dropped (length tokens - length new) tokens ∙ ap (drop (length tokens - length new)) w.2
     ∙ ap (λ n. drop n (w.0 ++ w.1)) count ∙ drop_seen w.0 w.1 in
@@ -116,8 +120,12 @@ pub left_within : (form : Form) (text : Bytes) (tokens : List Token) (new : List
     (record { left = new; rule = rule_of b }) → length new ≤ length tokens
 left_within form text tokens new b e =
     let w = halted (outcome every text (start form) 0 (tokens_seen tokens)) new (rule_of b) e in
-    omega (arith, sym (tokens_len tokens) ∙ ap length w.2 ∙ length-append w.0 w.1, ap length w.3
-    ∙ words_len (end_after 0 w.0) text w.1)
+    omega (
+      arith,
+      sym (tokens_len tokens) ∙ ap length w.2 ∙ length-append w.0 w.1,
+      ap length w.3
+          ∙ words_len (end_after 0 w.0) text w.1,
+    )
 
 -- a fault of the tokens is one of the text
 pub lexed_fault : (form : Form) (text : Bytes) (e : LexFault) → IsTokenFault text e

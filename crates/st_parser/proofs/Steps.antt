@@ -54,9 +54,9 @@ selector_element n cs x t ws us e = rw e
     (elim (is_minus x) as (λ v. go p6 (word binary x t ∷ us)
     (λ s. machine_run every s us) (cond v (goes (element_minus n cs x)) (goes (in_elements n (one_more cs (sym_of x)))))
     ≡ machine_run every (cond v (element_minus n cs x) (in_elements n (one_more cs (sym_of x)))) us) [
-  | true ↦ refl
-  | false ↦ refl
-])
+      | true ↦ refl
+      | false ↦ refl
+    ])
 
 pub other_element : (k : Kind) → (k ≡ identifier → ⊥) → (k ≡ keyword → ⊥) → (k ≡ binary → ⊥)
     → (k ≡ bar → ⊥) → (k ≡ open_paren → ⊥) → (k ≡ open_array → ⊥) → (k ≡ close_paren → ⊥)

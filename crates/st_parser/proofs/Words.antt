@@ -33,7 +33,11 @@ assigned_words stop text ts n a rest ws e k j v =
     ∷ (word (kind_seen a.kind) (text_of text (token_seen a)) (a.start == n.end)
     ∷ words_after a.end text (tokens_seen rest))) k
     ∙ ap (λ q. word identifier (text_of text (token_seen n)) (n.start == stop)
-    ∷ (word q (text_of text (token_seen a)) (a.start == n.end) ∷ words_after a.end text (tokens_seen rest))) j in
-    (n.start == stop, text_of text (token_seen a), a.start == n.end, kinds
-    ∙ ap (λ l. word identifier (text_of text (token_seen n)) (n.start == stop)
-    ∷ (word assign (text_of text (token_seen a)) (a.start == n.end) ∷ l)) behind)
+    ∷ (word q (text_of text (token_seen a)) (a.start == n.end) ∷ words_after a.end text (tokens_seen rest))) j in (
+      n.start == stop,
+      text_of text (token_seen a),
+      a.start == n.end,
+      kinds
+          ∙ ap (λ l. word identifier (text_of text (token_seen n)) (n.start == stop)
+          ∷ (word assign (text_of text (token_seen a)) (a.start == n.end) ∷ l)) behind,
+    )

@@ -1,4 +1,4 @@
-use Rattle.std.proofs.Common.{◌≡◌, ℕ, ◌+◌, ◌-◌, ◌*◌, ◌%◌, ◌^◌, ap, ◌∙◌}
+use Rattle.std.proofs.Common.{ℕ, ◌-◌, ap, ◌∙◌}
 use Rattle.std.proofs.lemmas.Nat.{one_shl, and_mask}
 use Rattle.std.specs.Int.Bits.{bit_and}
 use Rattle.radix_pages.proofs.digits.rest_of.Goals as goal

@@ -1,11 +1,9 @@
-use Rattle.std.proofs.Common.{◌≡◌, ℕ, ◌+◌, ◌*◌, ◌^◌, ◌<◌, ◌≤◌, length, Some, None, rules, refl, sym, ap, subst, ◌∙◌, arith}
+use Rattle.std.proofs.Common.{◌≡◌, ℕ, ◌+◌, ◌*◌, ◌^◌, ◌<◌, Some, None, rules, refl, sym, ap, subst, arith}
 use Rattle.std.proofs.Math.Nat.{pow-le-pow_right}
-use Rattle.radix_pages.specs.declared.node.Slot.{Slot}
 use Rattle.radix_pages.specs.Level.{Level}
 use Rattle.radix_pages.specs.Next.{IsNext}
 use Rattle.radix_pages.specs.Node.{SlotFits}
-use Rattle.radix_pages.proofs.Nexts.{height_in, height_fits, takes_rest, rest_taken, reached_first, reached_more, read_slot, in_node, found_here, none_left}
-use Rattle.radix_pages.proofs.Slots.{fits_at}
+use Rattle.radix_pages.proofs.Nexts.{height_in, height_fits, takes_rest, rest_taken, reached_first, reached_more, read_slot, read_fits, in_node, found_here, none_left}
 use Rattle.radix_pages.proofs.next.+next.Goals as goal
 
 pub next_in-loop-at-init : goal.next_in-loop-at-init
@@ -18,9 +16,8 @@ next_in-next_below-requires g t c κs within =
     let inner = c.node.inside in
     let slot = c.index.result.now in
     let fits : SlotFits inner.bits inner.height slot =
-    subst (λ (s : Slot g.row.T.Denot). SlotFits inner.bits inner.height s)
-    (sym (read_slot inner.bits inner.height inner.slots.items c.loop-at.at slot (omega arith) c.index.ensures))
-    (fits_at inner.bits inner.height inner.slots.items c.loop-at.at c.node.invariant.slots_fit) in
+    read_fits inner.bits inner.height inner.slots.items c.loop-at.at slot (omega arith)
+    c.index.ensures c.node.invariant.slots_fit in
     let measured : 2 * c.args.node.now.height + 1 ≡ t = c.decreases in
     let tied : inner.height ≡ c.args.node.now.height = ap (λ (l : Level g.row.T.Denot). l.height) c.node.view_is in
     let less : 2 * height_in slot < t = omega (arith, height_fits inner.bits inner.height slot fits) in
@@ -31,9 +28,8 @@ next_in-key_of-requires-clause-in_range g t c =
     let inner = c.node.inside in
     let slot = c.index.result.now in
     let fits : SlotFits inner.bits inner.height slot =
-    subst (λ (s : Slot g.row.T.Denot). SlotFits inner.bits inner.height s)
-    (sym (read_slot inner.bits inner.height inner.slots.items c.loop-at.at slot (omega arith) c.index.ensures))
-    (fits_at inner.bits inner.height inner.slots.items c.loop-at.at c.node.invariant.slots_fit) in
+    read_fits inner.bits inner.height inner.slots.items c.loop-at.at slot (omega arith)
+    c.index.ensures c.node.invariant.slots_fit in
     let short = rest_taken inner.bits inner.height slot c.in-Some.rest c.in-Some.value.now fits c.in-Some.ensures.in_range c.in-Some.ensures.next.1.0 in
     let upper : c.loop-at.at < 2 ^ inner.bits = omega arith in
     omega (
@@ -48,8 +44,8 @@ next_in-returns-in-Some-clause-next g t c =
     let slot = c.index.result.now in
     let is = read_slot inner.bits inner.height inner.slots.items c.loop-at.at slot (omega arith) c.index.ensures in
     let fits : SlotFits inner.bits inner.height slot =
-    subst (λ (s : Slot g.row.T.Denot). SlotFits inner.bits inner.height s) (sym is)
-    (fits_at inner.bits inner.height inner.slots.items c.loop-at.at c.node.invariant.slots_fit) in
+    read_fits inner.bits inner.height inner.slots.items c.loop-at.at slot (omega arith)
+    c.index.ensures c.node.invariant.slots_fit in
     let short = rest_taken inner.bits inner.height slot c.in-Some.rest c.in-Some.value.now fits c.in-Some.ensures.in_range c.in-Some.ensures.next.1.0 in
     let upper : c.loop-at.at < 2 ^ inner.bits = omega arith in
     subst (λ (n : ℕ). IsNext c.args.node.now.map c.args.key (Some (n, c.in-Some.value.now))) (sym c.key_of.ensures)
@@ -62,9 +58,8 @@ next_in-returns-in-Some-clause-in_range g t c =
     let inner = c.node.inside in
     let slot = c.index.result.now in
     let fits : SlotFits inner.bits inner.height slot =
-    subst (λ (s : Slot g.row.T.Denot). SlotFits inner.bits inner.height s)
-    (sym (read_slot inner.bits inner.height inner.slots.items c.loop-at.at slot (omega arith) c.index.ensures))
-    (fits_at inner.bits inner.height inner.slots.items c.loop-at.at c.node.invariant.slots_fit) in
+    read_fits inner.bits inner.height inner.slots.items c.loop-at.at slot (omega arith)
+    c.index.ensures c.node.invariant.slots_fit in
     let short = rest_taken inner.bits inner.height slot c.in-Some.rest c.in-Some.value.now fits c.in-Some.ensures.in_range c.in-Some.ensures.next.1.0 in
     let upper : c.loop-at.at < 2 ^ inner.bits = omega arith in
     subst (λ (l : Level g.row.T.Denot). c.key_of.result < 2 ^ (l.bits * (l.height + 1))) c.node.view_is

@@ -50,9 +50,12 @@ loop-at-preserved c =
     (sym c.in-Word.ensures))
 
 pub returns-in-Wrong-clause-fault : goal.returns-in-Wrong-clause-fault
-returns-in-Wrong-clause-fault c =
-    (rule_seen c.in-Wrong.rule, c.number.ensures, c.loop-at.invariant.stops c.loop-at.at (rule_seen c.in-Wrong.rule)
-    (here (sym c.in-Wrong.ensures)))
+returns-in-Wrong-clause-fault c = (
+  rule_seen c.in-Wrong.rule,
+  c.number.ensures,
+  c.loop-at.invariant.stops c.loop-at.at (rule_seen c.in-Wrong.rule)
+      (here (sym c.in-Wrong.ensures)),
+)
 
 pub returns-clause-tokens : goal.returns-clause-tokens
 returns-clause-tokens c = read_all c.args.text.now c.loop-at.at c.loop-at.tokens.items (omega arith) c.loop-at.invariant

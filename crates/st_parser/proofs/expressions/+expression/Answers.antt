@@ -127,9 +127,11 @@ block-returns-in_err-body-clause-met t c =
     let ts : c.in_ok-names.names.temps.items ≡ c.deref-2.result.now = search rules in
     let suits : Suits (outer (alone
     (in_body (in_block k names c.deref.result.now c.deref-2.result.now no_statements) false)))
-    (scopes_seen c.within-inner.result) (c.args.depth + 1) =
-    (ap (λ ss. scope c.deref.result.now c.deref-2.result.now ∷ ss) su.0
-    ∙ sym c.within-inner.ensures, omega (arith, d)) in
+    (scopes_seen c.within-inner.result) (c.args.depth + 1) = (
+      ap (λ ss. scope c.deref.result.now c.deref-2.result.now ∷ ss) su.0
+          ∙ sym c.within-inner.ensures,
+      omega (arith, d),
+    ) in
     let before : Runs (want k names) c.args.r.now
     (begin (in_block k names c.deref.result.now c.deref-2.result.now no_statements)) c.block_names.new.r =
     block_opens k names c.args.r.now c.skip.new.self c.requires.opens small c.skip.ensures
@@ -153,9 +155,11 @@ block-returns-then-not-is_at-clause-met t c =
     let ts : c.in_ok-names.names.temps.items ≡ c.deref-2.result.now = search rules in
     let suits : Suits (outer (alone
     (in_body (in_block k names c.deref.result.now c.deref-2.result.now no_statements) false)))
-    (scopes_seen c.within-inner.result) (c.args.depth + 1) =
-    (ap (λ ss. scope c.deref.result.now c.deref-2.result.now ∷ ss) su.0
-    ∙ sym c.within-inner.ensures, omega (arith, d)) in
+    (scopes_seen c.within-inner.result) (c.args.depth + 1) = (
+      ap (λ ss. scope c.deref.result.now c.deref-2.result.now ∷ ss) su.0
+          ∙ sym c.within-inner.ensures,
+      omega (arith, d),
+    ) in
     let before : Runs (want k names) c.args.r.now
     (begin (in_block k names c.deref.result.now c.deref-2.result.now no_statements)) c.block_names.new.r =
     block_opens k names c.args.r.now c.skip.new.self c.requires.opens small c.skip.ensures
@@ -178,9 +182,11 @@ block-returns-clause-met t c =
     let ts : c.in_ok-names.names.temps.items ≡ c.deref-2.result.now = search rules in
     let suits : Suits (outer (alone
     (in_body (in_block k names c.deref.result.now c.deref-2.result.now no_statements) false)))
-    (scopes_seen c.within-inner.result) (c.args.depth + 1) =
-    (ap (λ ss. scope c.deref.result.now c.deref-2.result.now ∷ ss) su.0
-    ∙ sym c.within-inner.ensures, omega (arith, d)) in
+    (scopes_seen c.within-inner.result) (c.args.depth + 1) = (
+      ap (λ ss. scope c.deref.result.now c.deref-2.result.now ∷ ss) su.0
+          ∙ sym c.within-inner.ensures,
+      omega (arith, d),
+    ) in
     let before : Runs (want k names) c.args.r.now
     (begin (in_block k names c.deref.result.now c.deref-2.result.now no_statements)) c.block_names.new.r =
     block_opens k names c.args.r.now c.skip.new.self c.requires.opens small c.skip.ensures

@@ -22,10 +22,12 @@ returns-in_err-body c =
     let temps : c.in_ok-temps.temps.items ≡ c.deref-3.result.now = search rules in
     let suits : Suits (outer (alone
     (in_body (top c.args.selector c.args.params.items c.in_ok-temps.temps.items no_statements) false)))
-    (scopes_seen c.within-scopes.result) 0 =
-    (ap (λ xs. scope xs c.in_ok-temps.temps.items ∷ []) params ∙ ap (λ xs. scope c.deref-2.result.now xs ∷ []) temps
-    ∙ ap (λ ss. scope c.deref-2.result.now c.deref-3.result.now ∷ ss) (sym c.nothing_around-outside.ensures)
-    ∙ sym c.within-scopes.ensures, refl) in
+    (scopes_seen c.within-scopes.result) 0 = (
+      ap (λ xs. scope xs c.in_ok-temps.temps.items ∷ []) params ∙ ap (λ xs. scope c.deref-2.result.now xs ∷ []) temps
+          ∙ ap (λ ss. scope c.deref-2.result.now c.deref-3.result.now ∷ ss) (sym c.nothing_around-outside.ensures)
+          ∙ sym c.within-scopes.ensures,
+      refl,
+    ) in
     finishes_on (header (top c.args.selector c.args.params.items [] no_statements))
     (begin (top c.args.selector c.args.params.items c.in_ok-temps.temps.items no_statements)) c.args.r.now
     c.temporaries.new.r c.statements.new.r c.in_err-body.field-0.0 c.from_residual-in_err-body.result
@@ -40,10 +42,12 @@ returns-then-left-gt0 c =
     let temps : c.in_ok-temps.temps.items ≡ c.deref-3.result.now = search rules in
     let suits : Suits (outer (alone
     (in_body (top c.args.selector c.args.params.items c.in_ok-temps.temps.items no_statements) false)))
-    (scopes_seen c.within-scopes.result) 0 =
-    (ap (λ xs. scope xs c.in_ok-temps.temps.items ∷ []) params ∙ ap (λ xs. scope c.deref-2.result.now xs ∷ []) temps
-    ∙ ap (λ ss. scope c.deref-2.result.now c.deref-3.result.now ∷ ss) (sym c.nothing_around-outside.ensures)
-    ∙ sym c.within-scopes.ensures, refl) in
+    (scopes_seen c.within-scopes.result) 0 = (
+      ap (λ xs. scope xs c.in_ok-temps.temps.items ∷ []) params ∙ ap (λ xs. scope c.deref-2.result.now xs ∷ []) temps
+          ∙ ap (λ ss. scope c.deref-2.result.now c.deref-3.result.now ∷ ss) (sym c.nothing_around-outside.ensures)
+          ∙ sym c.within-scopes.ensures,
+      refl,
+    ) in
     let some : 0 < length c.statements.new.r = search rules in
     c.in_ok-temps.ensures.met (top c.args.selector c.args.params.items [] no_statements) lent
     ∙ c.in_ok-body.ensures.met (top c.args.selector c.args.params.items c.in_ok-temps.temps.items no_statements) suits
@@ -57,10 +61,12 @@ returns c =
     let temps : c.in_ok-temps.temps.items ≡ c.deref-3.result.now = search rules in
     let suits : Suits (outer (alone
     (in_body (top c.args.selector c.args.params.items c.in_ok-temps.temps.items no_statements) false)))
-    (scopes_seen c.within-scopes.result) 0 =
-    (ap (λ xs. scope xs c.in_ok-temps.temps.items ∷ []) params ∙ ap (λ xs. scope c.deref-2.result.now xs ∷ []) temps
-    ∙ ap (λ ss. scope c.deref-2.result.now c.deref-3.result.now ∷ ss) (sym c.nothing_around-outside.ensures)
-    ∙ sym c.within-scopes.ensures, refl) in
+    (scopes_seen c.within-scopes.result) 0 = (
+      ap (λ xs. scope xs c.in_ok-temps.temps.items ∷ []) params ∙ ap (λ xs. scope c.deref-2.result.now xs ∷ []) temps
+          ∙ ap (λ ss. scope c.deref-2.result.now c.deref-3.result.now ∷ ss) (sym c.nothing_around-outside.ensures)
+          ∙ sym c.within-scopes.ensures,
+      refl,
+    ) in
     let none : length c.statements.new.r ≤ 0 = search rules in
     c.in_ok-temps.ensures.met (top c.args.selector c.args.params.items [] no_statements) lent
     ∙ c.in_ok-body.ensures.met (top c.args.selector c.args.params.items c.in_ok-temps.temps.items no_statements) suits

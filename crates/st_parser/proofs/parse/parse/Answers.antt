@@ -33,6 +33,11 @@ fault-requires-clause-within c =
     let again : c.deref-in-Err-Breaks.result.now ≡ c.in_ok-tokens.tokens.items = search rules in
     let stopped : Finished (start (form_of c.args.form)) c.new-r.result c.tree.new.r
     (Err (Breaks c.in-Err-Breaks.broken)) = search rules in
-    omega (arith, left_within (form_of c.args.form) c.args.text.now c.in_ok-tokens.tokens.items c.tree.new.r
-    c.in-Err-Breaks.broken (ap (machine_run every (start (form_of c.args.form))) (sym same)
-    ∙ stopped), c.left.ensures, ap length again)
+    omega (
+      arith,
+      left_within (form_of c.args.form) c.args.text.now c.in_ok-tokens.tokens.items c.tree.new.r
+          c.in-Err-Breaks.broken (ap (machine_run every (start (form_of c.args.form))) (sym same)
+          ∙ stopped),
+      c.left.ensures,
+      ap length again,
+    )

@@ -1,4 +1,4 @@
-use Rattle.std.proofs.Common.{◌≡◌, ℕ, ◌≤◌, ◌<◌, Some, ap, ap₂, ◌∙◌, arith}
+use Rattle.std.proofs.Common.{ℕ, Some, ap, ap₂, ◌∙◌, arith}
 use Rattle.std.specs.FinMap.{get}
 use Rattle.radix_pages.specs.Level.{Level}
 use Rattle.radix_pages.proofs.Slots.{found_view, none_view}

@@ -1,4 +1,4 @@
-use Rattle.std.proofs.Common.{ℕ, ◌+◌, ◌≤◌, cond, ap, subst, ◌∙◌, arith}
+use Rattle.std.proofs.Common.{ℕ, ◌+◌, cond, ap, subst, arith}
 use Rattle.radix_pages.specs.Node.{SlotFits}
 use Rattle.radix_pages.proofs.Root.{count_small, root_set, stands, one_lower}
 use Rattle.radix_pages.proofs.pages.Pages.insert.Goals as goal
