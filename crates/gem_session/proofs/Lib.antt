@@ -8,3 +8,4 @@ mod Serving
 mod Refusals
 mod Logins
 mod Limits
+mod Overtaken
