@@ -30,7 +30,8 @@ not_two n one two = absurd (omega (arith, one, two))
 pub second_came : (s t : Told) → GoesOn 2 (alone s) (alone t) → OthersCame 1 s.events t.events
 second_came s t on =
     let more = on.extends in
-    let unmoved : events_of 1 t.events ≡ events_of 1 s.events = (on.alone refl).1 1 (not_two 1 refl) in
+    let unmoved : events_of 1 t.events ≡ events_of 1 s.events =
+    (on.alone refl).1 1 (not_two 1 refl) in
     let parts : events_of 1 (s.events ++ more.0) ≡ events_of 1 s.events ++ events_of 1 more.0 =
     filter-append (λ event. event.0 == 1) s.events more.0 in
     let none = nothing_more (events_of 1 s.events) (events_of 1 more.0)
@@ -39,7 +40,8 @@ second_came s t on =
 
 -- a call of the Stone, after others
 pub goes_on_shared : (session : ℕ) (s t u : Told) → t.opened ≡ s.opened
-    → OthersCame 1 s.events t.events → GoesOn session (alone t) (alone u) → GoesOn session (shared s) (shared u)
+    → OthersCame 1 s.events t.events → GoesOn session (alone t) (alone u)
+    → GoesOn session (shared s) (shared u)
 goes_on_shared session s t u opened came on = record {
   opened = on.opened ∙ opened;
   extends = extends_twice s.events t.events u.events (came.0, came.2) on.extends;
@@ -57,8 +59,8 @@ recorded_shared s t r one opened came recorded =
     ap₂ (λ (o : Opened) (es : List Event). record { opened = o; events = es }) opened came.2 in
     subst (λ (x : Told). IsRecorded x r) (sym is) (records_stay s came.0 r none recorded)
 
-says_after : (o : Opened) (before between after : List Event) (r : TxnRecord) (answer : CommitAnswer)
-    → r.session ≡ 1 → OthersCame 1 before between → CommitSays o between after r answer
+says_after : (o : Opened) (before between after : List Event) (r : TxnRecord)
+    (answer : CommitAnswer) → r.session ≡ 1 → OthersCame 1 before between → CommitSays o between after r answer
     → CommitSays o before after r answer
 says_after o before between after r answer one came says =
     let es : between ++ says.others ≡ before ++ (came.0 ++ says.others) =
@@ -75,7 +77,8 @@ says_after o before between after r answer one came says =
 -- the commit of session 1, after others
 pub says_shared : (s t u : Told) (r : TxnRecord) (answer : CommitAnswer) → r.session ≡ 1
     → t.opened ≡ s.opened → OthersCame 1 s.events t.events
-    → CommitSays t.opened t.events u.events r answer → CommitSays s.opened s.events u.events r answer
+    → CommitSays t.opened t.events u.events r answer
+    → CommitSays s.opened s.events u.events r answer
 says_shared s t u r answer one opened came says =
     says_after s.opened s.events t.events u.events r answer one came
     (subst (λ o. CommitSays o t.events u.events r answer) opened says)

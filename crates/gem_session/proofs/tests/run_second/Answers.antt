@@ -3,4 +3,5 @@ use Rattle.gem_session.proofs.tests.run_second.Goals as goal
 
 pub returns-in-len2-clause-came : goal.returns-in-len2-clause-came
 returns-in-len2-clause-came c =
-    second_came c.args.stone.now c.run_session-transcript.new.port c.run_session-transcript.ensures.port
+    second_came c.args.stone.now c.run_session-transcript.new.port
+    c.run_session-transcript.ensures.port

@@ -9,7 +9,8 @@ use Rattle.gem_session.proofs.tests.OvertakenStonePort.commit.Goals as goal
 pub commit-requires-clause-recorded : goal.commit-requires-clause-recorded
 commit-requires-clause-recorded c =
     let done = c.args.done.now in
-    recorded_shared c.self.inside.stone c.run_second.new.stone done (eqb-true done.session 1 c.requires.serves)
+    recorded_shared c.self.inside.stone c.run_second.new.stone done
+    (eqb-true done.session 1 c.requires.serves)
     c.run_second.ensures.opened c.run_second.ensures.came
     (subst (λ (t : Told). IsRecorded t done) (sym c.self.view_is) c.requires.recorded)
 
@@ -17,9 +18,11 @@ pub returns-clause-says : goal.returns-clause-says
 returns-clause-says c =
     let done = c.args.done.now in
     let after = c.commit.new.self in
-    subst (λ (t : Told). CommitSays t.opened t.events after.events done c.commit.result) c.self.view_is
+    subst (λ (t : Told). CommitSays t.opened t.events after.events done c.commit.result)
+    c.self.view_is
     (says_shared c.self.inside.stone c.run_second.new.stone after done c.commit.result
-    (eqb-true done.session 1 c.requires.serves) c.run_second.ensures.opened c.run_second.ensures.came c.commit.ensures.says)
+    (eqb-true done.session 1 c.requires.serves) c.run_second.ensures.opened
+    c.run_second.ensures.came c.commit.ensures.says)
 
 pub returns-clause-port : goal.returns-clause-port
 returns-clause-port c =
