@@ -16,14 +16,17 @@ module _ {K T : Type 0} (eq : K → K → Bool) where
   are_distinct (pair ∷ rest) distinct = (later_apart pair.0 rest distinct.0, are_distinct rest distinct.1)
 
   module _ (key : K) where
-    pub entry_of-lookup : (pairs : List (K × T)) → lookup (eq key) pairs ≡ entry_of eq key pairs
-    entry_of-lookup [] = refl
-    entry_of-lookup (pair ∷ rest) = ap (cond (eq key pair.0) (Some pair.1)) (entry_of-lookup rest)
+    pub same_entry : (pairs : List (K × T)) → lookup (eq key) pairs ≡ entry_of eq key pairs
+    same_entry [] = refl
+    same_entry (pair ∷ rest) = ap (cond (eq key pair.0) (Some pair.1)) (same_entry rest)
 
-    pub with_pair-insert_entry : (value : T) (pairs : List (K × T)) → insert_entry eq pairs key value ≡ with_pair eq key value pairs
-    with_pair-insert_entry value [] = refl
-    with_pair-insert_entry value (pair ∷ rest) = ap (λ r. cond (eq key pair.0) ((pair.0, value) ∷ rest) (pair ∷ r)) (with_pair-insert_entry value rest)
+    pub same_put : (value : T) (pairs : List (K × T)) → insert_entry eq pairs key value ≡ with_pair eq key value pairs
+    same_put value [] = refl
+    same_put value (pair ∷ rest) = ap (λ r. cond (eq key pair.0) ((pair.0, value) ∷ rest) (pair ∷ r)) (same_put value rest)
 
-    pub without_key-remove_entry : (pairs : List (K × T)) → remove_entry (eq key) pairs ≡ without_key eq key pairs
-    without_key-remove_entry [] = refl
-    without_key-remove_entry (pair ∷ rest) = ap (λ r. cond (eq key pair.0) rest (pair ∷ r)) (without_key-remove_entry rest)
+    pub same_removal : (pairs : List (K × T)) → remove_entry (eq key) pairs ≡ without_key eq key pairs
+    same_removal [] = refl
+    same_removal (pair ∷ rest) = ap (λ r. cond (eq key pair.0) rest (pair ∷ r)) (same_removal rest)
+
+-- what the calls of the kit's map come to
+pub ruleset kit_words = (are_distinct, same_entry, same_put, same_removal)

@@ -29,6 +29,7 @@ impl<K: Eq + Hash, T> Model for InsertionMap<K, T> {
 
 impl<K: Eq + Hash + Drop, T: Drop> InsertionMap<K, T> {
     /// The map without pairs. Takes no memory.
+    #[tactic(auto, using(crate::proofs::Words::kit_words))]
     pub fn new(alloc: Global) -> InsertionMap<K, T>
         ensures { result ≡ [] }
     {
@@ -77,6 +78,7 @@ impl<K: Eq + Hash + Drop, T: Drop> InsertionMap<K, T> {
     }
 
     /// The key's value.
+    #[tactic(auto, using(crate::proofs::Words::kit_words))]
     pub fn get(&self, key: &K) -> Option<&T>
         ensures { option_copied result ≡ entry_of K.eq key.now self.now }
     {
@@ -84,6 +86,7 @@ impl<K: Eq + Hash + Drop, T: Drop> InsertionMap<K, T> {
     }
 
     /// Whether the key has a value.
+    #[tactic(auto, using(crate::proofs::Words::kit_words))]
     pub fn contains_key(&self, key: &K) -> bool
         ensures { result ≡ is_some (entry_of K.eq key.now self.now) }
     {
@@ -94,6 +97,7 @@ impl<K: Eq + Hash + Drop, T: Drop> InsertionMap<K, T> {
     /// its place, and a new one comes last.
     ///
     /// Memory is needed, and may be missing, only for a new key; then the map is as before.
+    #[tactic(auto, using(crate::proofs::Words::kit_words))]
     pub fn put(&mut self, key: K, value: T) -> Result<Option<T>, AllocError>
         ensures put { OnOk result (self.new ≡ with_pair K.eq key value self.old) }
         ensures before { IfOk result (λ before. before ≡ entry_of K.eq key self.old) }
@@ -105,6 +109,7 @@ impl<K: Eq + Hash + Drop, T: Drop> InsertionMap<K, T> {
 
     /// Takes the key's pair away, and gives its value. The other pairs keep their order. Takes no
     /// memory.
+    #[tactic(auto, using(crate::proofs::Words::kit_words))]
     pub fn remove(&mut self, key: &K) -> Option<T>
         ensures value { result ≡ entry_of K.eq key.now self.old }
         ensures without { self.new ≡ without_key K.eq key.now self.old }
