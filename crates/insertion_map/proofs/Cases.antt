@@ -1,5 +1,5 @@
--- The cases of a test and of an answer, and what equal keys have in common.
-use Rattle.std.proofs.Common.{◌≡◌, Bool, true, false, cond, List, [], ◌∷◌, length, Option, Some, None, is_some, Result, Ok, Err, OnErr, refl, sym, ap, ◌∙◌, arith}
+-- The cases of a test, and what equal keys have in common.
+use Rattle.std.proofs.Common.{◌≡◌, Bool, true, false, cond, List, [], ◌∷◌, length, Option, Some, None, is_some, refl, sym, ap, ◌∙◌, arith}
 use Rattle.std.proofs.lemmas.Bool.{false≢true}
 use Rattle.std.specs.Cmp.{IsEquivalence}
 
@@ -8,20 +8,13 @@ pub by_test : {P : Type 0} (b : Bool) → (b ≡ true → P) → (b ≡ false �
 by_test true passed failed = passed refl
 by_test false passed failed = failed refl
 
--- what holds holds on an error too
-pub on_error : {X E : Type 0} (r : Result X E) (P : Type 0) → P → OnErr r P
-on_error (Ok x) P h = tt
-on_error (Err e) P h = h
-
--- there is something or nothing
-pub some_none : {X : Type 0} {x : X} → Some x ≡ None → ⊥
-some_none e = false≢true (sym (ap is_some e))
+pub some_is_not_none : {X : Type 0} {x : X} → Some x ≡ None → ⊥
+some_is_not_none e = false≢true (sym (ap is_some e))
 
 pub none_from_test : {X : Type 0} (o : Option X) → is_some o ≡ false → o ≡ None
 none_from_test None h = refl
 none_from_test (Some x) h = absurd (false≢true (sym h))
 
--- a list of no items
 pub nothing_left : {X : Type 0} (l : List X) → length l ≡ 0 → l ≡ []
 nothing_left [] h = refl
 nothing_left (x ∷ xs) h = absurd (omega arith)

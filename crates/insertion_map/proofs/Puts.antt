@@ -4,7 +4,7 @@ use Rattle.std.proofs.lemmas.Bool.{false≢true}
 use Rattle.std.specs.Cmp.{IsEquivalence}
 use Rattle.std.specs.List.{AllByRecursion}
 use Rattle.insertion_map.specs.Pairs.{AreDistinct, entry_of, with_pair}
-use Rattle.insertion_map.proofs.Cases.{by_test, some_none, at_z-tied, at_z-apart, apart_from, tied_with}
+use Rattle.insertion_map.proofs.Cases.{by_test, some_is_not_none, at_z-tied, at_z-apart, apart_from, tied_with}
 
 module _ {K T : Type 0} (eq : K → K → Bool) where
   -- ---- what a definition says of the first pair
@@ -27,7 +27,7 @@ module _ {K T : Type 0} (eq : K → K → Bool) where
   pub new_last : (key : K) (value : T) (pairs : List (K × T)) → entry_of eq key pairs ≡ None → with_pair eq key value pairs ≡ pairs ++ (key, value) ∷ []
   new_last key value [] none = refl
   new_last key value (pair ∷ rest) none = by_test (eq key pair.0)
-      (λ e. absurd (some_none (sym (entry-here key pair rest e) ∙ none)))
+      (λ e. absurd (some_is_not_none (sym (entry-here key pair rest e) ∙ none)))
       (λ e. put-past key pair rest value e ∙ ap (λ l. pair ∷ l) (new_last key value rest (sym (entry-past key pair rest e) ∙ none)))
 
   pub keys_kept : (key : K) (value : T) (pairs : List (K × T)) → is_some (entry_of eq key pairs) ≡ true → map (λ pair. pair.0) (with_pair eq key value pairs) ≡ map (λ pair. pair.0) pairs

@@ -3,7 +3,7 @@ use Rattle.std.proofs.Common.{◌≡◌, Bool, true, false, not, cond, filter, L
 use Rattle.std.specs.Cmp.{IsEquivalence}
 use Rattle.std.specs.List.{AllByRecursion}
 use Rattle.insertion_map.specs.Pairs.{AreDistinct, entry_of, without_key}
-use Rattle.insertion_map.proofs.Cases.{by_test, some_none, at_z-tied, at_z-apart, apart_from, tied_with}
+use Rattle.insertion_map.proofs.Cases.{by_test, some_is_not_none, at_z-tied, at_z-apart, apart_from, tied_with}
 use Rattle.insertion_map.proofs.Puts.{entry-here, entry-past}
 
 module _ {K T : Type 0} (eq : K → K → Bool) where
@@ -17,7 +17,7 @@ module _ {K T : Type 0} (eq : K → K → Bool) where
   pub absent_stays : (key : K) (pairs : List (K × T)) → entry_of eq key pairs ≡ None → without_key eq key pairs ≡ pairs
   absent_stays key [] none = refl
   absent_stays key (pair ∷ rest) none = by_test (eq key pair.0)
-      (λ e. absurd (some_none (sym (entry-here eq key pair rest e) ∙ none)))
+      (λ e. absurd (some_is_not_none (sym (entry-here eq key pair rest e) ∙ none)))
       (λ e. without-past key pair rest e ∙ ap (λ l. pair ∷ l) (absent_stays key rest (sym (entry-past eq key pair rest e) ∙ none)))
 
   all_without : (x key : K) (pairs : List (K × T)) → AllByRecursion (λ later. eq x later.0 ≡ false) pairs → AllByRecursion (λ later. eq x later.0 ≡ false) (without_key eq key pairs)

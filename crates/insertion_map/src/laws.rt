@@ -13,8 +13,8 @@ pub fn put_is_shown<K: Eq, T>()
         → AreDistinct K.eq pairs → AreDistinct K.eq (with_pair K.eq key value pairs) }
 {}
 
-/// A put of a new key adds its pair at the end. A put of a key that is there leaves the keys as they
-/// are.
+/// A put of a new key adds its pair at the end. A put of a key that is there leaves the keys as
+/// they are.
 pub fn put_keeps_order<K: Eq, T>()
     ensures new { (pairs : List (K × T)) (key : K) (value : T) → entry_of K.eq key pairs ≡ None
         → with_pair K.eq key value pairs ≡ pairs ++ (key, value) ∷ [] }

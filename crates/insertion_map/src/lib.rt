@@ -1,5 +1,5 @@
-//! Room: shelves. Takes keys with values; gives a map that shows them in the order in which the keys
-//! came, and finds a key without a walk over the others. Knows nothing of objects.
+//! Room: shelves. Takes keys with values; gives a map that shows them in the order in which their
+//! keys came, and finds a key without a walk over the others. Knows nothing of objects.
 #![tactic(auto)]
 
 pub mod laws;
