@@ -1,0 +1,4 @@
+mod Cases
+mod Puts
+mod Removals
+mod Words

@@ -1,0 +1,10 @@
+//! Room: shelves. Takes keys with values; gives a map that shows them in the order in which their
+//! keys came, and finds a key without a walk over the others. Knows nothing of objects.
+#![tactic(auto)]
+
+pub mod laws;
+mod map;
+#[cfg(test)]
+mod tests;
+
+pub use map::InsertionMap;
