@@ -21,6 +21,10 @@ names_in values = filter_map reference_of values
 abbrev pub names_in_pairs : List (Value × Value) → List ℕ
 names_in_pairs pairs = flat_map (λ pair. names_in (pair.0 ∷ pair.1 ∷ [])) pairs
 
+-- the names that the items of a bag refer to
+abbrev pub names_in_items : List (Value × ℕ) → List ℕ
+names_in_items pairs = filter_map (λ pair. reference_of pair.0) pairs
+
 -- the names that a body refers to: those in its values, the superclass of a class, the owner of a
 -- segment, the segment and the globals of a user
 abbrev pub names_in_body : Body → List ℕ
@@ -31,7 +35,7 @@ names_in_body (Class c) = option_to_list c.superclass
 names_in_body (Segment rights) = rights.owner ∷ []
 names_in_body (User user) = user.default_segment ∷ user.globals ∷ []
 names_in_body (Counter _) = []
-names_in_body (Bag pairs) = filter_map (λ pair. reference_of pair.0) pairs
+names_in_body (Bag pairs) = names_in_items pairs
 names_in_body (RcDict pairs) = names_in_pairs pairs
 names_in_body (Queue queue) = names_in queue.items
 

@@ -8,6 +8,8 @@ mod kind;
 pub mod laws;
 mod object;
 mod size;
+#[cfg(test)]
+mod tests;
 mod value;
 
 pub use body::{Body, ClassBody, Method, MethodCode, UserBody};
