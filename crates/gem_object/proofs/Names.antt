@@ -30,7 +30,8 @@ of_pair pair is = with_value pair.0 is.0 (names_in (pair.1 ∷ []))
 of_pairs : (pairs : List (Value × Value)) → All IsStorablePair pairs
     → All IsOid (names_in_pairs pairs)
 of_pairs [] all = All-nil IsOid
-of_pairs (pair ∷ pairs) all = All-append IsOid (names_in (pair.0 ∷ pair.1 ∷ [])) (names_in_pairs pairs)
+of_pairs (pair ∷ pairs) all = All-append IsOid
+    (names_in (pair.0 ∷ pair.1 ∷ [])) (names_in_pairs pairs)
     (of_pair pair (All-head IsStorablePair pair pairs all))
     (of_pairs pairs (All-tail IsStorablePair pair pairs all))
 

@@ -63,7 +63,8 @@ IsStorablePair pair = IsStorable pair.0 × IsStorable pair.1
 pub record IsDictionary (pairs : List (Value × Value)) : Type 0 where
   pub count : length pairs < 2 ^ 32
   pub each : All IsStorablePair pairs
-  pub distinct : IsDistinct (λ key other. is_eq (value_order key other)) (map (λ pair. pair.0) pairs)
+  pub distinct : IsDistinct (λ key other. is_eq (value_order key other))
+      (map (λ pair. pair.0) pairs)
   pub no_nil : All (λ pair. pair.0 ≢ Nil) pairs
 
 -- a method's code: a source of fewer than 2^32 bytes, or a primitive's number of one byte

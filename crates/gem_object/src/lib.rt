@@ -1,5 +1,5 @@
-//! Room: values. Gives values, bodies and objects, with their slots, their sizes and what they refer
-//! to. Knows nothing of images, of scripts and of who runs what.
+//! Room: values. Gives values, bodies and objects, with their slots, sizes and what they refer to.
+//! Knows nothing of images, of scripts and of who runs what.
 #![tactic(auto)]
 
 mod body;
