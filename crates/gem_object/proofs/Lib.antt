@@ -1,0 +1,4 @@
+mod Ties
+mod Sums
+mod Names
+mod Rooms

@@ -1,0 +1,19 @@
+//! Room: values. Gives values, bodies and objects, with their slots, sizes and what they refer to.
+//! Knows nothing of images, of scripts and of who runs what.
+#![tactic(auto)]
+
+mod body;
+mod items;
+mod kind;
+pub mod laws;
+mod object;
+mod size;
+#[cfg(test)]
+mod tests;
+mod value;
+
+pub use body::{Body, ClassBody, Method, MethodCode, UserBody};
+pub use items::{ByteString, Items, Methods, Names, Pairs, Values};
+pub use kind::Kind;
+pub use object::Object;
+pub use value::{BlockRef, Value};
