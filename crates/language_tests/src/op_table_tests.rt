@@ -1,5 +1,5 @@
 // The tables, row by row.
-use super::*;
+use op_table::{Kind, Op, PrimRow, Row, byte_of, op_table, prim_row, row_of};
 
 #[test]
 fn op_rows(rt: HostRuntime) {

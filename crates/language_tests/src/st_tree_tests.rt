@@ -4,7 +4,7 @@ ghost use Rattle.st_tree.specs.Views.{constant_of};
 ghost use Rattle.st_tree.specs.Trees.{Expression, expression, constant, int, char, sym, array};
 ghost use Rattle.st_tree.specs.Trees.{constants, send, sends, expressions};
 
-use crate::{BlockTree, Expr, Literal, Literals, Message, Primary, Stat, Tree};
+use st_tree::{BlockTree, Expr, Literal, Literals, Message, Primary, Stat, Tree};
 use std::alloc::{AllocError, Global};
 use std::test::Fail;
 use texts::Text;
@@ -27,7 +27,7 @@ fn message(alloc: Global, selector: &[u8], value: i64) -> Result<Message, AllocE
 }
 
 // `3 + 4 max: 9`, which sends `max:` to what `3 + 4` answers.
-#[tactic(auto, using(crate::proofs::Appends::appends))]
+#[tactic(auto, using(st_tree::proofs::Appends::appends))]
 fn greatest_of_sum(alloc: Global) -> Result<Expr, AllocError>
     ensures { IfOk result (λ e. e ≡ expression [] (constant (int (pos 3)))
         (sends (send (codes "+")

@@ -1,5 +1,5 @@
 //! Trees and faults of texts, worked out by hand.
-use crate::{ParseFault, parse_chunk, parse_method};
+use st_parser::{ParseFault, parse_chunk, parse_method};
 use st_tree::{Literal, Primary, Tree};
 use std::alloc::{AllocError, Global};
 use std::test::Fail;

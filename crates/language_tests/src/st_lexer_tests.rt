@@ -1,5 +1,5 @@
 //! Tokens, bad tokens and their places, worked out by hand.
-use crate::{LexFault, Token, TokenKind, tokens};
+use st_lexer::{LexFault, Token, TokenKind, tokens};
 use std::alloc::Global;
 use std::process::Abort;
 use std::test::Fail;

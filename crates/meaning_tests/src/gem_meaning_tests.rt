@@ -1,4 +1,4 @@
-use super::*;
+use gem_meaning::{EvaluationError, PlainState, is_chunk, plain_run};
 use gem_value::Image;
 use st_tree::{Expr, Literal, Primary, Stat, Tree};
 use std::alloc::{AllocError, Global};
