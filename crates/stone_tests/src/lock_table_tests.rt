@@ -1,5 +1,5 @@
 // Requests in order, and locks that are given back.
-use super::*;
+use lock_table::{Asked, LockKind, Locks};
 
 // Object 1:1, the first that session 1 made, and 1:2.
 const BOX: u64 = 16_777_217;

@@ -1,6 +1,6 @@
 use Rattle.std.proofs.Common.{[], ◌∷◌, ◌∙◌}
-use Rattle.stone_core.proofs.Nothing.{nothing_is_recorded, none_in_order}
-use Rattle.stone_core.proofs.stone.tests.nothing_to_commit.Goals as goal
+use Rattle.stone_tests.proofs.Nothing.{nothing_is_recorded, none_in_order}
+use Rattle.stone_tests.proofs.stone_core_tests.nothing_to_commit.Goals as goal
 
 pub of-requires : goal.of-requires
 of-requires g c = none_in_order _ c.new.ensures.items

@@ -2,10 +2,12 @@ ghost use Rattle.std.specs.Prelude.{◌≡◌, ◌≤◌, ◌∷◌, [], false, 
 ghost use Rattle.profile.specs.declared.limits.TheConstants.{CHUNK_LIMIT};
 ghost use Rattle.shell_words.specs.declared.script.Command.TheVariants.{Chunk, Commit};
 
-use super::*;
-use gem_value::Writes;
-use shell_words::{Command, SessionScript};
+use gem_value::{Conflict, Entry, Image, TxnRecord, Writes};
+use shell_words::{Command, Script, SessionScript};
+use std::alloc::{AllocError, Global};
+use std::sync::Arc;
 use std::test::Fail;
+use stone_core::{Closed, CommitAnswer, Stone};
 use texts::Text;
 
 fn one_commit(alloc: Global) -> Result<Arc<Script>, AllocError>

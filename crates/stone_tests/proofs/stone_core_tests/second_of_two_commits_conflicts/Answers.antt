@@ -1,5 +1,5 @@
-use Rattle.stone_core.proofs.Setting.{first_is_recorded, second_is_recorded}
-use Rattle.stone_core.proofs.stone.tests.second_of_two_commits_conflicts.Goals as goal
+use Rattle.stone_tests.proofs.Setting.{first_is_recorded, second_is_recorded}
+use Rattle.stone_tests.proofs.stone_core_tests.second_of_two_commits_conflicts.Goals as goal
 
 pub commit-placed-requires : goal.commit-placed-requires
 commit-placed-requires g c = record {
