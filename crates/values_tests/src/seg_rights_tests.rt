@@ -1,5 +1,5 @@
 // Rights of owners, members of groups and others.
-use super::*;
+use seg_rights::{Groups, Right, Rights, may_read, may_write};
 use std::alloc::{AllocError, Global};
 use std::test::Fail;
 

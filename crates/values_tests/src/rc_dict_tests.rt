@@ -1,27 +1,21 @@
 // Merges as commits make them, and the calls of a dictionary.
-use super::*;
+use rc_dict::{DictFault, DictUpdate, KeyDict};
 use std::alloc::Global;
 use std::test::Fail;
 
-#[derive(Clone, Debug, PartialEq, Eq, PartialOrd, Ord, Drop)]
-struct Name {
-    letter: char,
+const fn put(letter: char, value: u32) -> DictUpdate<char, u32> {
+    DictUpdate::Put(letter, value)
 }
 
-const fn put(letter: char, value: u32) -> DictUpdate<Name, u32> {
-    DictUpdate::Put(Name { letter }, value)
+const fn remove(letter: char) -> DictUpdate<char, u32> {
+    DictUpdate::Remove(letter)
 }
 
-const fn remove(letter: char) -> DictUpdate<Name, u32> {
-    DictUpdate::Remove(Name { letter })
-}
-
-fn pairs(alloc: Global, entries: &[(char, u32)]) -> Result<Vec<(Name, u32)>, Fail> {
-    let mut pairs = Vec::new(alloc);
-    for &(letter, value) in entries {
-        pairs.push((Name { letter }, value))?;
+fn dictionary(alloc: Global, entries: &[(char, u32)]) -> Result<KeyDict<char, u32>, Fail> {
+    match KeyDict::of_pairs(entries.to_vec(alloc)?) {
+        Some(dict) => Ok(dict),
+        None => Err(Fail::new("no dictionary")),
     }
-    Ok(pairs)
 }
 
 // A commit's merge: the dictionary at the view and at the place, the session's updates, and the
@@ -30,7 +24,7 @@ fn pairs(alloc: Global, entries: &[(char, u32)]) -> Result<Vec<(Name, u32)>, Fai
 struct Case<'a> {
     view: &'a [(char, u32)],
     place: &'a [(char, u32)],
-    updates: &'a [DictUpdate<Name, u32>],
+    updates: &'a [DictUpdate<char, u32>],
     want: Result<&'a [(char, u32)], u64>,
 }
 
@@ -43,6 +37,17 @@ macro_rules! cases {
             want: $want,
         }),*]
     };
+}
+
+fn is_wanted(
+    merged: &Result<KeyDict<char, u32>, DictFault>,
+    want: Result<&[(char, u32)], u64>,
+) -> bool {
+    match (merged, want) {
+        (Ok(dict), Ok(entries)) => dict.pairs() == entries,
+        (Err(fault), Err(at)) => *fault == DictFault::Key(at),
+        _ => false,
+    }
 }
 
 #[test]
@@ -62,21 +67,10 @@ fn merges(rt: HostRuntime) -> Result<(), Fail> {
         &[('a', 1)], &[], &[remove('a')] => Err(0);
     };
     for (number, case) in cases.iter().enumerate() {
-        let at_view = KeyDict::of_pairs(pairs(alloc, case.view)?);
-        let at_place = KeyDict::of_pairs(pairs(alloc, case.place)?);
-        let (Some(at_view), Some(at_place)) = (at_view, at_place) else {
-            panic!(rt; "dictionaries of case {number}");
-        };
-        match (KeyDict::merge(&at_view, &at_place, case.updates), case.want) {
-            (Ok(dict), Ok(entries)) => {
-                let want = pairs(alloc, entries)?;
-                assert_eq!(rt; dict.pairs(), want.as_slice(), "case {number}");
-            }
-            (Err(fault), Err(at)) => {
-                assert_eq!(rt; fault, DictFault::Key(at), "case {number}");
-            }
-            _ => panic!(rt; "case {number}"),
-        }
+        let at_view = dictionary(alloc, case.view)?;
+        let at_place = dictionary(alloc, case.place)?;
+        let merged = KeyDict::merge(&at_view, &at_place, case.updates);
+        assert!(rt; is_wanted(&merged, case.want), "case {number}");
     }
     Ok(())
 }
@@ -85,16 +79,14 @@ fn merges(rt: HostRuntime) -> Result<(), Fail> {
 fn calls(rt: HostRuntime) -> Result<(), Fail> {
     let alloc = rt.alloc();
     for faulty in [[('b', 1), ('a', 1)], [('a', 1), ('a', 2)]] {
-        assert!(rt; KeyDict::of_pairs(pairs(alloc, &faulty)?).is_none());
+        assert!(rt; KeyDict::of_pairs(faulty.to_vec(alloc)?).is_none());
     }
-    let Some(mut dict) = KeyDict::of_pairs(pairs(alloc, &[('b', 2)])?) else {
-        panic!(rt; "a dictionary");
-    };
+    let mut dict = dictionary(alloc, &[('b', 2)])?;
     dict.apply(put('a', 1))?;
     dict.apply(put('b', 3))?;
     assert_eq!(rt; dict.apply(remove('c')), Err(DictFault::Key(0)));
-    assert_eq!(rt; dict.get(&Name { letter: 'b' }), Some(&3));
-    assert_eq!(rt; dict.get(&Name { letter: 'c' }), None);
+    assert_eq!(rt; dict.get(&'b'), Some(&3));
+    assert_eq!(rt; dict.get(&'c'), None);
     dict.apply(remove('a'))?;
     assert_eq!(rt; dict.size(), 1);
     assert_eq!(rt; dict.try_clone()?.pairs(), dict.pairs());

@@ -1,7 +1,7 @@
 ghost use Rattle.std.specs.Prelude.{IfOk};
 ghost use Rattle.gem_value.specs.Writes.{IsInNameOrder};
 
-use super::*;
+use gem_value::{Conflict, ConflictKind, Conflicts, Entry, Image, Oid, TxnRecord, Writes};
 use std::alloc::{AllocError, Global};
 use std::test::Fail;
 use texts::Text;
@@ -71,7 +71,7 @@ fn globals(rt: HostRuntime) -> Result<(), Fail> {
     Ok(())
 }
 
-#[tactic(auto, using(crate::proofs::InOrder::one_in_order))]
+#[tactic(auto, using(gem_value::proofs::InOrder::one_in_order))]
 fn one_write(alloc: Global, name: &[u8], value: i64) -> Result<Vec<(Text, i64)>, AllocError>
     ensures { IfOk result (λ entries. IsInNameOrder entries.items) }
 {

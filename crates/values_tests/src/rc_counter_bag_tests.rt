@@ -1,5 +1,5 @@
 // Merges as commits make them, and the calls of a bag.
-use super::*;
+use rc_counter_bag::{Bag, BagFault, BagUpdate, Counter, CounterRange};
 use std::alloc::Global;
 use std::test::Fail;
 
@@ -43,25 +43,19 @@ fn counters(rt: HostRuntime) {
     );
 }
 
-#[derive(Clone, Debug, PartialEq, Eq, PartialOrd, Ord, Drop)]
-struct Name {
-    letter: char,
+const fn add(letter: char) -> BagUpdate<char> {
+    BagUpdate::Add(letter)
 }
 
-const fn add(letter: char) -> BagUpdate<Name> {
-    BagUpdate::Add(Name { letter })
+const fn remove(letter: char) -> BagUpdate<char> {
+    BagUpdate::Remove(letter)
 }
 
-const fn remove(letter: char) -> BagUpdate<Name> {
-    BagUpdate::Remove(Name { letter })
-}
-
-fn pairs(alloc: Global, letters: &[(char, u64)]) -> Result<Vec<(Name, u64)>, Fail> {
-    let mut pairs = Vec::new(alloc);
-    for &(letter, occurrences) in letters {
-        pairs.push((Name { letter }, occurrences))?;
+fn bag(alloc: Global, letters: &[(char, u64)]) -> Result<Bag<char>, Fail> {
+    match Bag::of_pairs(letters.to_vec(alloc)?) {
+        Some(bag) => Ok(bag),
+        None => Err(Fail::new("no bag")),
     }
-    Ok(pairs)
 }
 
 // A commit's merge: the bag at the place, the session's updates, and the bag that follows, or
@@ -69,7 +63,7 @@ fn pairs(alloc: Global, letters: &[(char, u64)]) -> Result<Vec<(Name, u64)>, Fai
 #[derive(Drop)]
 struct Case<'a> {
     place: &'a [(char, u64)],
-    updates: &'a [BagUpdate<Name>],
+    updates: &'a [BagUpdate<char>],
     want: Result<&'a [(char, u64)], u64>,
 }
 
@@ -81,6 +75,14 @@ macro_rules! cases {
             want: $want,
         }),*]
     };
+}
+
+fn is_wanted(merged: &Result<Bag<char>, BagFault>, want: Result<&[(char, u64)], u64>) -> bool {
+    match (merged, want) {
+        (Ok(bag), Ok(letters)) => bag.pairs() == letters,
+        (Err(fault), Err(at)) => *fault == BagFault::Missing(at),
+        _ => false,
+    }
 }
 
 #[test]
@@ -99,46 +101,38 @@ fn bags(rt: HostRuntime) -> Result<(), Fail> {
         &[('x', u64::MAX)], &[remove('x')] => Ok(&[('x', u64::MAX)]);
         &[('x', u64::MAX - 1)], &[remove('x')] => Ok(&[('x', u64::MAX - 2)]);
     };
-    let Some(at_view) = Bag::of_pairs(pairs(alloc, &[('x', 1)])?) else {
-        panic!(rt; "a bag");
-    };
+    let at_view = bag(alloc, &[('x', 1)])?;
     for (number, case) in cases.iter().enumerate() {
-        let Some(at_place) = Bag::of_pairs(pairs(alloc, case.place)?) else {
-            panic!(rt; "a bag at the place of case {number}");
-        };
-        match (Bag::merge(&at_view, &at_place, case.updates), case.want) {
-            (Ok(bag), Ok(letters)) => {
-                let want = pairs(alloc, letters)?;
-                assert_eq!(rt; bag.pairs(), want.as_slice(), "case {number}");
-            }
-            (Err(fault), Err(at)) => {
-                assert_eq!(rt; fault, BagFault::Missing(at), "case {number}");
-            }
-            _ => panic!(rt; "case {number}"),
-        }
+        let at_place = bag(alloc, case.place)?;
+        let merged = Bag::merge(&at_view, &at_place, case.updates);
+        assert!(rt; is_wanted(&merged, case.want), "case {number}");
+    }
+    Ok(())
+}
+
+#[test]
+fn pairs_that_are_no_bag(rt: HostRuntime) -> Result<(), Fail> {
+    for faulty in [
+        [('b', 1), ('a', 1)],
+        [('a', 1), ('a', 1)],
+        [('a', 1), ('b', 0)],
+    ] {
+        assert!(rt; Bag::of_pairs(faulty.to_vec(rt.alloc())?).is_none());
     }
     Ok(())
 }
 
 #[test]
 fn calls_of_a_bag(rt: HostRuntime) -> Result<(), Fail> {
-    let alloc = rt.alloc();
-    for faulty in [
-        [('b', 1), ('a', 1)],
-        [('a', 1), ('a', 1)],
-        [('a', 1), ('b', 0)],
-    ] {
-        assert!(rt; Bag::of_pairs(pairs(alloc, &faulty)?).is_none());
+    let mut bag = bag(rt.alloc(), &[('b', u64::MAX - 1)])?;
+    for _ in 0..2 {
+        bag.apply(add('a'))?;
     }
-    let Some(mut bag) = Bag::of_pairs(pairs(alloc, &[('b', u64::MAX - 1)])?) else {
-        panic!(rt; "a bag");
-    };
-    bag.apply(add('a'))?;
-    bag.apply(add('a'))?;
     assert_eq!(rt; bag.apply(remove('c')), Err(BagFault::Missing(0)));
     bag.apply(remove('a'))?;
-    assert_eq!(rt; bag.count(&Name { letter: 'a' }), 1);
-    assert_eq!(rt; bag.count(&Name { letter: 'c' }), 0);
+    for (letter, occurrences) in [('a', 1), ('c', 0)] {
+        assert_eq!(rt; bag.count(&letter), occurrences);
+    }
     bag.apply(add('c'))?;
     assert_eq!(rt; bag.size(), u64::MAX);
     assert_eq!(rt; bag.try_clone()?.pairs(), bag.pairs());
