@@ -1,4 +1,4 @@
-use crate::{CHUNK_LIMIT, Command, SCRIPT_LIMIT, ScriptFault, read_script};
+use shell_words::{CHUNK_LIMIT, Command, SCRIPT_LIMIT, ScriptFault, read_script};
 use std::alloc::{AllocError, Global};
 use std::test::Fail;
 
@@ -63,96 +63,98 @@ fn broken(alloc: Global, text: &[u8]) -> Option<(u32, u8)> {
     }
 }
 
+const SCRIPTS: [(&[u8], &[u8]); 13] = [
+    (b"", b""),
+    (b"\n\r\n\r", b""),
+    (b"session A", b"A{}"),
+    (b"session A\r", b"A{}"),
+    (b"\nsession A\n\n\r\nsession A\n", b"A{}A{}"),
+    (
+        b"session a1Z\ncommit\nabort\nlogout\nsession B\nlogout",
+        b"a1Z{commit;abort;logout;}B{logout;}",
+    ),
+    (
+        b"session A\nrun\n3\n%\nprintit\r\n4\r\n\r\n%\r\ncommit\r\n",
+        b"A{run(3\n)printit(4\n\n)commit;}",
+    ),
+    (b"session A\nrun\n%\nrun\n\n%", b"A{run()run(\n)}"),
+    (
+        b"session A\nrun\nsession X\ncommit\n %\n% \n%%\n%\r",
+        b"A{run(session X\ncommit\n %\n% \n%%\n)}",
+    ),
+    (b"session A\nrun\na\rb\r\r\n%", b"A{run(a\rb\r\n)}"),
+    (
+        b"session A\nmethod: Box\nat\n^1\n%\nclassmethod: _b2\nnew\n%\n",
+        b"A{method Box(at\n^1\n)classmethod _b2(new\n)}",
+    ),
+    (
+        b"session A\nlock read X\nlock write y_1\nunlock _\n",
+        b"A{read X;write y_1;unlock _;}",
+    ),
+    (
+        b"session DataCurator\nprintit\n3 + 4 * 2\n%\n",
+        b"DataCurator{printit(3 + 4 * 2\n)}",
+    ),
+];
+
 #[test]
 fn reads_scripts(rt: HostRuntime) -> Result<(), Fail> {
-    let table: [(&[u8], &[u8]); 13] = [
-        (b"", b""),
-        (b"\n\r\n\r", b""),
-        (b"session A", b"A{}"),
-        (b"session A\r", b"A{}"),
-        (b"\nsession A\n\n\r\nsession A\n", b"A{}A{}"),
-        (
-            b"session a1Z\ncommit\nabort\nlogout\nsession B\nlogout",
-            b"a1Z{commit;abort;logout;}B{logout;}",
-        ),
-        (
-            b"session A\nrun\n3\n%\nprintit\r\n4\r\n\r\n%\r\ncommit\r\n",
-            b"A{run(3\n)printit(4\n\n)commit;}",
-        ),
-        (b"session A\nrun\n%\nrun\n\n%", b"A{run()run(\n)}"),
-        (
-            b"session A\nrun\nsession X\ncommit\n %\n% \n%%\n%\r",
-            b"A{run(session X\ncommit\n %\n% \n%%\n)}",
-        ),
-        (b"session A\nrun\na\rb\r\r\n%", b"A{run(a\rb\r\n)}"),
-        (
-            b"session A\nmethod: Box\nat\n^1\n%\nclassmethod: _b2\nnew\n%\n",
-            b"A{method Box(at\n^1\n)classmethod _b2(new\n)}",
-        ),
-        (
-            b"session A\nlock read X\nlock write y_1\nunlock _\n",
-            b"A{read X;write y_1;unlock _;}",
-        ),
-        (
-            b"session DataCurator\nprintit\n3 + 4 * 2\n%\n",
-            b"DataCurator{printit(3 + 4 * 2\n)}",
-        ),
-    ];
-    for (text, script) in table {
+    for (text, script) in SCRIPTS {
         let found = shown(rt.alloc(), text)?;
         assert_eq!(rt; found.as_slice(), script);
     }
     Ok(())
 }
 
+const BROKEN: [(&[u8], u32, u8); 37] = [
+    // none of the table's lines
+    (b"foo", 1, 1),
+    (b"session", 1, 1),
+    (b"session ", 1, 1),
+    (b"session a b", 1, 1),
+    (b"session  a", 1, 1),
+    (b" session a", 1, 1),
+    (b"Session A", 1, 1),
+    (b"%", 1, 1),
+    (b"\r\n\nsession A\n\ncommit \n", 5, 1),
+    (b"session A\nrun \n%\n", 2, 1),
+    (b"session A\nlock read 9x\n", 2, 1),
+    (b"session A\nlock x y\n", 2, 1),
+    (b"session A\nlock read x y\n", 2, 1),
+    (b"session A\nunlock\n", 2, 1),
+    (b"session A\nmethod: 9x\nx\n%\n", 2, 1),
+    (b"session A\nmethod: a-b\nx\n%\n", 2, 1),
+    (b"session A\ncheckpoint\n", 2, 1),
+    (b"session A\nrun\n%\n%\n", 4, 1),
+    // no session takes the command
+    (b"commit", 1, 2),
+    (b"\nlock read X\n", 2, 2),
+    (b"run\n3\n", 1, 2),
+    (b"session A\nlogout\ncommit\n", 3, 2),
+    (b"session A\nlogout\n\nmethod: X\nx\n%\n", 4, 2),
+    (b"session A\nlogout\nlogout\n", 3, 2),
+    // a chunk without its end
+    (b"session DataCurator\nrun\n3", 2, 3),
+    (b"session A\nrun\n%\nprintit\n% \n %\n", 4, 3),
+    (b"session A\nmethod: X", 2, 3),
+    // no user name
+    (b"session 1a", 1, 6),
+    (b"session A\nsession a_b\n", 2, 6),
+    (b"session a\tb", 1, 6),
+    // the first line that breaks a rule
+    (b"session A\nrun\n3\n%\nsession 1\nfoo\n", 5, 6),
+    (b"commit\nfoo\n", 1, 2),
+    // another byte, wherever it stands
+    (b"\x7f", 1, 8),
+    (b"foo\ncommit\n\n\x1f\n\xc3\xa9", 4, 8),
+    (b"session A\nrun\n\x00", 3, 8),
+    (b"session A\nrun\n3\n%\r\n\x80", 5, 8),
+    (b"session A\xff", 1, 8),
+];
+
 #[test]
 fn finds_the_first_rule(rt: HostRuntime) -> Result<(), Fail> {
-    let table: [(&[u8], u32, u8); 37] = [
-        // none of the table's lines
-        (b"foo", 1, 1),
-        (b"session", 1, 1),
-        (b"session ", 1, 1),
-        (b"session a b", 1, 1),
-        (b"session  a", 1, 1),
-        (b" session a", 1, 1),
-        (b"Session A", 1, 1),
-        (b"%", 1, 1),
-        (b"\r\n\nsession A\n\ncommit \n", 5, 1),
-        (b"session A\nrun \n%\n", 2, 1),
-        (b"session A\nlock read 9x\n", 2, 1),
-        (b"session A\nlock x y\n", 2, 1),
-        (b"session A\nlock read x y\n", 2, 1),
-        (b"session A\nunlock\n", 2, 1),
-        (b"session A\nmethod: 9x\nx\n%\n", 2, 1),
-        (b"session A\nmethod: a-b\nx\n%\n", 2, 1),
-        (b"session A\ncheckpoint\n", 2, 1),
-        (b"session A\nrun\n%\n%\n", 4, 1),
-        // no session takes the command
-        (b"commit", 1, 2),
-        (b"\nlock read X\n", 2, 2),
-        (b"run\n3\n", 1, 2),
-        (b"session A\nlogout\ncommit\n", 3, 2),
-        (b"session A\nlogout\n\nmethod: X\nx\n%\n", 4, 2),
-        (b"session A\nlogout\nlogout\n", 3, 2),
-        // a chunk without its end
-        (b"session DataCurator\nrun\n3", 2, 3),
-        (b"session A\nrun\n%\nprintit\n% \n %\n", 4, 3),
-        (b"session A\nmethod: X", 2, 3),
-        // no user name
-        (b"session 1a", 1, 6),
-        (b"session A\nsession a_b\n", 2, 6),
-        (b"session a\tb", 1, 6),
-        // the first line that breaks a rule
-        (b"session A\nrun\n3\n%\nsession 1\nfoo\n", 5, 6),
-        (b"commit\nfoo\n", 1, 2),
-        // another byte, wherever it stands
-        (b"\x7f", 1, 8),
-        (b"foo\ncommit\n\n\x1f\n\xc3\xa9", 4, 8),
-        (b"session A\nrun\n\x00", 3, 8),
-        (b"session A\nrun\n3\n%\r\n\x80", 5, 8),
-        (b"session A\xff", 1, 8),
-    ];
-    for (text, line, rule) in table {
+    for (text, line, rule) in BROKEN {
         assert_eq!(rt; broken(rt.alloc(), text), Some((line, rule)));
     }
     Ok(())

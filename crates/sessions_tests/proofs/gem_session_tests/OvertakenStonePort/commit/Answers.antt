@@ -3,8 +3,8 @@ use Rattle.std.proofs.lemmas.Bool.{eqb-true}
 use Rattle.gem_meaning.specs.Events.{Told}
 use Rattle.gem_meaning.specs.Serial.{IsRecorded}
 use Rattle.stone_core.specs.Port.{CommitSays, GoesOn}
-use Rattle.gem_session.proofs.Overtaken.{shared, recorded_shared, says_shared, goes_on_shared}
-use Rattle.gem_session.proofs.tests.OvertakenStonePort.commit.Goals as goal
+use Rattle.sessions_tests.proofs.Overtaken.{shared, recorded_shared, says_shared, goes_on_shared}
+use Rattle.sessions_tests.proofs.gem_session_tests.OvertakenStonePort.commit.Goals as goal
 
 pub commit-requires-clause-recorded : goal.commit-requires-clause-recorded
 commit-requires-clause-recorded c =

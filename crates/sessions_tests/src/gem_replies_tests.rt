@@ -1,6 +1,6 @@
 ghost use Rattle.std.specs.Prelude.{◌≡◌, IfOk};
 
-use super::*;
+use gem_replies::{Line, Replies, Reply, RunBook, Transcript, Transcripts, report_text};
 use gem_value::{Conflict, ConflictKind, Conflicts, Entry, History, Oid};
 use std::alloc::{AllocError, Global};
 use std::test::Fail;

@@ -2,8 +2,8 @@
 ghost use Rattle.std.specs.Prelude.{◌≡◌, [], false};
 ghost use Rattle.gem_meaning.specs.Events.{events_of, OthersCame};
 
-use super::*;
 use gem_replies::{RunBook, Transcripts, report_text};
+use gem_session::run_session;
 use gem_value::{Image, TxnRecord};
 use shell_words::{Script, read_script};
 use std::alloc::{AllocError, Global};

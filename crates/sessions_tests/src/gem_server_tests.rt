@@ -1,7 +1,7 @@
 ghost use Rattle.std.specs.Prelude.{None};
 
-use super::*;
 use gem_io::{Failed, MemSink, MemSource, Sink};
+use gem_server::{Ended, Status, gemstone};
 use std::alloc::{AllocError, Global};
 use std::test::Fail;
 
@@ -30,44 +30,45 @@ fn not_always_no_memory(rt: HostRuntime) -> Result<(), Fail> {
     Ok(())
 }
 
+const REPORTS: [(&str, &str); 9] = [
+    (
+        "session DataCurator\nprintit\n3 + 4 * 2\n%\n",
+        "session 1 DataCurator\n[0] login view 0\n[1] 14\n[2] logout\ncommits 0\n",
+    ),
+    ("", "commits 0\n"),
+    (
+        "session DataCurator\nrun\nGlobals at: #T put: 2 + 3\n%\ncommit\nsession DataCurator\nprintit\nT * T\n%\ncommit\n",
+        "session 1 DataCurator\n[0] login view 0\n[1] ok\n[2] committed 1 view 1\n[3] logout\nsession 2 DataCurator\n[0] login view 1\n[1] 25\n[2] committed unchanged at 1 view 1\n[3] logout\ncommits 1\n1 session 1 transaction 1 view 0\n",
+    ),
+    (
+        "session DataCurator\nrun\nGlobals at: #T put: 3. 1152921504606846975 + 1\n%\ncommit\nprintit\nT\n%\n",
+        "session 1 DataCurator\n[0] login view 0\n[1] error E6 integer range\n[2] committed 1 view 1\n[3] 3\n[4] logout\ncommits 1\n1 session 1 transaction 1 view 0\n",
+    ),
+    (
+        "session Nobody\ncommit\n",
+        "session 1 Nobody\n[0] no user at view 0\n[1] not logged in\n[2] not logged in\ncommits 0\n",
+    ),
+    (
+        "session DataCurator\nrun\nGlobals at: #T put: 1\n%\ncommit\nsession Nobody\nprintit\nT\n%\nlogout\n",
+        "session 1 DataCurator\n[0] login view 0\n[1] ok\n[2] committed 1 view 1\n[3] logout\nsession 2 Nobody\n[0] no user at view 1\n[1] not logged in\n[2] not logged in\ncommits 1\n1 session 1 transaction 1 view 0\n",
+    ),
+    (
+        "session DataCurator\nprintit\n3 - -4\n%\nrun\nGlobals at: #T:u: put: 3\n%\nrun\nGlobals at: #Array put: 3\n%\nrun\nGlobals at: #t put: 3\n%\ncommit\n",
+        "session 1 DataCurator\n[0] login view 0\n[1] not built\n[2] not built\n[3] not built\n[4] not built\n[5] committed unchanged at 0 view 0\n[6] logout\ncommits 0\n",
+    ),
+    (
+        "session DataCurator\nprintit\n3 +\n%\nprintit\n3 + 4 max: 9\n%\nlock read T\nlogout\n",
+        "session 1 DataCurator\n[0] login view 0\n[1] parse P4 at 4\n[2] not built\n[3] not built\n[4] logout\ncommits 0\n",
+    ),
+    (
+        "session DataCurator\nrun\nGlobals at: #T put: 1\n%\nabort\nprintit\nT\n%\nrun\nGlobals at: #T put: 1. Globals at: #T put: T + 1\n%\ncommit\nprintit\n(T + 1) * (T - 4)\n%",
+        "session 1 DataCurator\n[0] login view 0\n[1] ok\n[2] aborted view 0\n[3] error E2 undefined variable: T\n[4] ok\n[5] committed 1 view 1\n[6] -6\n[7] logout\ncommits 1\n1 session 1 transaction 2 view 0\n",
+    ),
+];
+
 #[test]
 fn scripts_and_their_reports(rt: HostRuntime) -> Result<(), Fail> {
-    let cases = [
-        (
-            "session DataCurator\nprintit\n3 + 4 * 2\n%\n",
-            "session 1 DataCurator\n[0] login view 0\n[1] 14\n[2] logout\ncommits 0\n",
-        ),
-        ("", "commits 0\n"),
-        (
-            "session DataCurator\nrun\nGlobals at: #T put: 2 + 3\n%\ncommit\nsession DataCurator\nprintit\nT * T\n%\ncommit\n",
-            "session 1 DataCurator\n[0] login view 0\n[1] ok\n[2] committed 1 view 1\n[3] logout\nsession 2 DataCurator\n[0] login view 1\n[1] 25\n[2] committed unchanged at 1 view 1\n[3] logout\ncommits 1\n1 session 1 transaction 1 view 0\n",
-        ),
-        (
-            "session DataCurator\nrun\nGlobals at: #T put: 3. 1152921504606846975 + 1\n%\ncommit\nprintit\nT\n%\n",
-            "session 1 DataCurator\n[0] login view 0\n[1] error E6 integer range\n[2] committed 1 view 1\n[3] 3\n[4] logout\ncommits 1\n1 session 1 transaction 1 view 0\n",
-        ),
-        (
-            "session Nobody\ncommit\n",
-            "session 1 Nobody\n[0] no user at view 0\n[1] not logged in\n[2] not logged in\ncommits 0\n",
-        ),
-        (
-            "session DataCurator\nrun\nGlobals at: #T put: 1\n%\ncommit\nsession Nobody\nprintit\nT\n%\nlogout\n",
-            "session 1 DataCurator\n[0] login view 0\n[1] ok\n[2] committed 1 view 1\n[3] logout\nsession 2 Nobody\n[0] no user at view 1\n[1] not logged in\n[2] not logged in\ncommits 1\n1 session 1 transaction 1 view 0\n",
-        ),
-        (
-            "session DataCurator\nprintit\n3 - -4\n%\nrun\nGlobals at: #T:u: put: 3\n%\nrun\nGlobals at: #Array put: 3\n%\nrun\nGlobals at: #t put: 3\n%\ncommit\n",
-            "session 1 DataCurator\n[0] login view 0\n[1] not built\n[2] not built\n[3] not built\n[4] not built\n[5] committed unchanged at 0 view 0\n[6] logout\ncommits 0\n",
-        ),
-        (
-            "session DataCurator\nprintit\n3 +\n%\nprintit\n3 + 4 max: 9\n%\nlock read T\nlogout\n",
-            "session 1 DataCurator\n[0] login view 0\n[1] parse P4 at 4\n[2] not built\n[3] not built\n[4] logout\ncommits 0\n",
-        ),
-        (
-            "session DataCurator\nrun\nGlobals at: #T put: 1\n%\nabort\nprintit\nT\n%\nrun\nGlobals at: #T put: 1. Globals at: #T put: T + 1\n%\ncommit\nprintit\n(T + 1) * (T - 4)\n%",
-            "session 1 DataCurator\n[0] login view 0\n[1] ok\n[2] aborted view 0\n[3] error E2 undefined variable: T\n[4] ok\n[5] committed 1 view 1\n[6] -6\n[7] logout\ncommits 1\n1 session 1 transaction 2 view 0\n",
-        ),
-    ];
-    for (script, report) in cases {
+    for (script, report) in REPORTS {
         let (ended, sink) = served(rt.alloc(), script.as_bytes())?;
         assert_eq!(rt; ended.status, Status::Done, "{script}");
         assert_eq!(rt; sink.written(), report.as_bytes(), "{script}");
@@ -93,16 +94,17 @@ fn book_and_events(rt: HostRuntime) -> Result<(), Fail> {
     Ok(())
 }
 
+const NO_SCRIPTS: [(&str, u32, u8); 5] = [
+    ("session DataCurator\nrun\n3\n", 2, 3),
+    ("checkpoint\n", 1, 1),
+    ("commit\n", 1, 2),
+    ("\nsession 2nd\n", 2, 6),
+    ("session DataCurator\nrun\n\u{7f}\n%\n", 3, 8),
+];
+
 #[test]
 fn texts_that_are_no_script(rt: HostRuntime) -> Result<(), Fail> {
-    let cases = [
-        ("session DataCurator\nrun\n3\n", 2, 3),
-        ("checkpoint\n", 1, 1),
-        ("commit\n", 1, 2),
-        ("\nsession 2nd\n", 2, 6),
-        ("session DataCurator\nrun\n\u{7f}\n%\n", 3, 8),
-    ];
-    for (script, line, rule) in cases {
+    for (script, line, rule) in NO_SCRIPTS {
         let (ended, sink) = served(rt.alloc(), script.as_bytes())?;
         assert_eq!(rt; ended.status, Status::Script { line, rule }, "{script}");
         assert_eq!(rt; sink.written(), b"".as_slice(), "{script}");

@@ -1,5 +1,5 @@
-use Rattle.gem_session.proofs.Overtaken.{second_came}
-use Rattle.gem_session.proofs.tests.run_second.Goals as goal
+use Rattle.sessions_tests.proofs.Overtaken.{second_came}
+use Rattle.sessions_tests.proofs.gem_session_tests.run_second.Goals as goal
 
 pub returns-in-len2-clause-came : goal.returns-in-len2-clause-came
 returns-in-len2-clause-came c =
