@@ -8,8 +8,6 @@ mod form;
 pub mod laws;
 mod operation;
 mod state;
-#[cfg(test)]
-mod tests;
 
 pub use evaluator::{EvaluationError, plain_run};
 pub use event::What;

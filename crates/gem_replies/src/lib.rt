@@ -5,8 +5,6 @@
 pub mod laws;
 mod reply;
 mod report;
-#[cfg(test)]
-mod tests;
 
 pub use reply::{Line, Replies, Reply, RunBook, Transcript, Transcripts};
 pub use report::report_text;

@@ -7,8 +7,6 @@ mod output;
 mod run;
 mod server;
 mod status;
-#[cfg(test)]
-mod tests;
 
 pub use server::{gemstone, serve_text};
 pub use status::{Ended, Events, Served, Status};

@@ -1,4 +1,4 @@
-mod Others
+pub mod Others
 mod Between
 mod Newest
 mod Steps
@@ -8,4 +8,3 @@ mod Serving
 mod Refusals
 mod Logins
 mod Limits
-mod Overtaken

@@ -7,7 +7,5 @@
 mod run;
 mod running;
 mod session;
-#[cfg(test)]
-mod tests;
 
 pub use run::run_session;

@@ -8,8 +8,6 @@ pub mod laws;
 mod oid;
 mod record;
 mod sequence;
-#[cfg(test)]
-mod tests;
 
 pub use conflict::{Conflict, ConflictKind, Conflicts};
 pub use image::Image;

@@ -6,8 +6,6 @@ pub mod laws;
 mod lock;
 mod locks;
 mod search;
-#[cfg(test)]
-mod tests;
 
 pub use lock::{Asked, Holding, LockKind};
 pub use locks::Locks;

@@ -8,6 +8,3 @@ mod prims;
 
 pub use ops::{Op, Row, Table, byte_of, op_table, row_of};
 pub use prims::{Kind, PrimRow, prim_row};
-
-#[cfg(test)]
-mod tests;

@@ -10,8 +10,6 @@ mod bag;
 mod counter;
 pub mod laws;
 mod pairs;
-#[cfg(test)]
-mod tests;
 mod update;
 
 pub use bag::Bag;

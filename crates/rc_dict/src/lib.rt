@@ -9,8 +9,6 @@
 mod dict;
 pub mod laws;
 mod pairs;
-#[cfg(test)]
-mod tests;
 mod update;
 
 pub use dict::KeyDict;

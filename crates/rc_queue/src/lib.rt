@@ -9,8 +9,6 @@
 
 pub mod laws;
 mod queue;
-#[cfg(test)]
-mod tests;
 mod update;
 
 pub use queue::Queue;

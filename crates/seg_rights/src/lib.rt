@@ -6,8 +6,6 @@ mod groups;
 pub mod laws;
 mod right;
 mod rights;
-#[cfg(test)]
-mod tests;
 
 pub use groups::Groups;
 pub use right::{Right, may_read, may_write};

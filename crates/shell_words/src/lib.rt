@@ -9,8 +9,6 @@ mod reading;
 mod rule;
 mod script;
 mod table;
-#[cfg(test)]
-mod tests;
 
 pub use fault::ScriptFault;
 pub use profile::{CHUNK_LIMIT, SCRIPT_LIMIT, SESSION_LIMIT, USER_LIMIT};

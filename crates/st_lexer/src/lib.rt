@@ -7,8 +7,6 @@ mod lex;
 mod numbers;
 mod pieces;
 mod quotes;
-#[cfg(test)]
-mod tests;
 mod token_values;
 mod words;
 

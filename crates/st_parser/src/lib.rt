@@ -11,8 +11,6 @@ mod parse;
 mod reader;
 mod scopes;
 mod stops;
-#[cfg(test)]
-mod tests;
 
 pub use faults::ParseFault;
 pub use parse::{parse_chunk, parse_method};

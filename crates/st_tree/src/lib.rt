@@ -6,7 +6,5 @@
 
 mod clones;
 mod nodes;
-#[cfg(test)]
-mod tests;
 
 pub use nodes::{BlockTree, Expr, Literal, Literals, Message, Primary, Stat, Tree};

@@ -3,5 +3,3 @@ pub mod Apart
 pub mod Later
 pub mod Alone
 pub mod Calls
-pub mod Nothing
-pub mod Setting

@@ -7,9 +7,6 @@ ghost use Rattle.gem_meaning.specs.Serial.{IsRecorded, IsConsistent};
 ghost use Rattle.stone_core.specs.Stone.{most_at_opening};
 ghost use Rattle.stone_core.specs.Port.{event_of_answer, IsUnchangedRecord, conflicts_of_record, AnswerFits};
 
-#[cfg(test)]
-mod tests;
-
 use crate::port::{Begun, CommitAnswer, StonePort};
 use gem_meaning::What;
 use gem_value::{Conflict, ConflictKind, Conflicts, Entry, History, Image, Oid, TxnRecord};

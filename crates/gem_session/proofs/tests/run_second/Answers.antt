@@ -1,7 +1,0 @@
-use Rattle.gem_session.proofs.Overtaken.{second_came}
-use Rattle.gem_session.proofs.tests.run_second.Goals as goal
-
-pub returns-in-len2-clause-came : goal.returns-in-len2-clause-came
-returns-in-len2-clause-came c =
-    second_came c.args.stone.now c.run_session-transcript.new.port
-    c.run_session-transcript.ensures.port

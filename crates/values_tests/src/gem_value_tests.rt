@@ -1,0 +1,153 @@
+ghost use Rattle.std.specs.Prelude.{IfOk};
+ghost use Rattle.gem_value.specs.Writes.{IsInNameOrder};
+
+use gem_value::{Conflict, ConflictKind, Conflicts, Entry, Image, Oid, TxnRecord, Writes};
+use std::alloc::{AllocError, Global};
+use std::test::Fail;
+use texts::Text;
+
+#[test]
+fn names_of_objects(rt: HostRuntime) -> Result<(), Fail> {
+    let rows = [
+        (Oid::from_parts(1, 2), 1, 2, 16_777_218, "1:2"),
+        (Oid::from_parts(0, 27), 0, 27, 27, "0:27"),
+        (
+            Oid::from_parts(16_777_215, 16_777_215),
+            16_777_215,
+            16_777_215,
+            281_474_976_710_655,
+            "16777215:16777215",
+        ),
+    ];
+    for (oid, serial, counter, number, text) in rows {
+        assert_eq!(rt; oid.number(), number);
+        assert_eq!(rt; Oid::of(number), Some(oid));
+        assert_eq!(rt; oid.serial(), serial);
+        assert_eq!(rt; oid.counter(), counter);
+        assert_eq!(rt; format!(in rt.alloc(); "{oid}")?.as_str(), text);
+    }
+    assert_eq!(rt; Oid::of(281_474_976_710_656), None);
+    Ok(())
+}
+
+#[test]
+fn kinds_of_conflict(rt: HostRuntime) {
+    let kinds = [
+        (1, ConflictKind::WriteWrite),
+        (2, ConflictKind::ReadWrite),
+        (3, ConflictKind::WriteReadLock),
+        (4, ConflictKind::WriteWriteLock),
+        (5, ConflictKind::CounterRange),
+        (6, ConflictKind::BagRemove),
+        (7, ConflictKind::DictionaryKey),
+        (8, ConflictKind::QueueRemove),
+    ];
+    for (number, kind) in kinds {
+        assert_eq!(rt; kind.number(), number);
+        assert_eq!(rt; kind > ConflictKind::CounterRange, number > 5);
+    }
+}
+
+#[test]
+fn globals(rt: HostRuntime) -> Result<(), Fail> {
+    let alloc = rt.alloc();
+    let empty = Image::empty(alloc)?;
+    assert_eq!(rt; empty.look_name(b"T"), None);
+    let first = empty.with_name(alloc, b"T", 5)?;
+    let second = first.with_name(alloc, b"Total", -7)?;
+    let third = second.with_name(alloc, b"T", 3)?;
+    let shared = third.share()?;
+    for (image, t, total) in [
+        (&empty, None, None),
+        (&first, Some(5), None),
+        (&second, Some(5), Some(-7)),
+        (&third, Some(3), Some(-7)),
+        (&shared, Some(3), Some(-7)),
+    ] {
+        assert_eq!(rt; image.look_name(b"T"), t);
+        assert_eq!(rt; image.look_name(b"Total"), total);
+        assert_eq!(rt; image.look_name(b"t"), None);
+    }
+    Ok(())
+}
+
+#[tactic(auto, using(gem_value::proofs::InOrder::one_in_order))]
+fn one_write(alloc: Global, name: &[u8], value: i64) -> Result<Vec<(Text, i64)>, AllocError>
+    ensures { IfOk result (λ entries. IsInNameOrder entries.items) }
+{
+    let mut entries = Vec::new(alloc);
+    entries.push((Text::of(Vec::from_slice(alloc, name)?), value))?;
+    Ok(entries)
+}
+
+#[test]
+fn record_of_a_transaction(rt: HostRuntime) -> Result<(), Fail> {
+    let record = TxnRecord {
+        session: 1,
+        transaction: 2,
+        first_command: 3,
+        last_command: 4,
+        view: 5,
+        written: Writes::of(one_write(rt.alloc(), b"T", 3)?),
+    };
+    assert_eq!(rt;
+        record.entry(),
+        Entry {
+            session: 1,
+            transaction: 2,
+            first_command: 3,
+            last_command: 4,
+            view: 5
+        }
+    );
+    assert_eq!(rt; record.written.as_slice().len(), 1);
+    for (name, value) in record.written.into_entries() {
+        assert!(rt; name.bytes() == b"T".as_slice());
+        assert_eq!(rt; value, 3);
+    }
+    Ok(())
+}
+
+#[test]
+fn lists(rt: HostRuntime) -> Result<(), Fail> {
+    let conflict = Conflict {
+        oid: Oid::from_parts(0, 5),
+        kind: ConflictKind::WriteWrite,
+        shown: 7,
+    };
+    let conflicts = Conflicts::of(vec![in rt.alloc(); conflict, conflict]?);
+    assert!(rt; conflicts.as_slice() == [conflict, conflict].as_slice());
+    assert_eq!(rt; conflicts.into_items().len(), 2);
+    Ok(())
+}
+
+#[test]
+fn all_writes_of_a_transaction(rt: HostRuntime) -> Result<(), Fail> {
+    let alloc = rt.alloc();
+    let image = Image::empty(alloc)?
+        .with_name(alloc, b"T", 5)?
+        .with_name(alloc, b"Total", -7)?;
+    let written = Writes::of(one_write(alloc, b"T", 3)?);
+    let after = image.with_writes(alloc, &written)?;
+    assert_eq!(rt; after.look_name(b"T"), Some(3));
+    assert_eq!(rt; after.look_name(b"Total"), Some(-7));
+    assert_eq!(rt; image.look_name(b"T"), Some(5));
+    Ok(())
+}
+
+#[test]
+fn changes_of_a_list(rt: HostRuntime) -> Result<(), Fail> {
+    let alloc = rt.alloc();
+    let mut list = Sequence::of(vec![in alloc; 10, 20, 30]?);
+    list.set(1, 21);
+    list.push(40)?;
+    list.insert(0, 5)?;
+    assert_eq!(rt; list.as_slice(), [5, 10, 21, 30, 40].as_slice());
+    assert_eq!(rt; list.pop(), Some(40));
+    assert_eq!(rt; list.remove(1), 10);
+    let copy = list.try_clone()?;
+    assert!(rt; copy.len() == 3 && !copy.is_empty());
+    let mut left = copy.into_items();
+    assert_eq!(rt; left.pop(), Some(30));
+    Ok(())
+}
