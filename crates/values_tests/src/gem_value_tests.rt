@@ -1,7 +1,9 @@
 ghost use Rattle.std.specs.Prelude.{IfOk};
 ghost use Rattle.gem_value.specs.Writes.{IsInNameOrder};
 
-use gem_value::{Conflict, ConflictKind, Conflicts, Entry, Image, Oid, TxnRecord, Writes};
+use gem_value::{
+    Conflict, ConflictKind, Conflicts, Entry, Image, Oid, Sequence, TxnRecord, Writes,
+};
 use std::alloc::{AllocError, Global};
 use std::test::Fail;
 use texts::Text;
