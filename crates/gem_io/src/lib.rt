@@ -15,6 +15,3 @@ pub use device::{Failed, Sink, Source};
 pub use memory::{MemSink, MemSource};
 pub use standard::{StdSink, StdSource};
 pub use sure::{SureSink, SureSource};
-
-#[cfg(test)]
-mod tests;

@@ -4,7 +4,5 @@
 
 pub mod laws;
 mod map;
-#[cfg(test)]
-mod tests;
 
 pub use map::InsertionMap;

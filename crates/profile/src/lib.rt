@@ -4,8 +4,6 @@
 mod integers;
 mod kernel;
 mod limits;
-#[cfg(test)]
-mod tests;
 
 pub use integers::{INTEGER_LIMIT, LARGEST_INTEGER, SMALLEST_INTEGER, is_small_integer};
 pub use kernel::{

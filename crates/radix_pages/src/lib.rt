@@ -9,8 +9,6 @@ mod node;
 mod pages;
 mod set;
 mod steps;
-#[cfg(test)]
-mod tests;
 
 pub use pages::Pages;
 pub use steps::Steps;

@@ -3,7 +3,5 @@
 #![tactic(auto)]
 
 mod search;
-#[cfg(test)]
-mod tests;
 
 pub use search::{ascend, place};

@@ -2,8 +2,6 @@
 #![tactic(auto)]
 
 mod name_bytes;
-#[cfg(test)]
-mod tests;
 mod text;
 
 pub use name_bytes::{are_name_bytes, is_name_byte, starts_name};

@@ -1,5 +1,5 @@
 // The devices, one by one.
-use super::*;
+use gem_io::{Failed, MemSink, MemSource, Sink, Source, StdSink, StdSource, SureSink, SureSource};
 use std::io::{Error, ErrorKind, Read, Write};
 use std::test::Fail;
 
@@ -24,22 +24,37 @@ impl Write for Gone {
 }
 
 #[test]
-fn memory_fails_in_the_chosen_calls(rt: HostRuntime) -> Result<(), Fail> {
+fn source_fails_in_the_chosen_calls(rt: HostRuntime) -> Result<(), Fail> {
     let alloc = rt.alloc();
     let mut source = MemSource::new(b"abcde".to_vec(alloc)?, vec![in alloc; 2]?);
     let mut out = [0u8; 3];
-    assert_eq!(rt; source.pull(&mut out), Ok(3));
-    assert_eq!(rt; out, *b"abc");
-    assert_eq!(rt; source.pull(&mut out), Err(Failed));
-    assert_eq!(rt; source.pull(&mut out), Ok(2));
-    assert_eq!(rt; &out[..2], b"de".as_slice());
-    assert_eq!(rt; source.pull(&mut out), Ok(0));
+    // What each call answers, and what the buffer then holds.
+    let calls = [
+        (Ok(3), *b"abc"),
+        (Err(Failed), *b"abc"),
+        (Ok(2), *b"dec"),
+        (Ok(0), *b"dec"),
+    ];
+    for (answer, held) in calls {
+        assert_eq!(rt; source.pull(&mut out), answer);
+        assert_eq!(rt; out, held);
+    }
+    Ok(())
+}
 
+#[test]
+fn sink_fails_in_the_chosen_calls(rt: HostRuntime) -> Result<(), Fail> {
+    let alloc = rt.alloc();
     let mut sink = MemSink::new(vec![in alloc; 1, 3]?);
-    assert_eq!(rt; sink.put(b"lost"), Err(Failed));
-    assert_eq!(rt; sink.put(b"kept"), Ok(4));
-    assert_eq!(rt; sink.put(b"lost"), Err(Failed));
-    assert_eq!(rt; sink.put(b", too"), Ok(5));
+    let calls: [(&[u8], Result<usize, Failed>); 4] = [
+        (b"lost", Err(Failed)),
+        (b"kept", Ok(4)),
+        (b"lost", Err(Failed)),
+        (b", too", Ok(5)),
+    ];
+    for (piece, answer) in calls {
+        assert_eq!(rt; sink.put(piece), answer);
+    }
     assert_eq!(rt; sink.written(), b"kept, too".as_slice());
     assert_eq!(rt; sink.starved(), 0);
     Ok(())

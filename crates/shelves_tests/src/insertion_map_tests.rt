@@ -1,24 +1,7 @@
 // A table of edits, and the calls of a map.
-use super::*;
-use std::alloc::Global;
+use insertion_map::InsertionMap;
+use std::alloc::{AllocError, Global};
 use std::test::Fail;
-
-#[derive(Clone, Debug, PartialEq, Eq, Hash, Drop)]
-struct Name {
-    letter: char,
-}
-
-const fn named(letter: char) -> Name {
-    Name { letter }
-}
-
-fn pairs(alloc: Global, entries: &[(char, u32)]) -> Result<Vec<(Name, u32)>, Fail> {
-    let mut pairs = Vec::new(alloc);
-    for &(letter, value) in entries {
-        pairs.push((Name { letter }, value))?;
-    }
-    Ok(pairs)
-}
 
 #[derive(Clone, Copy, Drop)]
 enum Edit {
@@ -63,44 +46,62 @@ fn edits(rt: HostRuntime) -> Result<(), Fail> {
         &[('b', 1), ('a', 2)], Edit::Remove('c') => None, &[('b', 1), ('a', 2)];
     };
     for (number, case) in cases.iter().enumerate() {
-        let Some(mut map) = InsertionMap::of_pairs(alloc, pairs(alloc, case.map)?)? else {
+        let Some(mut map) = InsertionMap::of_pairs(alloc, case.map.to_vec(alloc)?)? else {
             panic!(rt; "the map of case {number}");
         };
         let had = match case.edit {
-            Edit::Put(letter, value) => map.put(named(letter), value)?,
-            Edit::Remove(letter) => map.remove(&named(letter)),
+            Edit::Put(letter, value) => map.put(letter, value)?,
+            Edit::Remove(letter) => map.remove(&letter),
         };
         assert_eq!(rt; had, case.had, "case {number}");
         assert_eq!(rt; map.len(), case.want.len(), "case {number}");
         for (at, &(letter, value)) in case.want.iter().enumerate() {
-            assert_eq!(rt;
-                map.pair(at),
-                Some((&named(letter), &value)),
-                "case {number}"
-            );
+            assert_eq!(rt; map.pair(at), Some((&letter, &value)), "case {number}");
         }
     }
     Ok(())
 }
 
 #[test]
-fn calls(rt: HostRuntime) -> Result<(), Fail> {
+fn a_key_twice(rt: HostRuntime) -> Result<(), Fail> {
     let alloc = rt.alloc();
-    let twice = pairs(alloc, &[('a', 1), ('b', 2), ('a', 1)])?;
+    let twice = [('a', 1), ('b', 2), ('a', 1)].to_vec(alloc)?;
     assert!(rt; InsertionMap::of_pairs(alloc, twice)?.is_none());
+    Ok(())
+}
+
+// The map of `b` and then `a`.
+fn two_pairs(alloc: Global) -> Result<InsertionMap<char, u32>, AllocError> {
     let mut map = InsertionMap::new(alloc);
-    assert!(rt; map.is_empty());
-    map.put(named('b'), 1)?;
-    map.put(named('a'), 2)?;
-    assert!(rt; !map.is_empty());
-    assert_eq!(rt; map.get(&named('a')), Some(&2));
-    assert_eq!(rt; map.get(&named('c')), None);
-    assert!(rt; map.contains_key(&named('b')));
-    assert!(rt; !map.contains_key(&named('c')));
+    map.put('b', 1)?;
+    map.put('a', 2)?;
+    Ok(map)
+}
+
+#[test]
+fn finds_keys(rt: HostRuntime) -> Result<(), Fail> {
+    let map = two_pairs(rt.alloc())?;
+    for (key, value) in [('b', Some(&1)), ('a', Some(&2)), ('c', None)] {
+        assert_eq!(rt; map.get(&key), value);
+        assert_eq!(rt; map.contains_key(&key), value.is_some());
+    }
     assert_eq!(rt; map.pair(2), None);
+    Ok(())
+}
+
+#[test]
+fn says_whether_it_is_empty(rt: HostRuntime) -> Result<(), Fail> {
+    assert!(rt; InsertionMap::<char, u32>::new(rt.alloc()).is_empty());
+    assert!(rt; !two_pairs(rt.alloc())?.is_empty());
+    Ok(())
+}
+
+#[test]
+fn a_copy_stays(rt: HostRuntime) -> Result<(), Fail> {
+    let mut map = two_pairs(rt.alloc())?;
     let copy = map.try_clone()?;
-    map.remove(&named('b'));
-    assert_eq!(rt; copy.pair(0), Some((&named('b'), &1)));
-    assert_eq!(rt; map.pair(0), Some((&named('a'), &2)));
+    map.remove(&'b');
+    assert_eq!(rt; copy.pair(0), Some((&'b', &1)));
+    assert_eq!(rt; map.pair(0), Some((&'a', &2)));
     Ok(())
 }

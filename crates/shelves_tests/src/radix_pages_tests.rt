@@ -2,7 +2,7 @@
 //! size at which each level of the tree is used.
 ghost use Rattle.std.specs.Prelude.{◌≡◌, ◌+◌, ◌*◌, ◌^◌, ◌<◌, ◌≤◌};
 
-use super::*;
+use radix_pages::{Pages, Steps};
 use std::alloc::{AllocError, Global};
 use std::marker::Brand;
 use std::process::Abort;

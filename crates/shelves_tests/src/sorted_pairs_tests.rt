@@ -1,5 +1,5 @@
 // Places among three pairs, and what ascends.
-use super::*;
+use sorted_pairs::{ascend, place};
 
 #[test]
 fn places(rt: HostRuntime) {

@@ -1,7 +1,7 @@
 //! Texts that are made, compared and copied.
-use crate::{Text, are_name_bytes, is_name_byte, starts_name};
 use std::cmp::Ordering;
 use std::test::Fail;
+use texts::{Text, are_name_bytes, is_name_byte, starts_name};
 
 #[test]
 fn orders_texts_by_their_bytes(rt: HostRuntime) -> Result<(), Fail> {

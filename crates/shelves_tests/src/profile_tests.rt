@@ -1,5 +1,5 @@
 //! The ends of the integers, and names on both sides.
-use crate::{is_kernel_name, is_small_integer};
+use profile::{is_kernel_name, is_small_integer};
 use std::test::Fail;
 
 #[test]
