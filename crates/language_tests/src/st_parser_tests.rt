@@ -13,59 +13,60 @@ fn fault_of(parsed: Result<Tree, ParseFault>) -> Option<(u32, u8)> {
 }
 
 // Where chunks fail, and by which rule.
+const CHUNKS: [(&[u8], Option<(u32, u8)>); 43] = [
+    (b"", None),
+    (b"3 + }", Some((4, 1))),
+    (b"3 + 'it", Some((4, 2))),
+    (b"$", Some((0, 2))),
+    (b"1152921504606846976", Some((0, 3))),
+    (b"-1152921504606846975", None),
+    (b"3 + } + ] foo", Some((4, 1))),
+    (b"3 +\n", Some((4, 4))),
+    (b"(3 + [4", Some((7, 5))),
+    (b"[3 + (4", Some((7, 6))),
+    (b"(3 + [4)", Some((7, 5))),
+    (b"3 + 4 max: 9", None),
+    (b"3 +", Some((3, 4))),
+    (b"3 + - 4", Some((6, 4))),
+    (b"3 - -4", None),
+    (b"3--4", None),
+    (b"#(--3)", None),
+    (b"3 + -", Some((5, 4))),
+    (b"super := 3", Some((6, 8))),
+    (b"super", Some((5, 4))),
+    (b"super foo; bar: 3 - 4; + 4", None),
+    (b"| a a | a", Some((4, 7))),
+    (b"[:x]", None),
+    (b"[:x | x + 1. ^x. ]", None),
+    (b"[ 3 )", Some((4, 5))),
+    (b"( 3 ]", Some((4, 6))),
+    (b"([3", Some((3, 5))),
+    (b"#(1 -2 - 3 a b:c: d: + | (x nil) #(true) 'a')", None),
+    (b"#(1 ]", Some((4, 6))),
+    (b"[ + ]", Some((2, 5))),
+    (
+        b"a := b := 3 foo: 4 + 5 bar: [:y :z | | t | t := y. t]",
+        None,
+    ),
+    (b"[:x | x := 3]", Some((8, 8))),
+    (b"[:x | [:y | x := 3]]", Some((14, 8))),
+    (b"[:x | [:y :y | y]]", Some((11, 7))),
+    (b"[:x | | x | x]", Some((8, 7))),
+    (b"[:x | [:x | x]]", None),
+    (b"| t | [t := 3. | u | u]", Some((15, 5))),
+    (b"#(1 (2 $a", Some((9, 6))),
+    (b"^3. 4", Some((4, 4))),
+    (b"[^3. 4]", Some((5, 5))),
+    (b"x foo: 3; bar baz", Some((14, 4))),
+    (b"3 ; foo", Some((2, 4))),
+    (b"(a) := 3", Some((4, 4))),
+];
+
 #[test]
 fn faults(rt: HostRuntime) -> Result<(), Fail> {
-    let table: [(&[u8], Option<(u32, u8)>); 43] = [
-        (b"", None),
-        (b"3 + }", Some((4, 1))),
-        (b"3 + 'it", Some((4, 2))),
-        (b"$", Some((0, 2))),
-        (b"1152921504606846976", Some((0, 3))),
-        (b"-1152921504606846975", None),
-        (b"3 + } + ] foo", Some((4, 1))),
-        (b"3 +\n", Some((4, 4))),
-        (b"(3 + [4", Some((7, 5))),
-        (b"[3 + (4", Some((7, 6))),
-        (b"(3 + [4)", Some((7, 5))),
-        (b"3 + 4 max: 9", None),
-        (b"3 +", Some((3, 4))),
-        (b"3 + - 4", Some((6, 4))),
-        (b"3 - -4", None),
-        (b"3--4", None),
-        (b"#(--3)", None),
-        (b"3 + -", Some((5, 4))),
-        (b"super := 3", Some((6, 8))),
-        (b"super", Some((5, 4))),
-        (b"super foo; bar: 3 - 4; + 4", None),
-        (b"| a a | a", Some((4, 7))),
-        (b"[:x]", None),
-        (b"[:x | x + 1. ^x. ]", None),
-        (b"[ 3 )", Some((4, 5))),
-        (b"( 3 ]", Some((4, 6))),
-        (b"([3", Some((3, 5))),
-        (b"#(1 -2 - 3 a b:c: d: + | (x nil) #(true) 'a')", None),
-        (b"#(1 ]", Some((4, 6))),
-        (b"[ + ]", Some((2, 5))),
-        (
-            b"a := b := 3 foo: 4 + 5 bar: [:y :z | | t | t := y. t]",
-            None,
-        ),
-        (b"[:x | x := 3]", Some((8, 8))),
-        (b"[:x | [:y | x := 3]]", Some((14, 8))),
-        (b"[:x | [:y :y | y]]", Some((11, 7))),
-        (b"[:x | | x | x]", Some((8, 7))),
-        (b"[:x | [:x | x]]", None),
-        (b"| t | [t := 3. | u | u]", Some((15, 5))),
-        (b"#(1 (2 $a", Some((9, 6))),
-        (b"^3. 4", Some((4, 4))),
-        (b"[^3. 4]", Some((5, 5))),
-        (b"x foo: 3; bar baz", Some((14, 4))),
-        (b"3 ; foo", Some((2, 4))),
-        (b"(a) := 3", Some((4, 4))),
-    ];
-    for (text, wanted) in &table {
+    for (text, wanted) in CHUNKS {
         assert!(rt; text.len() < 10_000);
-        assert_eq!(rt; fault_of(parse_chunk(rt.alloc(), text)), *wanted);
+        assert_eq!(rt; fault_of(parse_chunk(rt.alloc(), text)), wanted);
     }
     Ok(())
 }
@@ -174,28 +175,29 @@ fn arrays_and_cascades(rt: HostRuntime) -> Result<(), Fail> {
 }
 
 // Methods of each form of pattern, and where others fail.
+const METHODS: [(&[u8], Option<(u32, u8)>); 15] = [
+    (b"sum | a | a := 3. ^a", None),
+    (b"+ other ^self foo: other", None),
+    (b"at: i put: x [:y | y foo: i]", None),
+    (b"at: i put: i ^i", Some((11, 7))),
+    (b"at: i put: x [:y | y := i]", Some((21, 8))),
+    (b"", Some((0, 4))),
+    (b"3", Some((0, 4))),
+    (b"foo: 3", Some((5, 4))),
+    (b"foo := 3", Some((4, 4))),
+    (b"foo: x bar:", Some((11, 4))),
+    (b"+ self", Some((2, 7))),
+    (b"foo: a | a |", Some((9, 7))),
+    (b"foo: a a := 3", Some((9, 8))),
+    (b"| x ^self or: [x]", None),
+    (b"| x | y | y", None),
+];
+
 #[test]
 fn methods(rt: HostRuntime) -> Result<(), Fail> {
-    let table: [(&[u8], Option<(u32, u8)>); 15] = [
-        (b"sum | a | a := 3. ^a", None),
-        (b"+ other ^self foo: other", None),
-        (b"at: i put: x [:y | y foo: i]", None),
-        (b"at: i put: i ^i", Some((11, 7))),
-        (b"at: i put: x [:y | y := i]", Some((21, 8))),
-        (b"", Some((0, 4))),
-        (b"3", Some((0, 4))),
-        (b"foo: 3", Some((5, 4))),
-        (b"foo := 3", Some((4, 4))),
-        (b"foo: x bar:", Some((11, 4))),
-        (b"+ self", Some((2, 7))),
-        (b"foo: a | a |", Some((9, 7))),
-        (b"foo: a a := 3", Some((9, 8))),
-        (b"| x ^self or: [x]", None),
-        (b"| x | y | y", None),
-    ];
-    for (text, wanted) in &table {
+    for (text, wanted) in METHODS {
         assert!(rt; text.len() < 10_000);
-        assert_eq!(rt; fault_of(parse_method(rt.alloc(), text)), *wanted);
+        assert_eq!(rt; fault_of(parse_method(rt.alloc(), text)), wanted);
     }
     Ok(())
 }

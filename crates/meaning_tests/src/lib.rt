@@ -1,6 +1,6 @@
 //! Room: meaning. Tests the crates of the room, a file for each.
 //!
-//! No crate has tests of its own, as it would be proved once more with them.
+//! A crate that has its tests in itself is proved once more with them.
 #![tactic(auto)]
 
 #[cfg(test)]

@@ -1,6 +1,6 @@
 //! Room: sessions and server. Tests the libraries of the room, a file for each.
 //!
-//! No crate has tests of its own, as it would be proved once more with them.
+//! A crate that has its tests in itself is proved once more with them.
 #![tactic(auto)]
 
 #[cfg(test)]

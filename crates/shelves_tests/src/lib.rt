@@ -1,0 +1,17 @@
+//! Room: shelves. Tests the crates of the room, a file for each.
+//!
+//! A crate that has its tests in itself is proved once more with them.
+#![tactic(auto)]
+
+#[cfg(test)]
+mod gem_io_tests;
+#[cfg(test)]
+mod insertion_map_tests;
+#[cfg(test)]
+mod profile_tests;
+#[cfg(test)]
+mod radix_pages_tests;
+#[cfg(test)]
+mod sorted_pairs_tests;
+#[cfg(test)]
+mod texts_tests;
