@@ -1,0 +1,4 @@
+mod Agreement
+mod Given
+mod Objects
+mod Puts
