@@ -1,0 +1,3 @@
+mod Touches
+mod Shown
+mod Accesses
