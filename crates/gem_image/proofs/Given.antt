@@ -53,8 +53,8 @@ pub greatest_given : (image : Image) (user number : ℕ) (object : Object) (righ
 greatest_given image user number object rights groups here body given groups_are =
     subst (IsGreatestRight same_group rights user groups)
     (sym (on_found image user number object here
-      ∙ (in_segment image user object.segment object.body body
-      ∙ ap₂ (λ r g. right_by r user g) given groups_are)))
+    ∙ (in_segment image user object.segment object.body body
+    ∙ ap₂ (λ r g. right_by r user g) given groups_are)))
     (greatest_right-is same_group rights user groups)
 
 pub world_given : (image : Image) (user number : ℕ) (object : Object) (rights : Rights Text)

@@ -44,7 +44,7 @@ left_is (Ok _) image left number object put _ is below spelled =
     subst IsImage (sym put) (insert_is image number object is below spelled)
 left_is (Err _) image left number object _ same is below spelled = subst IsImage (sym same) is
 
-abbrev IsSpelledEntry : ℕ × Object → Type 0
+abbrev pub IsSpelledEntry : ℕ × Object → Type 0
 IsSpelledEntry entry = IsSpelled entry.1
 
 -- An image that objects are put into one after the other: what is left of them makes of it what

@@ -7,4 +7,4 @@ abbrev pub invariant-loop-oid : goal.invariant-loop-oid
 invariant-loop-oid g l =
     (into_iter_len l.oid-iterator ≡ length (into_iter_items l.oid-iterator))
     × IsUnderWay l.initial.image (into_iter_items l.initial.oid-iterator) l.initial.steps
-        l.image (into_iter_items l.oid-iterator) l.steps
+    l.image (into_iter_items l.oid-iterator) l.steps
