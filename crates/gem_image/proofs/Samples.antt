@@ -1,14 +1,12 @@
 -- The objects that the tests make have a spelling.
-use Rattle.std.proofs.Common.{◌≡◌, ◌≢◌, ◌^◌, ◌<◌, ◌+◌, ℕ, List, [], ◌∷◌, ◌++◌, length, refl, sym, ap, subst, arith}
+use Rattle.std.proofs.Common.{◌≡◌, ◌≢◌, ◌<◌, ℕ, List, [], ◌∷◌, ◌++◌, length, sym, subst, arith}
 use Rattle.std.specs.List.{All}
 use Rattle.std.specs.List.Sorted.{IsStrictlySortedBy}
 use Rattle.std.proofs.lemmas.List.Elements.{All-nil, All-cons, All-append}
 use Rattle.texts.specs.Bytes.{Bytes as Text}
 use Rattle.seg_rights.specs.declared.right.Right.{Right}
 use Rattle.seg_rights.specs.declared.right.Right.TheVariants.{None as NoRight}
-use Rattle.seg_rights.specs.declared.rights.Rights.{Rights}
-use Rattle.gem_object.specs.Spelling.{IsOid, IsText, IsSegment, IsUser, IsSpelled, Ascend}
-use Rattle.gem_object.specs.declared.body.UserBody.{UserBody}
+use Rattle.gem_object.specs.Spelling.{IsOid, IsText, IsSegment, IsSpelled, Ascend}
 use Rattle.gem_object.specs.declared.body.Body.{Body}
 use Rattle.gem_object.specs.declared.body.Body.TheVariants.{Segment, User}
 use Rattle.gem_object.specs.declared.object.Object.{Object}

@@ -135,11 +135,11 @@ impl Image {
         ensures image { IfOk result (λ image. image ≡ with_objects self.now objects.items) }
         ensures nodes { steps.new ≤ steps.old + 8 * length objects.items }
     {
-        let mut image = self.share()?;
+        let mut changed = self.share()?;
         for (oid, object) in objects {
-            image.insert(alloc, oid, object, steps)?;
+            changed.insert(alloc, oid, object, steps)?;
         }
-        Ok(image)
+        Ok(changed)
     }
 
     /// Puts the object at this name in this image alone. What no other image shares is changed in

@@ -1,4 +1,4 @@
-use Rattle.std.proofs.Common.{All, subst, sym, ap, length, ◌<◌, List}
+use Rattle.std.proofs.Common.{All, subst, sym, length, ◌<◌, List}
 use Rattle.texts.specs.Bytes.{Bytes as Text}
 use Rattle.gem_object.specs.Spelling.{IsText}
 use Rattle.gem_image.proofs.Samples.{user_is}
