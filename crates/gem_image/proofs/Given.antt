@@ -1,11 +1,10 @@
 -- The rights that are given.
-use Rattle.std.proofs.Common.{◌≡◌, ◌≢◌, ◌==◌, ℕ, Bool, List, Option, Some, None, cond, refl, sym, ap, ap₂, subst, ◌∙◌, eq-eqb}
+use Rattle.std.proofs.Common.{◌≡◌, ◌≢◌, ℕ, List, Option, Some, None, cond, refl, sym, ap, ap₂, subst, ◌∙◌, eq-eqb}
 use Rattle.std.proofs.lemmas.Bool.{ne_eqb}
 use Rattle.std.specs.FinMap.{get}
 use Rattle.texts.specs.Bytes.{Bytes as Text}
 use Rattle.seg_rights.specs.Right.{IsAtMost}
 use Rattle.seg_rights.specs.Rights.{IsGreatestRight, as_anybody}
-use Rattle.seg_rights.specs.declared.right.Right.{Right}
 use Rattle.seg_rights.specs.declared.right.Right.TheVariants as right
 use Rattle.seg_rights.specs.declared.rights.Rights.{Rights}
 use Rattle.seg_rights.proofs.Greatest.{greatest_right-is}
@@ -53,8 +52,8 @@ pub greatest_given : (image : Image) (user number : ℕ) (object : Object) (righ
 greatest_given image user number object rights groups here body given groups_are =
     subst (IsGreatestRight same_group rights user groups)
     (sym (on_found image user number object here
-      ∙ (in_segment image user object.segment object.body body
-      ∙ ap₂ (λ r g. right_by r user g) given groups_are)))
+    ∙ (in_segment image user object.segment object.body body
+    ∙ ap₂ (λ r g. right_by r user g) given groups_are)))
     (greatest_right-is same_group rights user groups)
 
 pub world_given : (image : Image) (user number : ℕ) (object : Object) (rights : Rights Text)

@@ -2,3 +2,4 @@ mod Agreement
 mod Given
 mod Objects
 mod Puts
+mod Samples

@@ -1,11 +1,11 @@
 -- What is put into an image keeps it an image.
-use Rattle.std.proofs.Common.{◌≡◌, ◌≢◌, ◌+◌, ◌*◌, ◌^◌, ◌<◌, ◌≤◌, ℕ, List, [], ◌∷◌, length, Some, None, sym, ap, subst, ◌∙◌, inl, inr, arith}
+use Rattle.std.proofs.Common.{◌≡◌, ◌+◌, ◌*◌, ◌^◌, ◌<◌, ◌≤◌, ℕ, List, ◌∷◌, length, Some, sym, ap, subst, ◌∙◌, inl, inr, arith}
 use Rattle.std.specs.Prelude.{Result, Ok, Err, OnOk, OnErr}
 use Rattle.std.specs.List.{All}
 use Rattle.std.specs.Ordering.{nat_cmp}
 use Rattle.std.specs.FinMap.{empty, get, insert, get-empty}
 use Rattle.std.proofs.lemmas.Bool.{cases_eq}
-use Rattle.std.proofs.lemmas.List.Elements.{All-head, All-tail}
+use Rattle.std.proofs.lemmas.List.Elements.{All-tail}
 use Rattle.radix_pages.proofs.Tables.{get-insert_same, get-insert_other}
 use Rattle.gem_object.specs.Spelling.{IsSpelled}
 use Rattle.gem_object.specs.declared.object.Object.{Object}
@@ -44,7 +44,7 @@ left_is (Ok _) image left number object put _ is below spelled =
     subst IsImage (sym put) (insert_is image number object is below spelled)
 left_is (Err _) image left number object _ same is below spelled = subst IsImage (sym same) is
 
-abbrev IsSpelledEntry : ℕ × Object → Type 0
+abbrev pub IsSpelledEntry : ℕ × Object → Type 0
 IsSpelledEntry entry = IsSpelled entry.1
 
 -- An image that objects are put into one after the other: what is left of them makes of it what

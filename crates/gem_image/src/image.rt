@@ -3,7 +3,7 @@ ghost use Rattle.std.specs.Prelude.{◌≡◌, ◌+◌, ◌*◌, ◌^◌, ◌≤
 ghost use Rattle.std.specs.FinMap as map;
 ghost use Rattle.radix_pages.specs.Next.{IsNext, entry_copied};
 ghost use Rattle.gem_object.specs.Spelling.{IsSpelled};
-ghost use Rattle.gem_image.specs.Image.{with_objects};
+ghost use Rattle.gem_image.specs.Image.{AreSpelled, AreNamed, with_objects};
 
 use gem_object::Object;
 use gem_value::Oid;
@@ -62,6 +62,15 @@ impl Image {
         ensures bound { result ≤ 2 ^ 48 }
     {
         self.pages.count()
+    }
+
+    /// What holds of every image: each of its objects has a spelling, and each number at which one
+    /// stands is that of a name. This does nothing at run time.
+    pub fn invariant(&self)
+        ensures spelled { AreSpelled self.now }
+        ensures named { AreNamed self.now }
+    {
+        let _pages = &self.pages;
     }
 
     /// The object whose name has the lowest number from this one on, with its name, if there is
@@ -126,11 +135,11 @@ impl Image {
         ensures image { IfOk result (λ image. image ≡ with_objects self.now objects.items) }
         ensures nodes { steps.new ≤ steps.old + 8 * length objects.items }
     {
-        let mut image = self.share()?;
+        let mut changed = self.share()?;
         for (oid, object) in objects {
-            image.insert(alloc, oid, object, steps)?;
+            changed.insert(alloc, oid, object, steps)?;
         }
-        Ok(image)
+        Ok(changed)
     }
 
     /// Puts the object at this name in this image alone. What no other image shares is changed in

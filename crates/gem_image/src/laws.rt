@@ -33,7 +33,7 @@ pub fn agreement()
     ensures objects { (image other : Image) (number : ℕ) (object found : Object) →
         map.get image number ≡ Some object → map.get other number ≡ Some found →
         (Agree image other number ↔ ((object.class ≡ found.class)
-            × (object.segment ≡ found.segment) × (object.body ≡ found.body))) }
+        × (object.segment ≡ found.segment) × (object.body ≡ found.body))) }
     ensures none { (image other : Image) (number : ℕ) → map.get image number ≡ None →
         (Agree image other number ↔ (map.get other number ≡ None)) }
     ensures itself { (image : Image) (number : ℕ) → Agree image image number }

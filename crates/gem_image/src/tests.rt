@@ -1,6 +1,6 @@
 // Images over which objects are put, and the rights of users in them.
-ghost use Rattle.std.specs.Prelude.{◌≢◌, ◌^◌, ◌<◌, ◌×◌, length, All, IfOk};
-ghost use Rattle.gem_object.specs.Spelling.{IsOid, IsText, IsSpelled, Ascend};
+ghost use Rattle.std.specs.Prelude.{◌≡◌, ◌≢◌, ◌+◌, ◌^◌, ◌<◌, ◌≤◌, length, All, IfOk};
+ghost use Rattle.gem_object.specs.Spelling.{IsOid, IsText, IsSpelled};
 
 use super::*;
 use gem_object::{Body, Names, Object, UserBody, Values};
@@ -34,7 +34,9 @@ fn name(counter: u32) -> Oid
 }
 
 /// The greatest name that there is.
-fn greatest() -> Oid {
+fn greatest() -> Oid
+    ensures { IsOid result }
+{
     Oid::from_parts((1 << 24) - 1, (1 << 24) - 1)
 }
 
@@ -204,4 +206,89 @@ fn check_rights<R: Abort, L: Ledger>(rt: &R, alloc: Global, blank: Blank) -> Res
 #[test]
 fn rights(rt: HostRuntime) -> Result<(), Fail> {
     check_rights::<HostRuntime, Brand>(&rt, rt.alloc(), Blank::new(1))
+}
+
+/// Whether the image has so many objects, and at each of three names one of this class or none.
+fn has(
+    image: &Image,
+    count: u64,
+    five: Option<Oid>,
+    seven: Option<Oid>,
+    last: Option<Oid>,
+) -> bool {
+    image.count() == count
+        && class_at(image, name(5)) == five
+        && class_at(image, name(7)) == seven
+        && class_at(image, greatest()) == last
+}
+
+fn class_at(image: &Image, oid: Oid) -> Option<Oid> {
+    image.look(oid).map(|object| object.class)
+}
+
+/// Whether this is the lowest name from that number on.
+fn is_next(image: &Image, number: u64, name: Option<Oid>) -> bool {
+    match image.next_from(number) {
+        Some((oid, _)) => name == Some(oid),
+        None => name.is_none(),
+    }
+}
+
+/// Whether the names of the image are 5, 7 and the greatest.
+fn ascend(image: &Image) -> bool {
+    is_next(image, 0, Some(name(5)))
+        && is_next(image, name(5).number() + 1, Some(name(7)))
+        && is_next(image, name(8).number(), Some(greatest()))
+        && is_next(image, greatest().number() + 1, None)
+}
+
+/// Takes what threads may share.
+fn goes_to_threads<T: Send + Sync>(_shared: &T) {}
+
+/// Objects of the classes 2, 3 and 4, the first and the last of them at one name.
+fn objects(alloc: Global) -> Result<Vec<(Oid, Object)>, AllocError>
+    ensures { IfOk result (λ objects. All (λ entry. IsSpelled entry.1) objects.items) }
+{
+    let mut objects = Vec::new(alloc);
+    objects.push((name(7), plain(alloc, 2, SEGMENT)))?;
+    objects.push((name(5), plain(alloc, 3, SEGMENT)))?;
+    objects.push((name(7), plain(alloc, 4, SEGMENT)))?;
+    Ok(objects)
+}
+
+/// The image with an object of the class 5 at the greatest name, which builds at most 8 nodes.
+fn with_greatest<L: Ledger>(
+    alloc: Global,
+    image: &Image,
+    steps: &mut Steps<L>,
+) -> Result<Image, AllocError>
+    ensures { steps.new ≤ steps.old + 8 }
+{
+    let mut image = image.share()?;
+    image.insert(alloc, greatest(), plain(alloc, 5, SEGMENT), steps)?;
+    Ok(image)
+}
+
+fn check_objects<R: Abort, L: Ledger>(rt: &R, alloc: Global, blank: Blank) -> Result<(), Fail>
+    requires name { blank.name ≡ L.name }
+    requires parts { blank.parts ≡ L.parts }
+    requires some_parts { 0 < L.parts }
+{
+    let mut steps = Steps::<L>::start(blank);
+    let one = Image::empty().with(alloc, name(5), plain(alloc, 1, SEGMENT), &mut steps)?;
+    let two = one.with_all(alloc, objects(alloc)?, &mut steps)?;
+    let three = with_greatest(alloc, &two, &mut steps)?;
+    goes_to_threads(&three);
+    let (first, second, third) = (Some(name(3)), Some(name(4)), Some(name(5)));
+    assert!(rt; has(&Image::empty(), 0, None, None, None));
+    assert!(rt; has(&one, 1, Some(name(1)), None, None));
+    assert!(rt; has(&two, 2, first, second, None));
+    assert!(rt; has(&three, 3, first, second, third));
+    assert!(rt; ascend(&three));
+    Ok(())
+}
+
+#[test]
+fn objects_by_name(rt: HostRuntime) -> Result<(), Fail> {
+    check_objects::<HostRuntime, Brand>(&rt, rt.alloc(), Blank::new(1))
 }

@@ -1,4 +1,3 @@
-use Rattle.std.proofs.Common.{◌∙◌, ap, sym, subst, ◌<◌, ◌^◌}
 use Rattle.gem_image.proofs.Puts.{left_is}
 use Rattle.gem_image.proofs.image.Image.insert.Goals as goal
 

@@ -10,6 +10,6 @@ loop-oid-preserved g c =
     let short = ap length steps in
     let was = at.invariant.0 in (
       omega arith,
-      one_more _ _ _ at.image _ at.steps c.in-Some.oid c.in-Some.object _ _ c.insert.new.steps
+      one_more _ _ _ at.changed _ at.steps c.in-Some.oid c.in-Some.object _ _ c.insert.new.steps
           at.invariant.1 steps c.in_ok-insert.ensures.ok c.in_ok-insert.ensures.nodes,
     )
