@@ -1,7 +1,6 @@
 -- The rights that are given.
 use Rattle.std.proofs.Common.{◌≡◌, ◌≢◌, ℕ, List, Option, Some, None, cond, refl, sym, ap, ap₂, subst, ◌∙◌, eq-eqb}
 use Rattle.std.proofs.lemmas.Bool.{ne_eqb}
-use Rattle.std.specs.FinMap.{get}
 use Rattle.texts.specs.Bytes.{Bytes as Text}
 use Rattle.seg_rights.specs.Right.{IsAtMost}
 use Rattle.seg_rights.specs.Rights.{IsGreatestRight, as_anybody}
@@ -10,58 +9,57 @@ use Rattle.seg_rights.specs.declared.rights.Rights.{Rights}
 use Rattle.seg_rights.proofs.Greatest.{greatest_right-is}
 use Rattle.gem_object.specs.declared.body.Body.{Body}
 use Rattle.gem_object.specs.declared.body.Body.TheVariants.{Segment}
-use Rattle.gem_object.specs.declared.object.Object.{Object}
-use Rattle.gem_image.specs.Image.{Image}
+use Rattle.gem_image.specs.Image.{Contents, Objects}
 use Rattle.gem_image.specs.Rights.{same_group, rights_of, rights_at, groups_at, right_by, right_in, right_on_segment, right_on_body, right_on_object, right_on}
 
 -- the right on what stands at a name
-on_found : (image : Image) (user number : ℕ) (object : Object) → get image number ≡ Some object
-    → right_on image user number ≡ right_on_body image user object.segment object.body
-on_found image user number object here = ap (right_on_object image user) here
+on_found : (objects : Objects) (user number : ℕ) (object : Contents) → objects number ≡ Some object
+    → right_on objects user number ≡ right_on_body objects user object.segment object.body
+on_found objects user number object here = ap (right_on_object objects user) here
 
-on_segment : (image : Image) (user segment : ℕ) (object : Object) (rights : Rights Text)
-    → get image segment ≡ Some object → object.body ≡ Segment rights
-    → right_on image user segment ≡ right_on_segment rights user
-on_segment image user segment object rights here body =
-    on_found image user segment object here ∙ ap (right_on_body image user object.segment) body
+on_segment : (objects : Objects) (user segment : ℕ) (object : Contents) (rights : Rights Text)
+    → objects segment ≡ Some object → object.body ≡ Segment rights
+    → right_on objects user segment ≡ right_on_segment rights user
+on_segment objects user segment object rights here body =
+    on_found objects user segment object here ∙ ap (right_on_body objects user object.segment) body
 
-pub owner_writes : (image : Image) (segment : ℕ) (object : Object) (rights : Rights Text)
-    → get image segment ≡ Some object → object.body ≡ Segment rights
-    → right_on image rights.owner segment ≡ right.Write
-owner_writes image segment object rights here body =
-    on_segment image rights.owner segment object rights here body
+pub owner_writes : (objects : Objects) (segment : ℕ) (object : Contents) (rights : Rights Text)
+    → objects segment ≡ Some object → object.body ≡ Segment rights
+    → right_on objects rights.owner segment ≡ right.Write
+owner_writes objects segment object rights here body =
+    on_segment objects rights.owner segment object rights here body
     ∙ ap (λ b. cond b right.Write right.Read) (eq-eqb rights.owner rights.owner refl)
 
-pub others_read : (image : Image) (user segment : ℕ) (object : Object) (rights : Rights Text)
-    → get image segment ≡ Some object → object.body ≡ Segment rights → user ≢ rights.owner
-    → right_on image user segment ≡ right.Read
-others_read image user segment object rights here body other =
-    on_segment image user segment object rights here body
+pub others_read : (objects : Objects) (user segment : ℕ) (object : Contents) (rights : Rights Text)
+    → objects segment ≡ Some object → object.body ≡ Segment rights → user ≢ rights.owner
+    → right_on objects user segment ≡ right.Read
+others_read objects user segment object rights here body other =
+    on_segment objects user segment object rights here body
     ∙ ap (λ b. cond b right.Write right.Read) (ne_eqb user rights.owner other)
 
 -- the right on an object that isn't a segment is that in its segment
-in_segment : (image : Image) (user segment : ℕ) (body : Body) → rights_of body ≡ None
-    → right_on_body image user segment body ≡ right_in image user segment
-in_segment image user segment (Segment rights) none = cc
-in_segment image user segment _ none = refl
+in_segment : (objects : Objects) (user segment : ℕ) (body : Body) → rights_of body ≡ None
+    → right_on_body objects user segment body ≡ right_in objects user segment
+in_segment objects user segment (Segment rights) none = cc
+in_segment objects user segment _ none = refl
 
-pub greatest_given : (image : Image) (user number : ℕ) (object : Object) (rights : Rights Text)
-    (groups : List Text) → get image number ≡ Some object → rights_of object.body ≡ None
-    → rights_at image object.segment ≡ Some rights → groups_at image user ≡ Some groups
-    → IsGreatestRight same_group rights user groups (right_on image user number)
-greatest_given image user number object rights groups here body given groups_are =
+pub greatest_given : (objects : Objects) (user number : ℕ) (object : Contents) (rights : Rights Text)
+    (groups : List Text) → objects number ≡ Some object → rights_of object.body ≡ None
+    → rights_at objects object.segment ≡ Some rights → groups_at objects user ≡ Some groups
+    → IsGreatestRight same_group rights user groups (right_on objects user number)
+greatest_given objects user number object rights groups here body given groups_are =
     subst (IsGreatestRight same_group rights user groups)
-    (sym (on_found image user number object here
-    ∙ (in_segment image user object.segment object.body body
+    (sym (on_found objects user number object here
+    ∙ (in_segment objects user object.segment object.body body
     ∙ ap₂ (λ r g. right_by r user g) given groups_are)))
     (greatest_right-is same_group rights user groups)
 
-pub world_given : (image : Image) (user number : ℕ) (object : Object) (rights : Rights Text)
-    (groups : List Text) → get image number ≡ Some object → rights_of object.body ≡ None
-    → rights_at image object.segment ≡ Some rights → groups_at image user ≡ Some groups
-    → IsAtMost rights.world_right (right_on image user number)
-world_given image user number object rights groups here body given groups_are =
-    let best = greatest_given image user number object rights groups here body given groups_are in
+pub world_given : (objects : Objects) (user number : ℕ) (object : Contents) (rights : Rights Text)
+    (groups : List Text) → objects number ≡ Some object → rights_of object.body ≡ None
+    → rights_at objects object.segment ≡ Some rights → groups_at objects user ≡ Some groups
+    → IsAtMost rights.world_right (right_on objects user number)
+world_given objects user number object rights groups here body given groups_are =
+    let best = greatest_given objects user number object rights groups here body given groups_are in
     best.greatest rights.world_right as_anybody
 
 -- no right is given by nothing, and none to nobody
@@ -73,16 +71,16 @@ by_nobody : (rights : Option (Rights Text)) (user : ℕ) → right_by rights use
 by_nobody None user = refl
 by_nobody (Some rights) user = refl
 
-pub none_without_object : (image : Image) (user number : ℕ) → get image number ≡ None
-    → right_on image user number ≡ right.None
-none_without_object image user number none = ap (right_on_object image user) none
+pub none_without_object : (objects : Objects) (user number : ℕ) → objects number ≡ None
+    → right_on objects user number ≡ right.None
+none_without_object objects user number none = ap (right_on_object objects user) none
 
-pub none_without_segment : (image : Image) (user segment : ℕ) → rights_at image segment ≡ None
-    → right_in image user segment ≡ right.None
-none_without_segment image user segment none =
-    by_nothing (rights_at image segment) user (groups_at image user) none
+pub none_without_segment : (objects : Objects) (user segment : ℕ) → rights_at objects segment ≡ None
+    → right_in objects user segment ≡ right.None
+none_without_segment objects user segment none =
+    by_nothing (rights_at objects segment) user (groups_at objects user) none
 
-pub none_without_user : (image : Image) (user segment : ℕ) → groups_at image user ≡ None
-    → right_in image user segment ≡ right.None
-none_without_user image user segment none =
-    ap (right_by (rights_at image segment) user) none ∙ by_nobody (rights_at image segment) user
+pub none_without_user : (objects : Objects) (user segment : ℕ) → groups_at objects user ≡ None
+    → right_in objects user segment ≡ right.None
+none_without_user objects user segment none =
+    ap (right_by (rights_at objects segment) user) none ∙ by_nobody (rights_at objects segment) user

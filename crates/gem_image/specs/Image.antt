@@ -1,5 +1,5 @@
 -- Images: what objects there are at one number of commits.
-use Rattle.std.specs.Prelude.{◌≡◌, ◌≤◌, ◌^◌, ℕ, List, None, Some, option_map}
+use Rattle.std.specs.Prelude.{◌≡◌, ◌≤◌, ◌^◌, ℕ, List, Option, None, Some, option_map}
 use Rattle.std.specs.Ordering.{nat_cmp}
 use Rattle.std.specs.List.{fold}
 use Rattle.std.specs.FinMap.{FinMap, get, insert}
@@ -38,11 +38,18 @@ contents_of object = record {
   body = object.body;
 }
 
+-- what stands at each name: in an image, or in what a transaction sees
+abbrev pub Objects : Type 0
+Objects = ℕ → Option Contents
+
+-- what stands at the names of an image
+abbrev pub objects_in : Image → Objects
+objects_in image number = option_map contents_of (get image number)
+
 -- two images agree on a name: both have an object there, of one class, in one segment and with one
 -- body, or neither has one
 abbrev pub Agree : Image → Image → ℕ → Type 0
-Agree image other number =
-    option_map contents_of (get image number) ≡ option_map contents_of (get other number)
+Agree image other number = objects_in image number ≡ objects_in other number
 
 -- the image with these objects at these names, one after the other
 abbrev pub with_objects : Image → List (ℕ × Object) → Image

@@ -7,7 +7,7 @@ ghost use Rattle.seg_rights.specs.Right.{IsAtMost};
 ghost use Rattle.seg_rights.specs.Rights.{IsGreatestRight};
 ghost use Rattle.seg_rights.specs.declared.rights.Rights.{Rights};
 ghost use Rattle.gem_object.specs.declared.object.Object.{Object};
-ghost use Rattle.gem_image.specs.Image.{Image, Agree, with_objects};
+ghost use Rattle.gem_image.specs.Image.{Image, Contents, Objects, Agree, with_objects};
 ghost use Rattle.gem_image.specs.Rights.{same_group, rights_of, rights_at, groups_at};
 ghost use Rattle.gem_image.specs.Rights.{right_in, right_on};
 
@@ -45,45 +45,45 @@ pub fn agreement()
 
 /// The owner of a segment may change it, and all others may read it.
 pub fn rights_on_segments()
-    ensures owner { (image : Image) (segment : ℕ) (object : Object) (rights : Rights Text) →
-        map.get image segment ≡ Some object → object.body ≡ Body.Segment rights →
-        right_on image rights.owner segment ≡ Right.Write }
-    ensures others { (image : Image) (user segment : ℕ) (object : Object) (rights : Rights Text) →
-        map.get image segment ≡ Some object → object.body ≡ Body.Segment rights →
-        user ≢ rights.owner → right_on image user segment ≡ Right.Read }
+    ensures owner { (objects : Objects) (segment : ℕ) (object : Contents) (rights : Rights Text) →
+        objects segment ≡ Some object → object.body ≡ Body.Segment rights →
+        right_on objects rights.owner segment ≡ Right.Write }
+    ensures others { (objects : Objects) (user segment : ℕ) (object : Contents)
+        (rights : Rights Text) →
+        objects segment ≡ Some object → object.body ≡ Body.Segment rights →
+        user ≢ rights.owner → right_on objects user segment ≡ Right.Read }
 {}
 
 /// On an object that isn't a segment a user has the greatest of the rights that the object's
 /// segment gives the user. So it is at least what the world is given.
 pub fn rights_on_others()
-    ensures greatest { (image : Image) (user number : ℕ) (object : Object) (rights : Rights Text)
-        (groups : List Text) → map.get image number ≡ Some object →
-        rights_of object.body ≡ None → rights_at image object.segment ≡ Some rights →
-        groups_at image user ≡ Some groups →
-        IsGreatestRight same_group rights user groups (right_on image user number) }
-    ensures world { (image : Image) (user number : ℕ) (object : Object) (rights : Rights Text)
-        (groups : List Text) → map.get image number ≡ Some object →
-        rights_of object.body ≡ None → rights_at image object.segment ≡ Some rights →
-        groups_at image user ≡ Some groups →
-        IsAtMost rights.world_right (right_on image user number) }
+    ensures greatest { (objects : Objects) (user number : ℕ) (object : Contents)
+        (rights : Rights Text) (groups : List Text) → objects number ≡ Some object →
+        rights_of object.body ≡ None → rights_at objects object.segment ≡ Some rights →
+        groups_at objects user ≡ Some groups →
+        IsGreatestRight same_group rights user groups (right_on objects user number) }
+    ensures world { (objects : Objects) (user number : ℕ) (object : Contents)
+        (rights : Rights Text) (groups : List Text) → objects number ≡ Some object →
+        rights_of object.body ≡ None → rights_at objects object.segment ≡ Some rights →
+        groups_at objects user ≡ Some groups →
+        IsAtMost rights.world_right (right_on objects user number) }
 {}
 
 /// Nobody has a right on an object that isn't there. In a segment that isn't there nobody has one,
 /// and a user who isn't there has none in any.
 pub fn no_rights()
-    ensures object { (image : Image) (user number : ℕ) → map.get image number ≡ None →
-        right_on image user number ≡ Right.None }
-    ensures segment { (image : Image) (user segment : ℕ) → rights_at image segment ≡ None →
-        right_in image user segment ≡ Right.None }
-    ensures user { (image : Image) (user segment : ℕ) → groups_at image user ≡ None →
-        right_in image user segment ≡ Right.None }
+    ensures object { (objects : Objects) (user number : ℕ) → objects number ≡ None →
+        right_on objects user number ≡ Right.None }
+    ensures segment { (objects : Objects) (user segment : ℕ) → rights_at objects segment ≡ None →
+        right_in objects user segment ≡ Right.None }
+    ensures user { (objects : Objects) (user segment : ℕ) → groups_at objects user ≡ None →
+        right_in objects user segment ≡ Right.None }
 {}
 
-/// Rights are those of the contents: images that agree on an object, on its segment and on the user
-/// give the user one right on it.
-pub fn rights_by_agreement()
-    ensures { (image other : Image) (user number : ℕ) (object : Object) →
-        map.get image number ≡ Some object → Agree image other number →
-        Agree image other object.segment → Agree image other user →
-        right_on other user number ≡ right_on image user number }
+/// The right on an object goes by the object, its segment and the user alone.
+pub fn rights_by_three_objects()
+    ensures { (objects other : Objects) (user number : ℕ) (object : Contents) →
+        objects number ≡ Some object → other number ≡ objects number →
+        other object.segment ≡ objects object.segment → other user ≡ objects user →
+        right_on other user number ≡ right_on objects user number }
 {}

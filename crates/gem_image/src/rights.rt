@@ -1,5 +1,6 @@
 //! The rights that users have in an image.
 ghost use Rattle.std.specs.Prelude.{◌≡◌, option_copied};
+ghost use Rattle.gem_image.specs.Image.{objects_in};
 ghost use Rattle.gem_image.specs.Rights.{rights_at, groups_at, right_in, right_on, right_on_segment};
 
 use crate::image::Image;
@@ -14,7 +15,7 @@ impl Image {
     /// segment gives the user, as `right_in` says. It is None where there is no such object. It
     /// takes no memory.
     pub fn right_on(&self, user: Oid, oid: Oid) -> Right
-        ensures { result ≡ right_on self.now user oid }
+        ensures { result ≡ right_on (objects_in self.now) user oid }
     {
         let Some(object) = self.look(oid) else {
             return Right::None;
@@ -29,7 +30,7 @@ impl Image {
     /// owner's, where the user is the owner, those of the groups that the user is in, and the
     /// world's. It is None where there is no such segment or no such user. It takes no memory.
     pub fn right_in(&self, user: Oid, segment: Oid) -> Right
-        ensures { result ≡ right_in self.now user segment }
+        ensures { result ≡ right_in (objects_in self.now) user segment }
     {
         let Some(rights) = self.rights_at(segment) else {
             return Right::None;
@@ -42,7 +43,7 @@ impl Image {
 
     // The rights that the segment of this name gives.
     fn rights_at(&self, segment: Oid) -> Option<&Rights<Text>>
-        ensures { option_copied result ≡ rights_at self.now segment }
+        ensures { option_copied result ≡ rights_at (objects_in self.now) segment }
     {
         match &self.look(segment)?.body {
             Body::Segment(rights) => Some(rights),
@@ -52,7 +53,7 @@ impl Image {
 
     // The groups in which the user of this name is.
     fn groups_at(&self, user: Oid) -> Option<&[Text]>
-        ensures { option_copied result ≡ groups_at self.now user }
+        ensures { option_copied result ≡ groups_at (objects_in self.now) user }
     {
         match &self.look(user)?.body {
             Body::User(user) => Some(user.groups.as_slice()),

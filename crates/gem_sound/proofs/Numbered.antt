@@ -11,6 +11,7 @@ inside items at = grind (arith, slice_get_cases)
 pub numbers : {X : Type 0} (items : List X) (number : ℕ)
     → IsSome (numbered items number) ↔ ((0 < number) × (number ≤ length items))
 numbers items zero = (λ none. absurd (false≢true none), λ bounds. absurd (omega (arith, bounds.0)))
-numbers items (suc before) =
-    (λ some. (omega arith, omega (arith, (inside items before).0 some)),
-    λ bounds. (inside items before).1 (omega (arith, bounds.1)))
+numbers items (suc before) = (
+  λ some. (omega arith, omega (arith, (inside items before).0 some)),
+  λ bounds. (inside items before).1 (omega (arith, bounds.1)),
+)

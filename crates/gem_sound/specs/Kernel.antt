@@ -1,11 +1,12 @@
 -- The objects that every image has: the kernel's classes, what the other objects of the kernel are,
 -- and in which class each primitive stands.
-use Rattle.std.specs.Prelude.{ℕ, Bool, true, false, ◌&&◌, cond, nat_eq, bytes_eq, List, [], ◌∷◌, ◌++◌, map, slice_get, zero, suc, Option, None, Some}
+use Rattle.std.specs.Prelude.{ℕ, Bool, true, false, ◌&&◌, cond, nat_eq, bytes_eq, List, [], ◌∷◌, ◌++◌, map, filter, slice_get, zero, suc, Option, None, Some}
 use Rattle.std.specs.List.{list_any}
 use Rattle.texts.specs.Bytes.{Bytes as Text}
 use Rattle.op_table.specs.Prims.{Primitive, prim_at}
 use Rattle.op_table.specs.declared.prims.Kind.{Kind as Receiver}
 use Rattle.op_table.specs.declared.prims.Kind.TheVariants as receiver
+use Rattle.gem_object.specs.Kinds.{kind_number}
 use Rattle.gem_object.specs.declared.kind.Kind.{Kind}
 use Rattle.gem_object.specs.declared.kind.Kind.TheVariants.{None as NoInstances, Plain, Indexed, Bytes, Dict, Segment, User, Counter, Bag, RcDict, Queue}
 use Rattle.gem_object.specs.declared.body.Body.{Body}
@@ -15,6 +16,16 @@ use Rattle.gem_object.specs.declared.body.Body.TheVariants as body
 abbrev pub numbered : {X : Type 0} → List X → ℕ → Option X
 numbered items zero = None
 numbered items (suc before) = slice_get items before
+
+-- the numbers of three classes that rules name: Object, Class and TranscriptStream
+abbrev pub object_class : ℕ
+object_class = 1
+
+abbrev pub class_class : ℕ
+class_class = 2
+
+abbrev pub transcript_class : ℕ
+transcript_class = 26
 
 -- a class of the kernel: the number of its superclass, and which body its instances have
 pub record KernelClass : Type 0 where
@@ -59,6 +70,30 @@ kernel_classes =
 abbrev pub kernel_class : ℕ → Option KernelClass
 kernel_class number = numbered kernel_classes number
 
+-- the numbers from 1 to 26
+unfoldable pub class_numbers : List ℕ
+class_numbers = 1 ∷ 2 ∷ 3 ∷ 4 ∷ 5 ∷ 6 ∷ 7 ∷ 8 ∷ 9 ∷ 10 ∷ 11 ∷ 12 ∷ 13 ∷ 14 ∷ 15 ∷ 16 ∷ 17 ∷ 18
+    ∷ 19 ∷ 20 ∷ 21 ∷ 22 ∷ 23 ∷ 24 ∷ 25 ∷ 26 ∷ []
+
+abbrev pub is_the : ℕ → Option ℕ → Bool
+is_the number None = false
+is_the number (Some other) = nat_eq number other
+
+abbrev pub is_under : ℕ → Option KernelClass → Bool
+is_under superclass None = false
+is_under superclass (Some class) = is_the superclass class.superclass
+
+abbrev pub is_of_kind : Kind → Option KernelClass → Bool
+is_of_kind kind None = false
+is_of_kind kind (Some class) = nat_eq (kind_number class.kind) (kind_number kind)
+
+-- the classes of the kernel right under this one, and those of this kind, by their numbers
+unfoldable pub subclasses : ℕ → List ℕ
+subclasses superclass = filter (λ number. is_under superclass (kernel_class number)) class_numbers
+
+unfoldable pub of_kind : Kind → List ℕ
+of_kind kind = filter (λ number. is_of_kind kind (kernel_class number)) class_numbers
+
 -- What body an object of the kernel has.
 pub data KernelBody : Type 0 where
   a_class : KernelBody
@@ -87,13 +122,13 @@ abbrev pub kernel_body : ℕ → Option KernelBody
 kernel_body number = numbered kernel_bodies number
 
 -- whether a body is of that kind
-abbrev pub is_of : KernelBody → Body → Bool
-is_of a_class (body.Class _) = true
-is_of a_dictionary (body.Dict _) = true
-is_of a_segment (body.Segment _) = true
-is_of a_user (body.User _) = true
-is_of no_slots (body.Plain []) = true
-is_of _ _ = false
+abbrev pub has_kind : KernelBody → Body → Bool
+has_kind a_class (body.Class _) = true
+has_kind a_dictionary (body.Dict _) = true
+has_kind a_segment (body.Segment _) = true
+has_kind a_user (body.User _) = true
+has_kind no_slots (body.Plain []) = true
+has_kind _ _ = false
 
 -- the classes in which a primitive for these receivers stands among the methods of instances
 abbrev pub classes_of : Receiver → List ℕ
@@ -123,14 +158,14 @@ class_sides_of receiver.UserClass = 24 ∷ []
 class_sides_of receiver.SystemClass = 25 ∷ []
 class_sides_of _ = []
 
-abbrev pub stands_by : (class : ℕ) (class_side : Bool) (selector : Text) → Option Primitive → Bool
-stands_by class class_side selector None = false
-stands_by class class_side selector (Some primitive) =
+abbrev pub stands_where : (class : ℕ) (class_side : Bool) (selector : Text) → Option Primitive → Bool
+stands_where class class_side selector None = false
+stands_where class class_side selector (Some primitive) =
     bytes_eq primitive.selector selector
     && list_any (nat_eq class)
-        (cond class_side (class_sides_of primitive.receiver) (classes_of primitive.receiver))
+    (cond class_side (class_sides_of primitive.receiver) (classes_of primitive.receiver))
 
 -- whether the primitive of this number stands in the class, on that side and under the selector
 unfoldable pub may_stand : (class : ℕ) (class_side : Bool) (selector : Text) → ℕ → Bool
 may_stand class class_side selector number =
-    stands_by class class_side selector (prim_at number)
+    stands_where class class_side selector (prim_at number)

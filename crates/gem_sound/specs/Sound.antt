@@ -1,29 +1,26 @@
--- Sound images: the rules that each object of an image keeps.
-use Rattle.std.specs.Prelude.{◌≡◌, ◌<◌, ◌≤◌, ◌^◌, ℕ, Bool, true, false, IsTrue, List, [], length, All, Option, Some, None, IsSome, Ok}
+-- Sound objects, those of an image or those that a transaction sees: the rules that each of them keeps.
+use Rattle.std.specs.Prelude.{◌≡◌, ◌<◌, ◌≤◌, ◌^◌, ℕ, Bool, true, false, IsTrue, List, [], ◌∷◌, length, All, Option, Some, None, IsSome, Ok}
 use Rattle.std.specs.Option.{IfSome}
-use Rattle.std.specs.FinMap.{get}
 use Rattle.texts.specs.Bytes.{Bytes as Text}
 use Rattle.st_tree.specs.Trees.{Program}
 use Rattle.st_grammar.specs.Grammar.{method}
 use Rattle.st_grammar_laws.specs.TreeOf.{tree_of}
-use Rattle.seg_rights.specs.declared.rights.Rights.{Rights}
 use Rattle.gem_value.specs.Oid.{oid_number}
 use Rattle.gem_object.specs.Edits.{plain_slots}
 use Rattle.gem_object.specs.Kinds.{fits}
-use Rattle.gem_object.specs.References.{references_of}
+use Rattle.gem_object.specs.References.{names_in_body}
 use Rattle.gem_object.specs.declared.kind.Kind.{Kind}
 use Rattle.gem_object.specs.declared.kind.Kind.TheVariants.{Plain as PlainKind, Indexed}
 use Rattle.gem_object.specs.declared.body.MethodCode.{MethodCode}
 use Rattle.gem_object.specs.declared.body.MethodCode.TheVariants.{Source, Primitive}
 use Rattle.gem_object.specs.declared.body.Method.{Method}
 use Rattle.gem_object.specs.declared.body.ClassBody.{ClassBody}
-use Rattle.gem_object.specs.declared.body.UserBody.{UserBody}
 use Rattle.gem_object.specs.declared.body.Body.{Body}
 use Rattle.gem_object.specs.declared.body.Body.TheVariants.{Plain, Class, Segment, User}
-use Rattle.gem_object.specs.declared.object.Object.{Object}
-use Rattle.gem_image.specs.Image.{Image}
-use Rattle.gem_sound.specs.Parts.{class_of, class_at, segment_at, user_at, dictionary_at}
-use Rattle.gem_sound.specs.Kernel.{KernelClass, kernel_class, kernel_body, is_of, may_stand}
+use Rattle.gem_image.specs.Image.{Image, Contents, Objects, objects_in}
+use Rattle.gem_image.specs.Rights.{rights_at}
+use Rattle.gem_sound.specs.Parts.{class_of, class_at, user_at, dictionary_at}
+use Rattle.gem_sound.specs.Kernel.{class_class, transcript_class, KernelClass, kernel_class, KernelBody, kernel_body, has_kind, may_stand}
 use Rattle.gem_sound.specs.Inherited.{HasNames}
 
 -- The rules, in the order in which they are tried for a name.
@@ -39,10 +36,22 @@ pub data ImageRule : Type 0 where
   -- I5: class and segment of an object fit it, and so do the objects that a segment or a user names
   i5 : ImageRule
 
--- I1: the name isn't 0, and every object to which this one refers is in the image
-pub record HasReferences (image : Image) (number : ℕ) (object : Object) : Type 0 where
+-- the number of a rule, from 1 to 5
+abbrev pub rule_number : ImageRule → ℕ
+rule_number i1 = 1
+rule_number i2 = 2
+rule_number i3 = 3
+rule_number i4 = 4
+rule_number i5 = 5
+
+-- the names that an object refers to
+abbrev pub names_in : Contents → List ℕ
+names_in object = object.class ∷ object.segment ∷ names_in_body object.body
+
+-- I1: the name isn't 0, and everything to which the object refers is there
+pub record HasReferences (objects : Objects) (number : ℕ) (object : Contents) : Type 0 where
   pub no_zero : 0 < number
-  pub there : All (λ name. IsSome (get image name)) (references_of object)
+  pub there : All (λ name. IsSome (objects name)) (names_in object)
 
 -- a source is the text of a method with this selector, of fewer than 2^24 bytes
 pub record IsSourceOf (selector source : Text) : Type 0 where
@@ -77,71 +86,93 @@ pub record IsKernelClass (row : KernelClass) (class : ClassBody) : Type 0 where
   pub kind : class.kind ≡ row.kind
   pub no_names : class.names ≡ []
 
--- any other class has the kind of its superclass
-abbrev pub HasInheritedKind : Image → ClassBody → Option ℕ → Type 0
-HasInheritedKind image class None = ⊥
-HasInheritedKind image class (Some superclass) =
-    IfSome (class_at image superclass) (λ above. above.kind ≡ class.kind)
+-- any other class has the kind of its superclass, which is a class
+abbrev pub HasInheritedKind : Objects → ClassBody → Option ℕ → Type 0
+HasInheritedKind objects class None = ⊥
+HasInheritedKind objects class (Some superclass) =
+    (above : ClassBody) × (class_at objects superclass ≡ Some above) × (above.kind ≡ class.kind)
 
-abbrev pub HasPlaceByRow : Image → ClassBody → Option KernelClass → Type 0
-HasPlaceByRow image class (Some row) = IsKernelClass row class
-HasPlaceByRow image class None = HasInheritedKind image class class.superclass
+abbrev pub HasPlaceByRow : Objects → ClassBody → Option KernelClass → Type 0
+HasPlaceByRow objects class (Some row) = IsKernelClass row class
+HasPlaceByRow objects class None = HasInheritedKind objects class class.superclass
 
 -- I3: the superclasses of a class end at Object, its place among them is as it may be, only
 -- instances with named slots have names, and with the inherited ones a class has at most 200
-pub record HasPlace (image : Image) (number : ℕ) (class : ClassBody) : Type 0 where
+pub record HasPlace (objects : Objects) (number : ℕ) (class : ClassBody) : Type 0 where
   pub names : List Text
-  pub chain : HasNames image number names
+  pub chain : HasNames objects number names
   pub few_names : length names ≤ 200
-  pub row : HasPlaceByRow image class (kernel_class number)
+  pub row : HasPlaceByRow objects class (kernel_class number)
   pub named : 0 < length class.names → IsTrue (has_named_slots class.kind)
+
+-- I4: an object of the kernel has its kind of body; one that isn't there breaks the rule too
+abbrev pub HasKernelBody : Option KernelBody → Option Contents → Type 0
+HasKernelBody None there = Unit {0}
+HasKernelBody (Some kind) None = ⊥
+HasKernelBody (Some kind) (Some object) = IsTrue (has_kind kind object.body)
 
 -- I5: a class fits an object of this class name and body. That an instance has enough slots says
 -- that it has one for each name of its class.
-pub data FitsClass (image : Image) : ℕ → Body → Type 0 where
+pub data FitsClass (objects : Objects) : ℕ → Body → Type 0 where
   by_kind : (name : ℕ) (class : ClassBody) (names : List Text) (body : Body)
-      → class_at image name ≡ Some class → IsTrue (fits class.kind body)
-      → HasNames image name names → length names ≤ plain_slots body
-      → FitsClass image name body
-  class_object : (class : ClassBody) → IsSome (class_at image 2) → FitsClass image 2 (Class class)
-  transcript : IsSome (class_at image 26) → FitsClass image 26 (Plain [])
+      → class_at objects name ≡ Some class → IsTrue (fits class.kind body)
+      → HasNames objects name names → length names ≤ plain_slots body
+      → FitsClass objects name body
+  class_object : (class : ClassBody) → IsSome (class_at objects class_class)
+      → FitsClass objects class_class (Class class)
+  transcript : IsSome (class_at objects transcript_class)
+      → FitsClass objects transcript_class (Plain [])
 
 -- I5: a segment's owner is a user; a user's default segment is a segment, and the user's globals
 -- are a dictionary
-abbrev pub NamesFit : Image → Body → Type 0
-NamesFit image (Segment rights) = IsSome (user_at image rights.owner)
-NamesFit image (User user) =
-    IsSome (segment_at image user.default_segment) × IsSome (dictionary_at image user.globals)
-NamesFit image _ = Unit {0}
+abbrev pub NamesFit : Objects → Body → Type 0
+NamesFit objects (Segment rights) = IsSome (user_at objects rights.owner)
+NamesFit objects (User user) =
+    IsSome (rights_at objects user.default_segment) × IsSome (dictionary_at objects user.globals)
+NamesFit objects _ = Unit {0}
 
-pub record IsFitting (image : Image) (object : Object) : Type 0 where
-  pub class : FitsClass image object.class object.body
-  pub segment : IsSome (segment_at image object.segment)
-  pub names : NamesFit image object.body
+pub record IsFitting (objects : Objects) (object : Contents) : Type 0 where
+  pub class : FitsClass objects object.class object.body
+  pub segment : IsSome (rights_at objects object.segment)
+  pub names : NamesFit objects object.body
 
 -- the object of this name keeps the rule
-abbrev pub KeepsRule : Image → ImageRule → (number : ℕ) → Object → Type 0
-KeepsRule image i1 number object = HasReferences image number object
-KeepsRule image i2 number object = IfSome (class_of object.body) (HasMethods number)
-KeepsRule image i3 number object = IfSome (class_of object.body) (HasPlace image number)
-KeepsRule image i4 number object =
-    IfSome (kernel_body number) (λ kind. IsTrue (is_of kind object.body))
-KeepsRule image i5 number object = IsFitting image object
+abbrev pub KeepsRule : Objects → ImageRule → (number : ℕ) → Contents → Type 0
+KeepsRule objects i1 number object = HasReferences objects number object
+KeepsRule objects i2 number object = IfSome (class_of object.body) (HasMethods number)
+KeepsRule objects i3 number object = IfSome (class_of object.body) (HasPlace objects number)
+KeepsRule objects i4 number object = HasKernelBody (kernel_body number) (Some object)
+KeepsRule objects i5 number object = IsFitting objects object
 
--- An image is sound where each of its objects keeps every rule, and the objects of the kernel are
--- there.
-pub record IsSound (image : Image) : Type 0 where
-  pub each : (number : ℕ) (object : Object) → get image number ≡ Some object
-      → (rule : ImageRule) → KeepsRule image rule number object
-  pub kernel : (number : ℕ) → IsSome (kernel_body number) → IsSome (get image number)
+-- the rule is kept at the name, whether an object is there or not
+abbrev pub KeepsRuleAt : Objects → ImageRule → (number : ℕ) → Option Contents → Type 0
+KeepsRuleAt objects rule number (Some object) = KeepsRule objects rule number object
+KeepsRuleAt objects i4 number None = HasKernelBody (kernel_body number) None
+KeepsRuleAt objects _ number None = Unit {0}
 
--- A sound image in which a user may work who draws names of this serial, the next one with this
+-- Objects are sound where every rule is kept at every name.
+abbrev pub IsSound : Objects → Type 0
+IsSound objects = (number : ℕ) (rule : ImageRule) → KeepsRuleAt objects rule number (objects number)
+
+-- The rule is the first that is broken, at the lowest name where one is.
+pub record BreaksFirst (objects : Objects) (number : ℕ) (rule : ImageRule) : Type 0 where
+  pub lower : (other : ℕ) → other < number → (any : ImageRule)
+      → KeepsRuleAt objects any other (objects other)
+  pub before : (any : ImageRule) → rule_number any < rule_number rule
+      → KeepsRuleAt objects any number (objects number)
+  pub broken : KeepsRuleAt objects rule number (objects number) → ⊥
+
+-- Sound objects among which a user may work who draws names of this serial, the next one with this
 -- counter: the user is there, and none of those names is taken.
-pub record IsSoundFor (image : Image) (user serial next : ℕ) : Type 0 where
-  pub sound : IsSound image
-  pub user_there : IsSome (user_at image user)
+pub record IsSoundFor (objects : Objects) (user serial next : ℕ) : Type 0 where
+  pub sound : IsSound objects
+  pub user_there : IsSome (user_at objects user)
   pub serial_bound : serial < 2 ^ 24
   pub some_name : 0 < next
   pub next_bound : next ≤ 2 ^ 24
   pub free : (counter : ℕ) → next ≤ counter → counter < 2 ^ 24
-      → get image (oid_number serial counter) ≡ None
+      → objects (oid_number serial counter) ≡ None
+
+-- a sound image
+abbrev pub IsSoundImage : Image → Type 0
+IsSoundImage image = IsSound (objects_in image)

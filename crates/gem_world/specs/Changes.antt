@@ -6,26 +6,26 @@ use Rattle.std.specs.FinMap.{insert, entries}
 use Rattle.std.specs.FinSet.{items, from_list}
 use Rattle.gem_object.specs.Kinds.{is_shared}
 use Rattle.gem_object.specs.declared.body.Body.{Body}
-use Rattle.gem_object.specs.declared.object.Object.{Object}
+use Rattle.gem_image.specs.Image.{Contents}
 use Rattle.gem_update.specs.declared.update.Update.{Update}
-use Rattle.gem_world.specs.World.{Setting, World, is_made, name_of}
+use Rattle.gem_world.specs.World.{Setting, World, is_made, next_name}
 
 -- the object with another body, or in another segment
-abbrev pub with_body : Body → Object → Object
+abbrev pub with_body : Body → Contents → Contents
 with_body body object = record object { body = body }
 
-abbrev pub in_segment : ℕ → Object → Object
+abbrev pub in_segment : ℕ → Contents → Contents
 in_segment segment object = record object { segment = segment }
 
 -- the object of this name is this one from now on
-unfoldable pub put : ℕ → Object → World → World
-put name object world = record world { written = insert world.written name object }
+unfoldable pub put : ℕ → Contents → World → World
+put name object world = record world { changes = insert world.changes name object }
 
 -- the next name is drawn, for this object
-unfoldable pub make : Object → Setting → World → World
+unfoldable pub make : Contents → Setting → World → World
 make object setting world = record world {
   next = world.next + 1;
-  written = insert world.written (name_of setting world.next) object;
+  changes = insert world.changes (next_name setting world) object;
 }
 
 -- an update of a reduced-conflict object is noted, unless the object was made here
@@ -35,20 +35,20 @@ note name update setting world = record world {
 }
 
 -- whether an object is one that the transaction made
-abbrev pub was_made : Setting → World → ℕ × Object → Bool
+abbrev pub was_made : Setting → World → ℕ × Contents → Bool
 was_made setting world entry = is_made entry.0 setting world
 
 -- whether it is an ordinary one that was there before
-abbrev pub was_written : Setting → World → ℕ × Object → Bool
+abbrev pub was_written : Setting → World → ℕ × Contents → Bool
 was_written setting world entry =
     not (is_made entry.0 setting world) && not (is_shared entry.1.body)
 
 -- the objects that the transaction made, and the ordinary ones that it wrote, ascending by name
-abbrev pub made_objects : Setting → World → List (ℕ × Object)
-made_objects setting world = filter (was_made setting world) (entries world.written)
+abbrev pub made_objects : Setting → World → List (ℕ × Contents)
+made_objects setting world = filter (was_made setting world) (entries world.changes)
 
-abbrev pub written_objects : Setting → World → List (ℕ × Object)
-written_objects setting world = filter (was_written setting world) (entries world.written)
+abbrev pub written_objects : Setting → World → List (ℕ × Contents)
+written_objects setting world = filter (was_written setting world) (entries world.changes)
 
 -- names, ascending and each once
 abbrev pub ascending : List ℕ → List ℕ
