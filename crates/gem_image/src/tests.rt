@@ -183,21 +183,20 @@ fn check_rights<R: Abort, L: Ledger>(rt: &R, alloc: Global, blank: Blank) -> Res
     for row in ROWS {
         let image = filled(alloc, row, &mut steps)?;
         let users = [
-            (OWNER, row.owner, Right::Write),
-            (MEMBER, row.member, Right::Read),
-            (STRANGER, row.stranger, Right::Read),
-            (NOTHING, Right::None, Right::Read),
-            (BOX, Right::None, Right::Read),
+            (name(OWNER), row.owner, Right::Write),
+            (name(MEMBER), row.member, Right::Read),
+            (name(STRANGER), row.stranger, Right::Read),
+            // Nobody, and what is no user.
+            (name(NOTHING), Right::None, Right::Read),
+            (name(BOX), Right::None, Right::Read),
         ];
         for (user, on_box, on_segment) in users {
-            if user < 10 {
-                let user = name(user);
-                assert_eq!(rt; image.right_on(user, name(BOX)), on_box);
-                assert_eq!(rt; image.right_in(user, name(SEGMENT)), on_box);
-                assert_eq!(rt; image.right_on(user, name(SEGMENT)), on_segment);
-                assert_eq!(rt; image.right_on(user, name(NOTHING)), Right::None);
-                assert_eq!(rt; image.right_in(user, name(BOX)), Right::None);
-            }
+            assert_eq!(rt; image.right_on(user, name(BOX)), on_box);
+            assert_eq!(rt; image.right_in(user, name(SEGMENT)), on_box);
+            assert_eq!(rt; image.right_on(user, name(SEGMENT)), on_segment);
+            // On what isn't there, and in what is no segment.
+            assert_eq!(rt; image.right_on(user, name(NOTHING)), Right::None);
+            assert_eq!(rt; image.right_in(user, name(BOX)), Right::None);
         }
     }
     Ok(())
