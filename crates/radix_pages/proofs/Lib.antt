@@ -1,4 +1,4 @@
 mod Nexts
 mod Root
 mod Slots
-mod Tables
+pub mod Tables

@@ -1,0 +1,5 @@
+mod Agreement
+mod Given
+mod Objects
+mod Puts
+mod Samples

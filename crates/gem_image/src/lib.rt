@@ -1,0 +1,11 @@
+//! Room: values. Gives images of objects, and the rights that users have in them. Knows nothing of
+//! scripts and of who runs what.
+#![tactic(auto)]
+
+mod image;
+pub mod laws;
+mod rights;
+#[cfg(test)]
+mod tests;
+
+pub use image::Image;

@@ -1,0 +1,4 @@
+pub mod Parts
+pub mod Kernel
+pub mod Inherited
+pub mod Sound

@@ -1,0 +1,5 @@
+mod Touches
+mod Shown
+mod Accesses
+mod Alone
+mod Before
