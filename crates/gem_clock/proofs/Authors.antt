@@ -18,9 +18,9 @@ pub without_has : (a : ℕ) (xs : List ℕ) (b : ℕ) → Has (without a xs) b �
 without_has a [] b h = absurd h
 without_has a (x ∷ xs) b h = dite (ℕ_discrete x a)
     (λ same. let h' : Has (without a xs) b = subst (λ (t : Bool). Has (cond (not t) (x ∷ without a xs) (without a xs)) b) (eq-eqb x a same) h in
-      let r = without_has a xs b h' in (inr r.0, r.1))
+    let r = without_has a xs b h' in (inr r.0, r.1))
     (λ other. let h' : (x ≡ b) ⊎ Has (without a xs) b = subst (λ (t : Bool). Has (cond (not t) (x ∷ without a xs) (without a xs)) b) (ne_eqb x a other) h in
-      ⊎_elim (λ e. (inl e, λ f. other (e ∙ f))) (λ m. let r = without_has a xs b m in (inr r.0, r.1)) h')
+    ⊎_elim (λ e. (inl e, λ f. other (e ∙ f))) (λ m. let r = without_has a xs b m in (inr r.0, r.1)) h')
 
 -- the authors of a range
 pub range_has : (a n b : ℕ) → Has (range_with_len a n) b → (a ≤ b) × (b < a + n)
@@ -34,14 +34,14 @@ without_below a b zero h = refl
 without_below a b (suc n) h =
     let rest = without_below a (b + 1) n (omega arith) in
     let other : (b == a) ≡ false = ne_eqb b a (λ e. omega arith) in
-      rw (other, rest) refl
+    rw (other, rest) refl
 
 -- a range without its first author
 pub without_first : (a n : ℕ) → without a (range_with_len a (suc n)) ≡ range_with_len (a + 1) n
 without_first a n =
     let same : (a == a) ≡ true = eq-eqb a a refl in
     let rest = without_below a (a + 1) n (omega arith) in
-      rw (same, rest) refl
+    rw (same, rest) refl
 
 module _ {E : Type 0} where
   -- a list that is known in whole
@@ -62,4 +62,5 @@ module _ {E : Type 0} where
   known_longer authors seen list b entry others k = record {
     rest = k.rest ++ (b, entry) ∷ [];
     front = ap (λ (xs : List (ℕ × E)). xs ++ (b, entry) ∷ []) k.front ∙ append_assoc seen k.rest ((b, entry) ∷ []);
-    own = λ a h. rw (filter-append (λ (pair : ℕ × E). pair.0 == a) k.rest ((b, entry) ∷ []), k.own a h) (not_own a b entry (others a h)) }
+    own = λ a h. rw (filter-append (λ (pair : ℕ × E). pair.0 == a) k.rest ((b, entry) ∷ []), k.own a h) (not_own a b entry (others a h));
+  }

@@ -1,6 +1,5 @@
 -- The stamps of a new clock, which its pen gives away one after another.
-use Rattle.std.proofs.Common.{◌≡◌, ℕ, zero, suc, ◌+◌, ◌-◌, ◌<◌, ◌⊎◌, inl, inr, ⊎_elim, List, [], ◌∷◌, ◌++◌, length, Some, None, refl, sym, ap, ◌∙◌, subst, arith, length-append}
-use Rattle.std.proofs.lemmas.Option.{slice_get_within}
+use Rattle.std.proofs.Common.{◌≡◌, ℕ, zero, suc, ◌+◌, ◌-◌, ◌<◌, ◌⊎◌, inl, inr, ⊎_elim, List, [], ◌∷◌, ◌++◌, length, Some, refl, sym, ap, ◌∙◌, subst, arith, length-append}
 use Rattle.std.specs.List.{range_with_len, slice_get}
 use Rattle.gem_clock.specs.Pairs.{Has, without}
 use Rattle.gem_clock.specs.Shown.{ClockId, StampView, first_stamp, AreFirst}
@@ -10,14 +9,14 @@ use Rattle.gem_clock.proofs.Authors.{without_first}
 pub next_held : (index authors : ℕ) (held : List ℕ) → held ≡ range_with_len (index + 1) (authors - index) → index < authors → Has held (index + 1)
 next_held index authors held is more =
     let n : authors - index ≡ suc (authors - (index + 1)) = omega arith in
-      subst (λ (hs : List ℕ). Has hs (index + 1)) (sym (is ∙ ap (range_with_len (index + 1)) n)) (inl refl)
+    subst (λ (hs : List ℕ). Has hs (index + 1)) (sym (is ∙ ap (range_with_len (index + 1)) n)) (inl refl)
 
 -- and once it is given away, those after it are
 pub next_given : (index authors : ℕ) (held : List ℕ) → held ≡ range_with_len (index + 1) (authors - index) → index < authors
     → without (index + 1) held ≡ range_with_len (index + 1 + 1) (authors - (index + 1))
 next_given index authors held is more =
     let n : authors - index ≡ suc (authors - (index + 1)) = omega arith in
-      ap (without (index + 1)) (is ∙ ap (range_with_len (index + 1)) n) ∙ without_first (index + 1) (authors - (index + 1))
+    ap (without (index + 1)) (is ∙ ap (range_with_len (index + 1)) n) ∙ without_first (index + 1) (authors - (index + 1))
 
 -- at the end nobody is
 pub none_held : (authors : ℕ) (held : List ℕ) → held ≡ range_with_len (authors + 1) (authors - authors) → held ≡ []
@@ -43,4 +42,5 @@ module _ {E : Type 0} where
     each = λ k m e. ⊎_elim
         (λ old. first.each k m old)
         (λ new. sym new.1 ∙ is ∙ ap (λ (n : ℕ). first_stamp {E = E} clock (n + 1)) (sym (new.0 ∙ first.count)))
-        (get_snoc stamps stamp m k e) }
+        (get_snoc stamps stamp m k e);
+  }

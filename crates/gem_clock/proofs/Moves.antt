@@ -1,14 +1,12 @@
 -- Each kind of step keeps the rule of a clock's table.
-use Rattle.std.proofs.Common.{◌≡◌, ◌≢◌, ℕ, zero, suc, ◌+◌, ◌%◌, ◌^◌, ◌≤◌, ◌<◌, ◌==◌, Bool, true, false, cond, ◌⊎◌, inl, inr, ⊎_elim, List, [], ◌∷◌, ◌++◌, length, get_or, set, refl, sym, ap, ◌∙◌, subst, arith, eq-eqb, ne_eqb, length-append, length-set}
+use Rattle.std.proofs.Common.{◌≡◌, ◌≢◌, ℕ, zero, suc, ◌+◌, ◌%◌, ◌^◌, ◌<◌, ◌==◌, Bool, true, cond, ⊎_elim, List, [], ◌∷◌, ◌++◌, length, get_or, set, refl, sym, ap, ◌∙◌, subst, arith, eq-eqb, ne_eqb, length-append, length-set}
 use Rattle.std.proofs.lemmas.List.Elements.{All-nil, All-cons, All-append}
 use Rattle.std.specs.List.{range_with_len}
-use mathlib.Core.Logic.{dite}
 use mathlib.Core.Option.{some, some-injective, some-ne-none}
-use native.Mathlib.Decide.{ℕ_discrete}
 use lib.ListN.{get_elem?}
 use Rattle.atomic_table.specs.Table.{State, Me, keeps, opening, Allows, Splits, Joins}
 use Rattle.atomic_table.proofs.Lists.{at_set, set_here, set_else, at_longer}
-use Rattle.gem_clock.specs.Pairs.{Has, without, IsAuthor, AreAuthors, AllKnow}
+use Rattle.gem_clock.specs.Pairs.{Has, without, IsAuthor, AreAuthors}
 use Rattle.gem_clock.specs.Rule.{first_known, known_without, known_stamped, known_joined, known_spent, known_settled, known_longer, AreKnown, IsWhole, Fits, Kept, Met, Added}
 use Rattle.gem_clock.specs.declared.rule.Known.{Known}
 use Rattle.gem_clock.proofs.Authors.{has_append, without_has, range_has, all_known, fewer_known}
@@ -27,7 +25,8 @@ module _ {E : Type 0} where
   first_fits n zero v e = subst (λ (w : Known E). Fits n 0 [] (λ _. 0) 0 w) (some-injective (first_known n) v e) record {
     front = all_known (range_with_len 1 n) [] [] refl;
     owned = λ a h. let r = range_has 1 n a h in let low = r.0 in let high = r.1 in (refl, (omega arith, omega arith));
-    whole = λ _. record { stands = refl; whole = refl; met = tt } }
+    whole = λ _. record { stands = refl; whole = refl; met = tt };
+  }
   first_fits n (suc seat) v e = absurd (some-ne-none v (sym e))
 
   pub begins : (n : ℕ) → Kept {E = E} n (opening (0 ∷ []) [] (first_known n))
@@ -38,7 +37,8 @@ module _ {E : Type 0} where
     word = refl;
     range = All-nil (λ (pair : ℕ × E). IsAuthor n pair.0);
     written = (first_known n, refl, refl);
-    fits = first_fits n }
+    fits = first_fits n;
+  }
 
   -- a seat that was there has another view
   seated_anew : (views : List (Known E)) (id : ℕ) (v w : Known E) → get_elem? views id ≡ some v → get_elem? (set views id w) id ≡ some w
@@ -64,7 +64,8 @@ module _ {E : Type 0} where
         let same : v.list ++ (a, entry) ∷ [] ≡ grown = ap (λ (xs : List (ℕ × E)). xs ++ (a, entry) ∷ []) whole.whole in record {
           front = all_known v.held (v.list ++ (a, entry) ∷ []) grown same;
           owned = (kept.fits id v at).owned;
-          whole = λ _. record { stands = whole.stands; whole = same; met = subst (λ (m : List (List ℕ × List (ℕ × E))). AreKnown m grown) (sym none) tt } }
+          whole = λ _. record { stands = whole.stands; whole = same; met = subst (λ (m : List (List ℕ × List (ℕ × E))). AreKnown m grown) (sym none) tt };
+        }
 
     others_fit : (seat : ℕ) (u : Known E) → seat ≢ id → get_elem? s.views seat ≡ some u → Fits n kept.pen grown kept.owner seat u
     others_fit seat u other there =
@@ -72,7 +73,8 @@ module _ {E : Type 0} where
         let mine = ((kept.fits id v at).owned a has).0 in record {
           front = authors.known_longer u.held u.list kept.list a entry (λ b h e. other (sym (old.owned b h).0 ∙ ap kept.owner e ∙ mine)) old.front;
           owned = old.owned;
-          whole = λ pen. absurd (other ((old.whole pen).stands ∙ sym (pens kept id v at is_pen).stands)) }
+          whole = λ pen. absurd (other ((old.whole pen).stands ∙ sym (pens kept id v at is_pen).stands));
+        }
 
     grown_fits : (seat : ℕ) (u : Known E) → get_elem? (set s.views id writer) seat ≡ some u → Fits n kept.pen grown kept.owner seat u
     grown_fits seat u e = ⊎_elim
@@ -84,7 +86,7 @@ module _ {E : Type 0} where
     grown_word room =
         let more = length-append kept.list ((a, entry) ∷ []) in
         let m : (length kept.list + 1) % 2 ^ 64 ≡ length grown = omega arith in
-          subst (λ (ws : List ℕ). set ws 0 ((get_or ws 0 0 + 1) % 2 ^ 64) ≡ length grown ∷ []) (sym kept.word) (ap (λ (k : ℕ). k ∷ []) m)
+        subst (λ (ws : List ℕ). set ws 0 ((get_or ws 0 0 + 1) % 2 ^ 64) ≡ length grown ∷ []) (sym kept.word) (ap (λ (k : ℕ). k ∷ []) m)
 
     grown_kept : length kept.list < 2 ^ 63 → Kept n record { words = set s.words 0 ((get_or s.words 0 0 + 1) % 2 ^ 64); homes = s.homes; views = set s.views id writer }
     grown_kept room =
@@ -97,7 +99,8 @@ module _ {E : Type 0} where
           range = All-append (λ (pair : ℕ × E). IsAuthor n pair.0) kept.list ((a, entry) ∷ []) kept.range
               (All-cons (λ (pair : ℕ × E). IsAuthor n pair.0) (a, entry) [] mine.1 (All-nil (λ (pair : ℕ × E). IsAuthor n pair.0)));
           written = (writer, subst (λ (i : ℕ). get_elem? (set s.views id writer) i ≡ some writer) stands (seated_anew s.views id v writer at), is_pen);
-          fits = grown_fits }
+          fits = grown_fits;
+        }
 
   pub advances : (n slots id a : ℕ) (entry : E) (pairs : List (ℕ × E)) (me : Seated E) → pairs ≡ (a, entry) ∷ [] → me.0.is_pen ≡ true → me.0.met ≡ [] → Has me.0.held a → length me.0.list < 2 ^ 63
       → Allows (Kept {E = E} n) slots id me 0 (λ k. (k + 1) % 2 ^ 64) (Added pairs me)
@@ -130,14 +133,16 @@ module _ {E : Type 0} where
     giver_fits = let old = kept.fits id v at in record {
       front = fewer_known v.held (without a v.held) v.list kept.list (λ b h. (without_has a v.held b h).0) old.front;
       owned = λ b h. let left = without_has a v.held b h in let o = old.owned b left.0 in (not_given b left.1 ∙ o.0, o.1);
-      whole = λ pen. let w = old.whole pen in record { stands = w.stands; whole = w.whole; met = w.met } }
+      whole = λ pen. let w = old.whole pen in record { stands = w.stands; whole = w.whole; met = w.met };
+    }
 
     stamp_fits : Fits n kept.pen kept.list owner_split (length s.views) (known_stamped a v)
     stamp_fits = let mine = (kept.fits id v at).owned a has in record {
       front = all_known (a ∷ []) v.list kept.list (pens kept id v at is_pen).whole;
       owned = λ b h. let same : a ≡ b = ⊎_elim (λ e. e) (λ never. absurd never) h in
           (given b (sym same), subst (IsAuthor n) same mine.1);
-      whole = λ pen. absurd (cc) }
+      whole = λ pen. absurd (cc);
+    }
 
     aside_fits : (seat : ℕ) (u : Known E) → seat ≢ id → get_elem? s.views seat ≡ some u → Fits n kept.pen kept.list owner_split seat u
     aside_fits seat u other there =
@@ -145,16 +150,17 @@ module _ {E : Type 0} where
         let mine = ((kept.fits id v at).owned a has).0 in record {
           front = old.front;
           owned = λ b h. let o = old.owned b h in (not_given b (λ e. other (sym o.0 ∙ ap kept.owner e ∙ mine)) ∙ o.0, o.1);
-          whole = old.whole }
+          whole = old.whole;
+        }
 
     split_fits : (seat : ℕ) (u : Known E) → get_elem? (set s.views id (known_without a v) ++ known_stamped a v ∷ []) seat ≡ some u → Fits n kept.pen kept.list owner_split seat u
     split_fits seat u e = ⊎_elim
         (λ set. ⊎_elim
-            (λ here. subst (λ (i : ℕ). Fits n kept.pen kept.list owner_split i u) (sym here.0) (subst (λ (w : Known E). Fits n kept.pen kept.list owner_split id w) here.1 giver_fits))
-            (λ there. aside_fits seat u there.0 there.1)
-            (at_set s.views id seat (known_without a v) u set))
+        (λ here. subst (λ (i : ℕ). Fits n kept.pen kept.list owner_split i u) (sym here.0) (subst (λ (w : Known E). Fits n kept.pen kept.list owner_split id w) here.1 giver_fits))
+        (λ there. aside_fits seat u there.0 there.1)
+        (at_set s.views id seat (known_without a v) u set))
         (λ new. subst (λ (i : ℕ). Fits n kept.pen kept.list owner_split i u) (sym (new.0 ∙ length-set s.views id (known_without a v)))
-            (subst (λ (w : Known E). Fits n kept.pen kept.list owner_split (length s.views) w) new.1 stamp_fits))
+        (subst (λ (w : Known E). Fits n kept.pen kept.list owner_split (length s.views) w) new.1 stamp_fits))
         (at_end (set s.views id (known_without a v)) (known_stamped a v) u seat e)
 
     pub split_kept : Kept n record { words = s.words; homes = s.homes; views = set s.views id (known_without a v) ++ known_stamped a v ∷ [] }
@@ -167,7 +173,8 @@ module _ {E : Type 0} where
           word = kept.word;
           range = kept.range;
           written = (known_without a v, subst (λ (i : ℕ). get_elem? (set s.views id (known_without a v) ++ known_stamped a v ∷ []) i ≡ some (known_without a v)) stands anew, is_pen);
-          fits = split_fits }
+          fits = split_fits;
+        }
 
   pub splits : (n id x a : ℕ) (v : Known E) → x ≡ a → v.is_pen ≡ true → Has v.held a → Splits {S = Unit {0}} (Kept {E = E} n) id v (known_without x v) (known_stamped x v)
   splits n id x a v same is_pen has s kept at = split_kept n x s kept id v at is_pen (subst (Has v.held) (sym same) has)
@@ -195,27 +202,30 @@ module _ {E : Type 0} where
               (λ l. let o = stamp.owned b l in (taken b o.0, o.1))
               (λ r. let o = old.owned b r in (not_taken b (λ e. apart (sym e ∙ o.0)) ∙ o.0, o.1))
               (has_append u.held v.held b h);
-          whole = λ _. record { stands = w.stands; whole = w.whole; met = (stamp.front, w.met) } }
+          whole = λ _. record { stands = w.stands; whole = w.whole; met = (stamp.front, w.met) };
+        }
 
     spent_fits : Fits n kept.pen kept.list owner_joined other known_spent
     spent_fits = record {
       front = record { rest = kept.list; front = refl; own = λ b never. absurd never };
       owned = λ b never. absurd never;
-      whole = λ pen. absurd (cc) }
+      whole = λ pen. absurd (cc);
+    }
 
     away_fits : (seat : ℕ) (x : Known E) → seat ≢ other → get_elem? s.views seat ≡ some x → Fits n kept.pen kept.list owner_joined seat x
     away_fits seat x elsewhere e = let old = kept.fits seat x e in record {
       front = old.front;
       owned = λ b h. let o = old.owned b h in (not_taken b (λ f. elsewhere (sym o.0 ∙ f)) ∙ o.0, o.1);
-      whole = old.whole }
+      whole = old.whole;
+    }
 
     joined_fits : (seat : ℕ) (x : Known E) → get_elem? (set (set s.views id (known_joined v u)) other known_spent) seat ≡ some x → Fits n kept.pen kept.list owner_joined seat x
     joined_fits seat x e = ⊎_elim
         (λ here. subst (λ (i : ℕ). Fits n kept.pen kept.list owner_joined i x) (sym here.0) (subst (λ (w : Known E). Fits n kept.pen kept.list owner_joined other w) here.1 spent_fits))
         (λ set. ⊎_elim
-            (λ here. subst (λ (i : ℕ). Fits n kept.pen kept.list owner_joined i x) (sym here.0) (subst (λ (w : Known E). Fits n kept.pen kept.list owner_joined id w) here.1 taker_fits))
-            (λ old. away_fits seat x set.0 old.1)
-            (at_set s.views id seat (known_joined v u) x set.1))
+        (λ here. subst (λ (i : ℕ). Fits n kept.pen kept.list owner_joined i x) (sym here.0) (subst (λ (w : Known E). Fits n kept.pen kept.list owner_joined id w) here.1 taker_fits))
+        (λ old. away_fits seat x set.0 old.1)
+        (at_set s.views id seat (known_joined v u) x set.1))
         (at_set (set s.views id (known_joined v u)) other seat known_spent x e)
 
     pub joined_kept : Kept n record { words = s.words; homes = s.homes; views = set (set s.views id (known_joined v u)) other known_spent }
@@ -228,7 +238,8 @@ module _ {E : Type 0} where
           word = kept.word;
           range = kept.range;
           written = (known_joined v u, subst (λ (i : ℕ). get_elem? (set (set s.views id (known_joined v u)) other known_spent) i ≡ some (known_joined v u)) stands anew, is_pen);
-          fits = joined_fits }
+          fits = joined_fits;
+        }
 
   pub joins : (n id : ℕ) (v : Known E) (other : ℕ) (u : Known E) → v.is_pen ≡ true → Joins {S = Unit {0}} (Kept {E = E} n) id v other u (known_joined v u) known_spent
   joins n id v other u is_pen s kept at apart there =
@@ -240,12 +251,13 @@ module _ {E : Type 0} where
     settled_fits : (seat : ℕ) (x : Known E) → get_elem? (set s.views id (known_settled v)) seat ≡ some x → Fits n kept.pen kept.list kept.owner seat x
     settled_fits seat x e = ⊎_elim
         (λ here.
-            let old = kept.fits id v at in
-            let fits : Fits n kept.pen kept.list kept.owner id (known_settled v) = record {
-              front = old.front;
-              owned = old.owned;
-              whole = λ pen. let w = old.whole pen in record { stands = w.stands; whole = w.whole; met = tt } } in
-              subst (λ (i : ℕ). Fits n kept.pen kept.list kept.owner i x) (sym here.0) (subst (λ (w : Known E). Fits n kept.pen kept.list kept.owner id w) here.1 fits))
+        let old = kept.fits id v at in
+        let fits : Fits n kept.pen kept.list kept.owner id (known_settled v) = record {
+          front = old.front;
+          owned = old.owned;
+          whole = λ pen. let w = old.whole pen in record { stands = w.stands; whole = w.whole; met = tt };
+        } in
+        subst (λ (i : ℕ). Fits n kept.pen kept.list kept.owner i x) (sym here.0) (subst (λ (w : Known E). Fits n kept.pen kept.list kept.owner id w) here.1 fits))
         (λ there. kept.fits seat x there.1)
         (at_set s.views id seat (known_settled v) x e)
 
@@ -258,7 +270,8 @@ module _ {E : Type 0} where
           word = subst (λ (ws : List ℕ). set ws 0 (get_or ws 0 0) ≡ length kept.list ∷ []) (sym kept.word) refl;
           range = kept.range;
           written = (known_settled v, subst (λ (i : ℕ). get_elem? (set s.views id (known_settled v)) i ≡ some (known_settled v)) stands (seated_anew s.views id v (known_settled v) at), is_pen);
-          fits = settled_fits }
+          fits = settled_fits;
+        }
 
   pub meets : (n slots id : ℕ) (me : Seated E) → n ≡ me.0.authors → me.0.is_pen ≡ true → Allows (Kept {E = E} n) slots id me 0 (λ k. k) (Met me)
   meets n slots id me authors is_pen s kept _ at _ =
@@ -273,5 +286,6 @@ module _ {E : Type 0} where
           word = found;
           range = subst (λ (m : ℕ). AreAuthors m me.0.list) authors (subst (AreAuthors n) (sym w.whole) kept.range);
           held = λ a h. subst (λ (m : ℕ). IsAuthor m a) authors ((kept.fits id me.0 at).owned a h).1;
-          known = subst (AreKnown me.0.met) (sym w.whole) w.met },
+          known = subst (AreKnown me.0.met) (sym w.whole) w.met;
+        },
       )

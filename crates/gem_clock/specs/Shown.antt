@@ -7,6 +7,13 @@ pub record ClockId : Type 0 where
   pub table : TableId
   pub authors : ℕ
 
+-- no clock: it has no word and no author. It stands where a clock is picked at each call
+abbrev pub no_clock : ClockId
+no_clock = record {
+  table = record { words = 0; slots = 0; views_name = 0; atom = 0; block = 0; offset = 0; slot_names = [] };
+  authors = 0;
+}
+
 -- the pen of a clock: the authors that it holds, and the list, which is all pairs that were added
 pub record PenView (E : Type 0) : Type 0 where
   pub clock : ClockId

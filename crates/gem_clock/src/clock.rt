@@ -14,7 +14,7 @@ use std::marker::{Brand, Model};
 /// stamps. Any number of threads may share it.
 #[derive(Drop)]
 pub struct Clock<E> {
-    table: Table<(), Known<E>, u32, Rule, Global>,
+    pub(crate) table: Table<(), Known<E>, u32, Rule, Global>,
 }
 
 impl<E> Model for Clock<E> {
@@ -42,10 +42,11 @@ impl<E> Model for Pen<E> {
 
     ghost Value = { PenView E };
 
-    ghost view = { λ pen. record
-        { clock = record { table = pen.seat.table_id; authors = pen.seat.me.0.authors };
-          held = pen.seat.me.0.held;
-          list = pen.seat.me.0.list } };
+    ghost view = { λ pen. record {
+      clock = record { table = pen.seat.table_id; authors = pen.seat.me.0.authors };
+      held = pen.seat.me.0.held;
+      list = pen.seat.me.0.list;
+    } };
 
     ghost invariant = { λ pen. (pen.seat.me.0.is_pen ≡ true) × (pen.seat.me.0.met ≡ [])
         × (pen.seat.me.1 ≡ []) };
@@ -65,10 +66,11 @@ impl<E> Model for Stamp<E> {
 
     ghost Value = { StampView E };
 
-    ghost view = { λ stamp. record
-        { clock = record { table = stamp.seat.table_id; authors = stamp.seat.me.0.authors };
-          author = stamp.author;
-          list = stamp.seat.me.0.list } };
+    ghost view = { λ stamp. record {
+      clock = record { table = stamp.seat.table_id; authors = stamp.seat.me.0.authors };
+      author = stamp.author;
+      list = stamp.seat.me.0.list;
+    } };
 
     ghost invariant = { λ stamp. (stamp.seat.me.0.held ≡ stamp.author ∷ [])
         × (stamp.seat.me.1 ≡ []) };

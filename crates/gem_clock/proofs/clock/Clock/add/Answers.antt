@@ -1,4 +1,4 @@
-use Rattle.std.proofs.Common.{◌≡◌, ◌<◌, ◌^◌, ℕ, List, length, ap, sym, subst, ◌∙◌, arith}
+use Rattle.std.proofs.Common.{◌<◌, ◌^◌, length, ap, sym, subst, ◌∙◌, arith}
 use Rattle.gem_clock.specs.Pairs.{Has}
 use Rattle.gem_clock.specs.Shown.{ClockId, PenView}
 use Rattle.gem_clock.proofs.Moves.{advances}

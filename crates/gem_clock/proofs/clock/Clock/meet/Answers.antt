@@ -1,4 +1,4 @@
-use Rattle.std.proofs.Common.{◌≡◌, ℕ, ◌⊎◌, inl, List, ◌∷◌, ◌++◌, refl, ap, sym, subst, ◌∙◌, arith}
+use Rattle.std.proofs.Common.{◌≡◌, ℕ, inl, List, ◌++◌, refl, ap, sym, subst, ◌∙◌, arith}
 use Rattle.atomic_table.specs.Table.{Me}
 use Rattle.gem_clock.specs.Pairs.{Has, IsAuthor}
 use Rattle.gem_clock.specs.Shown.{ClockId, PenView, StampView}
@@ -22,7 +22,7 @@ pub load-requires : goal.load-requires
 load-requires g c =
     let table = ap (λ (p : PenView g.row.E.Denot). p.clock.table) c.pen.view_is ∙ ap (λ (k : ClockId). k.table) (c.requires.clock ∙ sym c.self.view_is) in
     let authors : c.self.inside.table.shared.key ≡ c.pen.inside.seat.me.0.authors =
-        sym (ap (λ (p : PenView g.row.E.Denot). p.clock.authors) c.pen.view_is ∙ ap (λ (k : ClockId). k.authors) (c.requires.clock ∙ sym c.self.view_is)) in
+    sym (ap (λ (p : PenView g.row.E.Denot). p.clock.authors) c.pen.view_is ∙ ap (λ (k : ClockId). k.authors) (c.requires.clock ∙ sym c.self.view_is)) in
     let joined = c.join_seat.ensures in
     let words = c.self.invariant in (
       joined.0 ∙ table,
@@ -37,10 +37,10 @@ returns-clause-author g c =
     let pen = c.pen.inside.seat.me.0 in
     let stamp = c.stamp.inside.seat.me.0 in
     let told : (a : ℕ) → Has (stamp.held ++ pen.held) a → IsAuthor pen.authors a =
-        subst (λ (me : Me (Unit {0}) (Known g.row.E.Denot)). (a : ℕ) → Has me.0.held a → IsAuthor me.0.authors a) c.join_seat.ensures.2 c.load.ensures.2.held in
+    subst (λ (me : Me (Unit {0}) (Known g.row.E.Denot)). (a : ℕ) → Has me.0.held a → IsAuthor me.0.authors a) c.join_seat.ensures.2 c.load.ensures.2.held in
     let mine : IsAuthor pen.authors c.stamp.inside.author =
-        told c.stamp.inside.author (subst (λ (hs : List ℕ). Has (hs ++ pen.held) c.stamp.inside.author) (sym c.stamp.invariant.0) (inl refl)) in
+    told c.stamp.inside.author (subst (λ (hs : List ℕ). Has (hs ++ pen.held) c.stamp.inside.author) (sym c.stamp.invariant.0) (inl refl)) in
     let authors : pen.authors ≡ c.args.self.now.authors =
-        ap (λ (p : PenView g.row.E.Denot). p.clock.authors) c.pen.view_is ∙ ap (λ (k : ClockId). k.authors) c.requires.clock in
+    ap (λ (p : PenView g.row.E.Denot). p.clock.authors) c.pen.view_is ∙ ap (λ (k : ClockId). k.authors) c.requires.clock in
     let author : c.stamp.inside.author ≡ c.args.stamp.author = ap (λ (m : StampView g.row.E.Denot). m.author) c.stamp.view_is in
-      subst (λ (n : ℕ). IsAuthor n c.args.stamp.author) authors (subst (IsAuthor pen.authors) author mine)
+    subst (λ (n : ℕ). IsAuthor n c.args.stamp.author) authors (subst (IsAuthor pen.authors) author mine)
