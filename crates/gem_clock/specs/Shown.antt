@@ -10,7 +10,15 @@ pub record ClockId : Type 0 where
 -- no clock: it has no word and no author. It stands where a clock is picked at each call
 abbrev pub no_clock : ClockId
 no_clock = record {
-  table = record { words = 0; slots = 0; views_name = 0; atom = 0; block = 0; offset = 0; slot_names = [] };
+  table = record {
+    words = 0;
+    slots = 0;
+    views_name = 0;
+    atom = 0;
+    block = 0;
+    offset = 0;
+    slot_names = [];
+  };
   authors = 0;
 }
 
