@@ -124,6 +124,9 @@ fn take_turns<R: Wait + Abort, N: Naming>(
         };
         stamp = taken;
         seen = desk.seen();
+        drop(guard);
+        // So that turns of several threads mix.
+        thread::yield_now();
     }
     seen
 }
