@@ -1,0 +1,4 @@
+pub mod Authors
+pub mod Views
+pub mod Moves
+pub mod Firsts
