@@ -1,3 +1,4 @@
+mod Equality
 mod Ties
 mod Sums
 mod Names

@@ -1,6 +1,6 @@
 -- The order of values.
-use Rattle.std.specs.Prelude.{ℕ}
-use Rattle.std.specs.Ordering.{nat_cmp, int_cmp, ordering_then}
+use Rattle.std.specs.Prelude.{ℕ, Bool}
+use Rattle.std.specs.Ordering.{nat_cmp, int_cmp, ordering_then, is_eq}
 use Rattle.std.specs.Cmp.Lexicographic.{slice_cmp}
 use Rattle.std.specs.declared.cmp.Ordering.{Ordering}
 use Rattle.std.specs.declared.cmp.Ordering.TheVariants.{Equal}
@@ -32,3 +32,7 @@ content_order _ _ = Equal
 abbrev pub value_order : Value → Value → Ordering
 value_order value other =
     ordering_then (nat_cmp (tag_of value) (tag_of other)) (content_order value other)
+
+-- whether two values are the same: they compare as equal
+abbrev pub same_value : Value → Value → Bool
+same_value value other = is_eq (value_order value other)

@@ -1,15 +1,15 @@
 -- What can be stored: values, bodies and objects that have a spelling.
 use Rattle.std.specs.Prelude.{◌≢◌, ◌≤◌, ◌<◌, ◌^◌, ℕ, Bool, true, false, IsTrue, List, map, length, All}
 use Rattle.std.specs.Option.{IfSome}
-use Rattle.std.specs.Ordering.{nat_cmp, is_eq}
+use Rattle.std.specs.Ordering.{nat_cmp}
 use Rattle.std.specs.Cmp.Lexicographic.{slice_cmp}
-use Rattle.std.specs.List.{IsDistinct}
 use Rattle.std.specs.List.Sorted.{IsStrictlySortedBy}
 use Rattle.texts.specs.Bytes.{Bytes as Text}
 use Rattle.profile.specs.SmallInteger.{is_small_integer}
 use Rattle.seg_rights.specs.declared.right.Right.TheVariants.{None as NoRight}
 use Rattle.seg_rights.specs.declared.rights.Rights.{Rights}
-use Rattle.gem_object.specs.Order.{value_order}
+use Rattle.insertion_map.specs.Pairs.{AreDistinct}
+use Rattle.gem_object.specs.Order.{value_order, same_value}
 use Rattle.gem_object.specs.declared.value.Value.{Value}
 use Rattle.gem_object.specs.declared.value.Value.TheVariants.{Nil, False, True, Int, Char, Sym, Ref, Block}
 use Rattle.gem_object.specs.declared.body.MethodCode.{MethodCode}
@@ -63,8 +63,7 @@ IsStorablePair pair = IsStorable pair.0 × IsStorable pair.1
 pub record IsDictionary (pairs : List (Value × Value)) : Type 0 where
   pub count : length pairs < 2 ^ 32
   pub each : All IsStorablePair pairs
-  pub distinct : IsDistinct (λ key other. is_eq (value_order key other))
-      (map (λ pair. pair.0) pairs)
+  pub distinct : AreDistinct same_value pairs
   pub no_nil : All (λ pair. pair.0 ≢ Nil) pairs
 
 -- a method's code: a source of fewer than 2^32 bytes, or a primitive's number of one byte

@@ -1,11 +1,11 @@
 //! What an object holds.
-ghost use Rattle.std.specs.Prelude.{◌≡◌, ◌<◌, ◌*◌, ◌^◌, ◌-◌, min, IfOk};
-ghost use Rattle.gem_object.specs.Edits.{plain_slots, body_bytes, with_slot, with_byte};
+ghost use Rattle.std.specs.Prelude.{◌≡◌, ◌<◌, ◌≤◌, ◌*◌, ◌^◌, ◌-◌, min, IfOk, OnOk, OnErr, option_copied};
+ghost use Rattle.gem_object.specs.Edits.{plain_slots, body_bytes, with_slot, with_byte, with_slot_more, without_slot, slot_at, value_at, with_value_at, without_value_at};
 ghost use Rattle.gem_object.specs.Kinds.{is_shared};
 ghost use Rattle.gem_object.specs.Slots.{slots_of, class_slots};
 
-use crate::items::{ByteString, Methods, Names, Pairs, Values};
 use crate::kind::Kind;
+use crate::lists::{ByteString, Dictionary, Methods, Names, Values};
 use crate::value::Value;
 use gem_value::Oid;
 use rc_counter_bag::{Bag, Counter};
@@ -117,8 +117,8 @@ pub enum Body {
     Plain(Values),
     /// Bytes, as those of a string.
     Bytes(ByteString),
-    /// Pairs of a key and a value, in the order in which the keys were put.
-    Dict(Pairs),
+    /// Values by keys, in the order in which the keys were put.
+    Dict(Dictionary),
     /// A class.
     Class(ClassBody),
     /// The rights that a segment gives. The owner is the number of the user's name.
@@ -171,6 +171,72 @@ impl Body {
     {
         if let Body::Plain(values) = self {
             values.set(at, value);
+        }
+    }
+
+    /// Puts a slot with this value at a place of a Plain body; the slots from there on move up by
+    /// one, and nothing else changes. Where it finds no memory the body is as before.
+    pub fn insert_slot(&mut self, at: usize, value: Value) -> Result<(), AllocError>
+        requires { at ≤ plain_slots self.old }
+        ensures added { OnOk result (self.new ≡ with_slot_more at value self.old) }
+        ensures unchanged { OnErr result (self.new ≡ self.old) }
+    {
+        if let Body::Plain(values) = self {
+            values.insert(at, value)?;
+        }
+        Ok(())
+    }
+
+    /// Takes the slot at a place of a Plain body away, and gives what it held; the slots after it
+    /// move down by one, and nothing else changes. It takes no memory.
+    pub fn remove_slot(&mut self, at: usize) -> Option<Value>
+        requires { at < plain_slots self.old }
+        ensures value { result ≡ slot_at at self.old }
+        ensures rest { self.new ≡ without_slot at self.old }
+    {
+        match self {
+            Body::Plain(values) => Some(values.remove(at)),
+            _ => None,
+        }
+    }
+
+    /// The value that a Dict body has at the key; None also where the body is of another kind. It
+    /// takes no memory, and finds the key by its hash.
+    #[tactic(auto, using(crate::proofs::Equality::same_entry))]
+    pub fn value_at(&self, key: &Value) -> Option<&Value>
+        ensures { option_copied result ≡ value_at key.now self.now }
+    {
+        match self {
+            Body::Dict(pairs) => pairs.get(key),
+            _ => None,
+        }
+    }
+
+    /// Puts a value at a key of a Dict body, and gives the value that the key had: a key that is
+    /// there keeps its place, and a new one comes last. A body of another kind stays as it is.
+    /// Where it finds no memory, which only a new key needs, the body is as before.
+    #[tactic(auto, using(crate::proofs::Equality::same_put, crate::proofs::Equality::same_entry))]
+    pub fn put_at(&mut self, key: Value, value: Value) -> Result<Option<Value>, AllocError>
+        ensures put { OnOk result (self.new ≡ with_value_at key value self.old) }
+        ensures before { IfOk result (λ before. before ≡ value_at key self.old) }
+        ensures unchanged { OnErr result (self.new ≡ self.old) }
+    {
+        match self {
+            Body::Dict(pairs) => pairs.put(key, value),
+            _ => Ok(None),
+        }
+    }
+
+    /// Takes a key's pair away from a Dict body, and gives its value; the other pairs keep their
+    /// order. A body of another kind stays as it is. It takes no memory.
+    #[tactic(auto, using(crate::proofs::Equality::same_rest, crate::proofs::Equality::same_entry))]
+    pub fn remove_at(&mut self, key: &Value) -> Option<Value>
+        ensures value { result ≡ value_at key.now self.old }
+        ensures without { self.new ≡ without_value_at key.now self.old }
+    {
+        match self {
+            Body::Dict(pairs) => pairs.remove(key),
+            _ => None,
         }
     }
 

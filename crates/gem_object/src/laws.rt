@@ -3,7 +3,7 @@
 ghost use Rattle.std.specs.Prelude.{◌≡◌, ℕ, All};
 ghost use Rattle.std.specs.Ordering.{nat_cmp};
 ghost use Rattle.std.specs.declared.cmp.Ordering.TheVariants.{Equal};
-ghost use Rattle.gem_object.specs.Order.{value_order};
+ghost use Rattle.gem_object.specs.Order.{value_order, same_value};
 ghost use Rattle.gem_object.specs.Kinds.{kind_number};
 ghost use Rattle.gem_object.specs.Slots.{slots_of};
 ghost use Rattle.gem_object.specs.Sizes.{fields_size};
@@ -44,4 +44,10 @@ pub fn changes_keep_room()
         slots_of (with_slot at value body) ≡ slots_of body }
     ensures size { (at byte : ℕ) (body : Body) →
         fields_size (with_byte at byte body) ≡ fields_size body }
+{}
+
+/// Values are equal exactly where they compare as equal.
+pub fn equality_of_values()
+    ensures { (value other : Value) → ⟦<Value as PartialEq>⟧.eq value other
+        ≡ same_value value other }
 {}

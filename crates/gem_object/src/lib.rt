@@ -3,9 +3,9 @@
 #![tactic(auto)]
 
 mod body;
-mod items;
 mod kind;
 pub mod laws;
+mod lists;
 mod object;
 mod size;
 #[cfg(test)]
@@ -13,7 +13,7 @@ mod tests;
 mod value;
 
 pub use body::{Body, ClassBody, Method, MethodCode, UserBody};
-pub use items::{ByteString, Items, Methods, Names, Pairs, Values};
 pub use kind::Kind;
+pub use lists::{ByteString, Dictionary, Methods, Names, Values};
 pub use object::Object;
 pub use value::{BlockRef, Value};

@@ -3,6 +3,7 @@ ghost use Rattle.std.specs.Prelude.{◌≡◌, ◌^◌, ◌-◌, ◌+◌, ℕ, m
 ghost use Rattle.gem_object.specs.Sizes.{value_size, text_size, method_size, pair_size, grant_size, occurrences_size, class_size, user_size, fields_size, object_size};
 
 use crate::body::{Body, ClassBody, Method, MethodCode, UserBody};
+use crate::lists::Dictionary;
 use crate::object::Object;
 use crate::value::Value;
 use rc_queue::Queue;
@@ -59,7 +60,7 @@ impl Encoded for (Value, Value) {
     ghost encoded_size = { pair_size };
 
     fn size(&self) -> u64 {
-        self.0.size().saturating_add(self.1.size())
+        pair_bytes(&self.0, &self.1)
     }
 }
 
@@ -88,7 +89,7 @@ impl Body {
         match self {
             Body::Plain(values) => total_size(values.as_slice()).saturating_add(4),
             Body::Bytes(bytes) => (bytes.len() as u64).saturating_add(4),
-            Body::Dict(pairs) => total_size(pairs.as_slice()).saturating_add(4),
+            Body::Dict(pairs) => pairs_size(pairs).saturating_add(4),
             Body::Class(class) => class_size(class),
             Body::Segment(rights) => total_size(rights.groups.as_slice()).saturating_add(12),
             Body::User(user) => user_size(user),
@@ -135,6 +136,26 @@ fn user_size(user: &UserBody) -> u64
 {
     let head = user.name.size().saturating_add(18);
     head.saturating_add(total_size(user.groups.as_slice()))
+}
+
+// The bytes of a key and of its value.
+fn pair_bytes(key: &Value, value: &Value) -> u64
+    ensures { result ≡ min (pair_size (key.now, value.now)) (2 ^ 64 - 1) }
+{
+    key.size().saturating_add(value.size())
+}
+
+// The bytes of all pairs, one after the other.
+fn pairs_size(pairs: &Dictionary) -> u64
+    ensures { result ≡ min (sum_by pair_size pairs.now) (2 ^ 64 - 1) }
+{
+    let mut sum = 0u64;
+    for at in 0..pairs.len() {
+        if let Some((key, value)) = pairs.pair(at) {
+            sum = sum.saturating_add(pair_bytes(key, value));
+        }
+    }
+    sum
 }
 
 // The bytes of the items that wait.

@@ -28,9 +28,9 @@ fn plain(alloc: Global) -> Result<Body, Fail> {
 }
 
 fn dict(alloc: Global) -> Result<Body, Fail> {
-    let mut pairs = Pairs::of(Vec::new(alloc));
-    pairs.push((symbol(alloc, b"a")?, Value::Int(9)))?;
-    pairs.push((symbol(alloc, b"bc")?, Value::True))?;
+    let mut pairs = Dictionary::new(alloc);
+    pairs.put(symbol(alloc, b"a")?, Value::Int(9))?;
+    pairs.put(symbol(alloc, b"bc")?, Value::True)?;
     Ok(Body::Dict(pairs))
 }
 
@@ -213,28 +213,15 @@ fn values(rt: HostRuntime) -> Result<(), Fail> {
     Ok(())
 }
 
-#[test]
-fn changes_of_a_place(rt: HostRuntime) -> Result<(), Fail> {
-    let alloc = rt.alloc();
-    let mut list = Items::of(vec![in alloc; 10, 20, 30]?);
-    list.set(1, 21);
-    list.push(40)?;
-    list.insert(0, 5)?;
-    assert_eq!(rt; list.as_slice(), [5, 10, 21, 30, 40].as_slice());
-    assert_eq!(rt; list.pop(), Some(40));
-    let copy = list.try_clone()?;
-    assert!(rt; copy.len() == 4 && !copy.is_empty());
-    let mut left = copy.into_items();
-    assert_eq!(rt; left.pop(), Some(30));
-    Ok(())
-}
-
 fn changed_slots(alloc: Global) -> Result<Body, Fail> {
     let mut values = Values::of(Vec::new(alloc));
     values.push(Value::Nil)?;
     values.push(Value::True)?;
     let mut body = Body::Plain(values);
     body.set_slot(1, Value::Int(4));
+    body.insert_slot(1, Value::Int(3))?;
+    body.insert_slot(3, Value::Int(5))?;
+    body.remove_slot(0);
     Ok(body)
 }
 
@@ -250,11 +237,27 @@ fn changes_of_a_body(rt: HostRuntime) -> Result<(), Fail> {
     let Body::Plain(values) = &slots else {
         panic!(rt; "slots");
     };
-    assert!(rt; values.as_slice() == [Value::Nil, Value::Int(4)].as_slice());
+    let left = [Value::Int(3), Value::Int(4), Value::Int(5)];
+    assert!(rt; values.as_slice() == left.as_slice());
     let bytes = changed_bytes(rt.alloc())?;
     let Body::Bytes(text) = &bytes else {
         panic!(rt; "bytes");
     };
     assert_eq!(rt; text.as_slice(), b"hat".as_slice());
+    Ok(())
+}
+
+#[test]
+fn changes_of_a_dictionary(rt: HostRuntime) -> Result<(), Fail> {
+    let alloc = rt.alloc();
+    let (first, second) = (symbol(alloc, b"a")?, Value::Ref(Oid::from_parts(1, 1)));
+    let mut body = Body::Dict(Dictionary::new(alloc));
+    assert!(rt; body.put_at(first.clone()?, Value::Int(1))?.is_none());
+    assert!(rt; body.put_at(second.clone()?, Value::Int(2))?.is_none());
+    assert!(rt; body.put_at(first.clone()?, Value::Int(3))? == Some(Value::Int(1)));
+    assert!(rt; body.value_at(&first) == Some(&Value::Int(3)));
+    assert!(rt; body.remove_at(&first) == Some(Value::Int(3)));
+    assert!(rt; body.value_at(&first).is_none() && body.slots() == 2);
+    assert!(rt; body.value_at(&second) == Some(&Value::Int(2)));
     Ok(())
 }

@@ -7,7 +7,7 @@ use std::alloc::AllocError;
 use texts::Text;
 
 /// A block that a chunk made.
-#[derive(Clone, Copy, Debug, PartialEq, Eq, PartialOrd, Ord)]
+#[derive(Clone, Copy, Debug, PartialEq, Eq, PartialOrd, Ord, Hash)]
 pub struct BlockRef {
     /// Its number: the blocks that a chunk makes are numbered from 0, in the order in which they
     /// are made.
@@ -18,7 +18,7 @@ pub struct BlockRef {
 
 /// What a slot holds. Values are ordered by their kinds, in this order, and within a kind by their
 /// numbers or bytes.
-#[derive(Debug, PartialEq, Eq, PartialOrd, Ord, Drop)]
+#[derive(Debug, PartialEq, Eq, PartialOrd, Ord, Hash, Drop)]
 pub enum Value {
     Nil,
     False,

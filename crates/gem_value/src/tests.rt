@@ -134,3 +134,20 @@ fn all_writes_of_a_transaction(rt: HostRuntime) -> Result<(), Fail> {
     assert_eq!(rt; image.look_name(b"T"), Some(5));
     Ok(())
 }
+
+#[test]
+fn changes_of_a_list(rt: HostRuntime) -> Result<(), Fail> {
+    let alloc = rt.alloc();
+    let mut list = Sequence::of(vec![in alloc; 10, 20, 30]?);
+    list.set(1, 21);
+    list.push(40)?;
+    list.insert(0, 5)?;
+    assert_eq!(rt; list.as_slice(), [5, 10, 21, 30, 40].as_slice());
+    assert_eq!(rt; list.pop(), Some(40));
+    assert_eq!(rt; list.remove(1), 10);
+    let copy = list.try_clone()?;
+    assert!(rt; copy.len() == 3 && !copy.is_empty());
+    let mut left = copy.into_items();
+    assert_eq!(rt; left.pop(), Some(30));
+    Ok(())
+}
