@@ -1,14 +1,12 @@
 -- A body that can be stored can be after an update or a merge with values that can be, where its
 -- pairs or items can be counted.
-use Rattle.std.proofs.Common.{◌≡◌, ℕ, ℤ, ◌+ℤ◌, ◌<◌, ◌^◌, Bool, true, false, cond, IsTrue, List, [], ◌∷◌, length, Option, Some, None, Result, Ok, refl, sym, ap, ◌∙◌, subst}
+use Rattle.std.proofs.Common.{◌≡◌, ℕ, ℤ, ◌+ℤ◌, ◌<◌, ◌^◌, Bool, true, false, cond, IsTrue, List, [], ◌∷◌, length, Some, None, Ok, refl, sym, ap, subst}
 use Rattle.std.specs.List.{All}
-use Rattle.std.specs.Option.{ok_or, option_map}
-use Rattle.std.specs.Result.{result_ok}
 use Rattle.std.proofs.lemmas.List.Elements.{All-nil, All-cons, All-head, All-tail, All-weaker}
 use Rattle.std.proofs.lemmas.Option.{option_and_then_some}
 use Rattle.profile.specs.SmallInteger.{is_small_integer}
 use Rattle.gem_object.specs.Order.{value_order}
-use Rattle.gem_object.specs.Spelling.{IsStorable, AreStorable, IsStorablePair, IsItems, IsKeyDictionary, is_key, IsSpelledBody}
+use Rattle.gem_object.specs.Spelling.{IsStorable, IsStorablePair, IsItems, IsKeyDictionary, is_key, IsSpelledBody}
 use Rattle.gem_object.specs.declared.value.Value.{Value}
 use Rattle.gem_object.specs.declared.body.Body.{Body}
 use Rattle.gem_object.specs.declared.body.Body.TheVariants as body
@@ -20,7 +18,6 @@ use Rattle.rc_counter_bag.specs.declared.update.BagFault.TheVariants as bag_faul
 use Rattle.rc_dict.specs.Dict as dicts
 use Rattle.rc_dict.specs.declared.update.DictUpdate.{DictUpdate}
 use Rattle.rc_dict.specs.declared.update.DictFault.TheVariants as dict_fault
-use Rattle.rc_queue.specs.Contents.{Contents}
 use Rattle.rc_queue.specs.Update as queues
 use Rattle.rc_queue.specs.declared.update.QueueUpdate.{QueueUpdate}
 use Rattle.rc_queue.specs.declared.update.QueueFault.TheVariants as queue_fault
@@ -29,7 +26,7 @@ use Rattle.gem_update.specs.Update.{updated, merged, all_changes, counter_change
 use Rattle.gem_update.specs.Spelling.{IsStorableUpdate, entries_of}
 use Rattle.gem_update.specs.declared.update.Update.{Update}
 use Rattle.gem_update.specs.declared.update.Update.TheVariants as change
-use Rattle.gem_update.proofs.Kept.{IsOccurring, AreItems, IsEntry, AreEntries, AreWaiting, bag_updated_kept, bag_merged_kept, dict_updated_kept, dict_merged_kept, dict_not_changed, queue_updated_kept, queue_merged_kept, queue_not_refused}
+use Rattle.gem_update.proofs.Kept.{IsOccurring, AreItems, IsEntry, AreEntries, bag_updated_kept, bag_merged_kept, dict_updated_kept, dict_merged_kept, dict_not_changed, queue_updated_kept, queue_merged_kept, queue_not_refused}
 use Rattle.gem_update.proofs.Accepted.{accepted, some_if_ok, ok_if_ok, each_change}
 
 -- ---- counters

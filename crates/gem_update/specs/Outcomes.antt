@@ -1,6 +1,6 @@
 -- What an update makes of an object of each class, and what a merge of updates makes, or the fault
 -- by which it is refused.
-use Rattle.std.specs.Prelude.{ℕ, ℤ, Bool, true, false, not, List, Option, Result, Ok, Err, option_map}
+use Rattle.std.specs.Prelude.{ℕ, ℤ, Bool, true, false, List, Option, Result, Ok, Err, option_map}
 use Rattle.std.specs.Option.{ok_or}
 use Rattle.gem_object.specs.Order.{value_order}
 use Rattle.gem_object.specs.declared.value.Value.{Value}

@@ -1,10 +1,7 @@
 -- What an update refers to.
 use Rattle.std.specs.Prelude.{ℕ, List, [], ◌∷◌}
-use Rattle.rc_counter_bag.specs.declared.update.BagUpdate.{BagUpdate}
 use Rattle.rc_counter_bag.specs.declared.update.BagUpdate.TheVariants as bag
-use Rattle.rc_dict.specs.declared.update.DictUpdate.{DictUpdate}
 use Rattle.rc_dict.specs.declared.update.DictUpdate.TheVariants as dict
-use Rattle.rc_queue.specs.declared.update.QueueUpdate.{QueueUpdate}
 use Rattle.rc_queue.specs.declared.update.QueueUpdate.TheVariants as queue
 use Rattle.gem_object.specs.References.{names_in}
 use Rattle.gem_object.specs.declared.value.Value.{Value}

@@ -1,4 +1,4 @@
-use Rattle.std.proofs.Common.{◌≡◌, true, ℕ, Some, None}
+use Rattle.std.proofs.Common.{◌≡◌, true, Some, None}
 use Rattle.std.specs.Result.{OnOk, IsErrOf}
 use Rattle.rc_counter_bag.specs.Bag.{updated, adds_new}
 use Rattle.rc_counter_bag.specs.declared.update.BagFault.TheVariants.{Missing, NoMemory}

@@ -1,4 +1,4 @@
-use Rattle.std.proofs.Common.{◌≡◌, true, ℕ, Some, None}
+use Rattle.std.proofs.Common.{◌≡◌, true, Some, None}
 use Rattle.std.specs.Result.{OnOk, IsErrOf}
 use Rattle.rc_dict.specs.Dict.{updated, puts_new}
 use Rattle.rc_dict.specs.declared.update.DictFault.TheVariants.{Key, NoMemory}
