@@ -32,7 +32,8 @@ pub fn one_class()
         → fits_update update body ≡ true }
     ensures merge { (view place after : Body) (updates : List Update)
         → merged view place updates ≡ Some after
-        → All (λ update. (fits_update update view ≡ true) × (fits_update update place ≡ true)) updates }
+        → All (λ update. (fits_update update view ≡ true) × (fits_update update place ≡ true))
+        updates }
     ensures kind { (update : Update) (body after : Body) (kind : Kind)
         → updated update body ≡ Some after → fits kind after ≡ fits kind body }
     ensures merged_kind { (view place after : Body) (updates : List Update) (kind : Kind)
