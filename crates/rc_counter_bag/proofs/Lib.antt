@@ -1,6 +1,6 @@
 mod Commute
 mod Counts
-mod Edits
-mod Kept
+pub mod Edits
+pub mod Kept
 mod Refusals
 mod Sums

@@ -1,6 +1,6 @@
 mod Commute
-mod Edits
+pub mod Edits
 mod Entries
-mod Kept
+pub mod Kept
 mod Merges
 mod Told

@@ -1,0 +1,3 @@
+pub mod Names
+pub mod History
+pub mod Effects

@@ -1,0 +1,15 @@
+//! Room: values. Gives the record that a session hands over when it commits, what the history keeps
+//! of it, and the effect of a commit with its size. Knows nothing of scripts and of who runs what.
+#![tactic(auto)]
+
+mod by_name;
+mod effect;
+mod oid_list;
+mod record;
+#[cfg(test)]
+mod tests;
+
+pub use by_name::ByName;
+pub use effect::Effect;
+pub use oid_list::OidList;
+pub use record::{Entry, TxnRecord};

@@ -1,0 +1,7 @@
+mod Order
+mod Answered
+mod Each
+mod Kept
+mod Accepted
+mod Spelled
+mod Classes
