@@ -1,5 +1,5 @@
 -- The function that takes the kept objects away takes the smallest set.
-use Rattle.std.proofs.Common.{◌≡◌, ◌≢◌, ◌↔◌, ℕ, zero, suc, ◌+◌, ◌≤◌, Bool, true, false, cond, inl, inr, List, [], ◌∷◌, ◌++◌, length, reverse, map, filter, Option, Some, None, IsSome, refl, sym, ap, subst, ◌∙◌, arith, length-append, length-reverse}
+use Rattle.std.proofs.Common.{◌≡◌, ◌↔◌, ℕ, zero, suc, ◌+◌, ◌≤◌, Bool, true, false, cond, inl, inr, List, [], ◌∷◌, ◌++◌, length, reverse, filter, Option, Some, None, IsSome, refl, sym, ap, subst, ◌∙◌, arith, length-append}
 use Rattle.std.specs.Ordering.{nat_cmp}
 use Rattle.std.specs.Option.{is_some, is_none}
 use Rattle.std.specs.List.{All, Contains}
@@ -8,7 +8,7 @@ use Rattle.std.specs.FinMap.Entries.{find-where_key}
 use Rattle.std.proofs.lemmas.Bool.{false≢true}
 use Rattle.std.proofs.lemmas.Bool.Decides.{eqb_tells}
 use Rattle.std.proofs.lemmas.Option.{none-some, same_Some}
-use Rattle.std.proofs.lemmas.List.{reverse-reverse}
+use Rattle.std.proofs.lemmas.List.{length-reverse, reverse-reverse}
 use Rattle.std.proofs.lemmas.List.Elements.{All-nil, All-cons, All-head, All-tail, All-append, All-weaker, All-contains, All-contains_itself}
 use Rattle.std.proofs.lemmas.List.Kept.{IsStrictlySortedBy-filter}
 use Rattle.std.proofs.lemmas.List.Sorted.{All-permutation, IsPermutation-reverse}
@@ -160,15 +160,15 @@ module _ (roots : List ℕ) (made : Objects) where
       let same = length-reverse roots in
       empties (length roots + reference_count made) (reverse roots) made (omega (arith, same))
 
-  kept_gone : (name : ℕ) → IsKept roots made name → IsGone (dropped roots made) name
-  kept_gone name (root name among some) =
+  kept_gone : {name : ℕ} → IsKept roots made name → IsGone (dropped roots made) name
+  kept_gone (root name among some) =
       All-contains (IsGone (dropped roots made)) roots name (All-reversed (IsGone (dropped roots made)) roots rest_is.taken) among
-  kept_gone name (reached from name object kept is among some) =
-      All-contains (IsGone (dropped roots made)) (references_of object) name (rest_is.closed from object is (kept_gone from kept)) among
+  kept_gone (reached from name object kept is among some) =
+      All-contains (IsGone (dropped roots made)) (references_of object) name (rest_is.closed from object is (kept_gone kept)) among
 
-  kept_some : (name : ℕ) → IsKept roots made name → IsSome (object_of name made)
-  kept_some name (root name among some) = some
-  kept_some name (reached from name object kept is among some) = some
+  kept_some : {name : ℕ} → IsKept roots made name → IsSome (object_of name made)
+  kept_some (root name among some) = some
+  kept_some (reached from name object kept is among some) = some
 
   gone_kept : (name : ℕ) → IsSome (object_of name made) → IsGone (dropped roots made) name → IsKept roots made name
   unfolding dropped
@@ -190,7 +190,7 @@ module _ (roots : List ℕ) (made : Objects) where
   pub kept_names : (name : ℕ) → IsSome (object_of name (kept_of roots made)) ↔ IsKept roots made name
   kept_names name = (
     λ some. kept_from name _ refl (ap is_some (sym (find_kept name)) ∙ some),
-    λ kept. ap is_some (find_kept name ∙ ap (λ rest. cond (is_none rest) (object_of name made) None) (kept_gone name kept)) ∙ kept_some name kept,
+    λ kept. ap is_some (find_kept name ∙ ap (λ rest. cond (is_none rest) (object_of name made) None) (kept_gone kept)) ∙ kept_some kept,
   )
 
   pub kept_objects : (name : ℕ) (object : Object) → object_of name (kept_of roots made) ≡ Some object → object_of name made ≡ Some object

@@ -1,11 +1,12 @@
 -- What marks leave of objects whose names ascend.
-use Rattle.std.proofs.Common.{◌≡◌, ◌≢◌, ℕ, zero, suc, ◌+◌, ◌<◌, Bool, true, false, cond, not, List, [], ◌∷◌, length, map, filter, get_or, set, Option, Some, None, refl, sym, ap, subst, ◌∙◌, arith}
+use Rattle.std.proofs.Common.{◌≡◌, ℕ, zero, suc, ◌+◌, ◌<◌, Bool, true, false, cond, not, List, [], ◌∷◌, ◌++◌, length, filter, get_or, set, replicate, drop, Option, Some, None, refl, sym, ap, subst, ◌∙◌, append_assoc, append-nil, arith}
 use Rattle.std.specs.declared.cmp.Ordering.{Ordering}
 use Rattle.std.specs.declared.cmp.Ordering.TheVariants.{Less, Equal, Greater}
 use Rattle.std.specs.Ordering.{nat_cmp, is_eq, eq_by_cmp, ordering_reverse}
 use Rattle.std.specs.Option.{is_none}
-use Rattle.std.specs.List.{AllByRecursion, zip, replicate}
+use Rattle.std.specs.List.{AllByRecursion}
 use Rattle.std.specs.Cmp.{tied_itself}
+use Rattle.std.proofs.Math.Seq.{drop-cons, drop-length}
 use Rattle.std.proofs.lemmas.Cmp.{nat_cmp_total}
 use Rattle.std.proofs.lemmas.Bool.{false≢true}
 use Rattle.std.proofs.lemmas.Map.Keys.{sorted_head, sorted_tail}
@@ -14,7 +15,7 @@ use Rattle.sorted_pairs.specs.Place.{Ascends, StandsAt, FitsAt}
 use Rattle.gem_object.specs.References.{references_of}
 use Rattle.gem_object.specs.declared.object.Object.{Object}
 use Rattle.kept_set.specs.Kept.{Objects, object_of, names_of, without, reference_count, kept_of, dropped}
-use Rattle.kept_set.specs.Worklist.{unseen, marked}
+use Rattle.kept_set.specs.Worklist.{unseen, name_seen, marked}
 
 -- no object has this name
 abbrev pub AreOthers : ℕ → Objects → Type 0
@@ -121,9 +122,12 @@ now_marked name (first ∷ objects) (mark ∷ marks) (suc at) d entry ascends st
     (now_marked name objects marks at d entry (ascend_after first objects ascends) stands.1 (omega (arith, within)) is)
 
 -- before the first mark all objects are left
-pub none_seen : (objects : Objects) → unseen objects (replicate (length objects) false) ≡ objects
+none_seen : (objects : Objects) → unseen objects (replicate (length objects) false) ≡ objects
 none_seen [] = refl
 none_seen (entry ∷ objects) = ap (λ rest. entry ∷ rest) (none_seen objects)
+
+pub no_marks : (objects : Objects) (n : ℕ) (marks : List Bool) → n ≡ length objects → marks ≡ replicate n false → unseen objects marks ≡ objects
+no_marks objects n marks all is = ap (unseen objects) (is ∙ ap (λ k. replicate k false) all) ∙ none_seen objects
 
 -- ---- the names of the marked objects
 
@@ -166,3 +170,35 @@ unfolding kept_of
 kept_marked roots made marks same ascends is =
     marked_are (unseen made marks) made marks same ascends (find_itself (unseen made marks) made)
     ∙ ap (λ whole. names_of (filter (λ entry. is_none (object_of entry.0 whole)) made)) is
+
+-- the names from this place on
+pub marked_next : (objects : Objects) (marks : List Bool) (at : ℕ) (entry : ℕ × Object) (d : Bool) → at < length objects → at < length marks → entry ≡ get_or objects at entry
+    → marked (drop at objects) (drop at marks) ≡ name_seen (get_or marks at d) entry.0 ++ marked (drop (suc at) objects) (drop (suc at) marks)
+marked_next objects marks at entry d within in_marks is =
+    (λ i. marked (here i) (mark i))
+  where
+    here : drop at objects ≡ entry ∷ drop (suc at) objects
+    here = drop-cons objects at entry within ∙ ap (λ e. e ∷ drop (suc at) objects) (sym is)
+
+    mark : drop at marks ≡ get_or marks at d ∷ drop (suc at) marks
+    mark = drop-cons marks at d in_marks
+
+-- one more name is there
+pub next_marked : (objects : Objects) (marks : List Bool) (at : ℕ) (entry : ℕ × Object) (d : Bool) (before now : List ℕ) → at < length objects → at < length marks → entry ≡ get_or objects at entry
+    → now ≡ before ++ name_seen (get_or marks at d) entry.0
+    → before ++ marked (drop at objects) (drop at marks) ≡ marked objects marks
+    → now ++ marked (drop (at + 1) objects) (drop (at + 1) marks) ≡ marked objects marks
+next_marked objects marks at entry d before now within in_marks is added so_far =
+    let one : at + 1 ≡ suc at = omega arith in
+    let rest = marked (drop (suc at) objects) (drop (suc at) marks) in
+    ap (λ n. now ++ marked (drop n objects) (drop n marks)) one
+    ∙ ap (λ names. names ++ rest) added
+    ∙ append_assoc before (name_seen (get_or marks at d) entry.0) rest
+    ∙ ap (λ names. before ++ names) (sym (marked_next objects marks at entry d within in_marks is))
+    ∙ so_far
+
+-- nothing comes after the last place
+pub marked_end : (objects : Objects) (marks : List Bool) (at : ℕ) (now : List ℕ) → at ≡ length objects
+    → now ++ marked (drop at objects) (drop at marks) ≡ marked objects marks → now ≡ marked objects marks
+marked_end objects marks at now over so_far =
+    sym (ap (λ (rest : Objects). now ++ marked rest (drop at marks)) (ap (λ n. drop n objects) over ∙ drop-length objects) ∙ append-nil now) ∙ so_far

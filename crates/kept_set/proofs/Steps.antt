@@ -1,10 +1,11 @@
 -- The steps of the search for the kept objects.
-use Rattle.std.proofs.Common.{◌≡◌, ℕ, zero, suc, ◌+◌, ◌<◌, Bool, List, [], ◌∷◌, ◌++◌, length, reverse, Option, Some, None, refl, sym, ap, ◌∙◌, arith, length-append, length-reverse}
-use Rattle.std.proofs.lemmas.List.{reverse-append, reverse-reverse}
+use Rattle.std.proofs.Common.{◌≡◌, ℕ, zero, suc, ◌+◌, ◌<◌, Bool, List, [], ◌∷◌, ◌++◌, length, reverse, set, true, Option, Some, None, refl, sym, ap, subst, ◌∙◌, arith, length-append}
+use Rattle.std.proofs.lemmas.List.{reverse-append}
 use Rattle.gem_object.specs.References.{references_of}
 use Rattle.gem_object.specs.declared.object.Object.{Object}
 use Rattle.kept_set.specs.Kept.{Objects, object_of, without, reference_count, on_found, left_after, dropped}
-use Rattle.kept_set.specs.Worklist.{IsFollowedTo}
+use Rattle.kept_set.specs.Worklist.{unseen, IsFollowedTo, IsFollowed}
+use Rattle.kept_set.proofs.Marks.{IsMarked}
 
 -- how many names may still be taken from the pile
 abbrev pub work : List ℕ → Objects → ℕ
@@ -74,3 +75,20 @@ module _ (roots : List ℕ) (made : Objects) (name : ℕ) (popped pile : List �
   -- and fewer may still be taken
   pub less_work : (pile_now : List ℕ) (left_now : Objects) → IsFollowedTo name left pile left_now pile_now (object_of name left) → work pile_now left_now < work popped left
   less_work pile_now left_now is = less (object_of name left) pile_now left_now is
+
+-- ---- what one step did
+
+-- no object that is left has the name
+pub followed_none : (name : ℕ) (left : Objects) (pile : List ℕ) → object_of name left ≡ None → IsFollowedTo name left pile left pile (object_of name left)
+followed_none name left pile none = subst (IsFollowedTo name left pile left pile) (sym none) (refl, refl)
+
+-- an object that stands here is marked, and what it refers to is on the pile
+pub followed_some : (name : ℕ) (made : Objects) (marks : List Bool) (pile : List ℕ) (at : ℕ) (object : Object) (marks_now : List Bool) (pile_now : List ℕ)
+    → IsMarked name made marks at object → marks_now ≡ set marks at true → pile_now ≡ pile ++ references_of object
+    → IsFollowed name made marks pile marks_now pile_now
+followed_some name made marks pile at object marks_now pile_now is now added =
+    subst (IsFollowedTo name (unseen made marks) pile (unseen made marks_now) pile_now) (sym is.found) (
+      ap (unseen made) now ∙ is.gone,
+      added,
+      ap (λ m. reference_count (unseen made m) + length (references_of object)) now ∙ is.fewer,
+    )

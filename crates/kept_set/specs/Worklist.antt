@@ -1,5 +1,5 @@
 -- What the search for the kept objects has done, by a mark for each made object that it has seen.
-use Rattle.std.specs.Prelude.{◌≡◌, ℕ, ◌+◌, Bool, true, false, List, [], ◌∷◌, ◌++◌, length, map, filter, zip, Option, Some, None}
+use Rattle.std.specs.Prelude.{◌≡◌, ℕ, ◌+◌, Bool, true, false, List, [], ◌∷◌, ◌++◌, length, Option, Some, None}
 use Rattle.gem_object.specs.References.{references_of}
 use Rattle.gem_object.specs.declared.object.Object.{Object}
 use Rattle.kept_set.specs.Kept.{Objects, object_of, without, reference_count, dropped}
@@ -11,9 +11,16 @@ unseen (entry ∷ objects) [] = []
 unseen (entry ∷ objects) (true ∷ marks) = unseen objects marks
 unseen (entry ∷ objects) (false ∷ marks) = entry ∷ unseen objects marks
 
--- the names of those that are
+-- the name, where it is marked
+abbrev pub name_seen : Bool → ℕ → List ℕ
+name_seen true name = name ∷ []
+name_seen false name = []
+
+-- the names of the objects that are marked
 abbrev pub marked : Objects → List Bool → List ℕ
-marked objects marks = map (λ pair. pair.0.0) (filter (λ pair. pair.1) (zip objects marks))
+marked [] marks = []
+marked (entry ∷ objects) [] = []
+marked (entry ∷ objects) (mark ∷ marks) = name_seen mark entry.0 ++ marked objects marks
 
 -- there is a mark for each made object, and those without one are those to which no root leads
 abbrev pub AreReached : List ℕ → Objects → List Bool → Type 0

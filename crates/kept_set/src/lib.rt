@@ -2,10 +2,10 @@
 //! kept. Knows nothing of images, of scripts and of who runs what.
 #![tactic(auto)]
 
-mod kept;
 pub mod laws;
+mod reach;
 mod roots;
 #[cfg(test)]
 mod tests;
 
-pub use kept::kept;
+pub use reach::kept;

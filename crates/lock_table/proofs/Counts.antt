@@ -6,7 +6,7 @@ use Rattle.std.specs.Map.{keys_of}
 use Rattle.std.specs.Option.{is_some}
 use Rattle.std.specs.List.{AllByRecursion}
 use Rattle.std.specs.List.Sorted.{IsStrictlySortedBy}
-use Rattle.std.specs.FinMap.{FinMap, find, get, empty, entries, from_entries, insert, remove, retain_keys, len, len-empty, len-entries, len-insert, len-remove, empty_of_len, get-empty, get-entries, get-from_entries, get-remove, get-retain_keys, same_map}
+use Rattle.std.specs.FinMap.{find, get, entries, from_entries, retain_keys, len, len-empty, len-entries, len-insert, len-remove, empty_of_len, get-empty, get-entries, get-from_entries, get-remove, same_map}
 use Rattle.std.proofs.lemmas.Map.Keys.{sorted_head, sorted_tail}
 use Rattle.std.proofs.lemmas.Bool.{false≢true}
 use Rattle.std.proofs.lemmas.Bool.Decides.{eqb_tells}
@@ -16,7 +16,7 @@ use Rattle.lock_table.specs.declared.lock.Holding.{Holding}
 use Rattle.lock_table.specs.declared.lock.LockKind.{LockKind}
 use Rattle.lock_table.proofs.Changes.{left_this, left_others, dropped_others}
 use Rattle.lock_table.proofs.Denied.{same_holding}
-use Rattle.lock_table.proofs.Held.{Entries, holdings_total, exact_holdings, held-retain, alike}
+use Rattle.lock_table.proofs.Held.{Entries, holdings_total, exact_holdings, held-retain}
 
 -- a holding below all others isn't among them
 not_among : (q : Holding) (es : Entries) → AllByRecursion (λ key. holding_cmp q key ≡ Less) (keys_of es) → find holding_cmp q es ≡ None

@@ -1,10 +1,10 @@
 //! Which made objects are kept.
-ghost use Rattle.std.specs.Prelude.{◌≡◌, length, map, filter, zip, IfOk, IfErr, OnOk};
+ghost use Rattle.std.specs.Prelude.{◌≡◌, ◌++◌, length, IfOk, IfErr, OnOk};
 ghost use Rattle.std.specs.Ordering.{nat_cmp};
 ghost use Rattle.std.specs.List.Sorted.{IsSearchInRange};
 ghost use Rattle.sorted_pairs.specs.Place.{Ascends, StandsAt, FitsAt};
 ghost use Rattle.kept_set.specs.Kept.{roots_of, names_of, kept_of};
-ghost use Rattle.kept_set.specs.Worklist.{marked, AreReached, IsFollowed};
+ghost use Rattle.kept_set.specs.Worklist.{name_seen, marked, AreReached, IsFollowed};
 
 use crate::roots::roots;
 use gem_object::Object;
@@ -84,16 +84,22 @@ fn place_of(made: &[(Oid, Object)], name: u64) -> Result<usize, usize>
 }
 
 // The names of the marked objects.
-fn names_seen(
-    alloc: Global,
-    made: &[(Oid, Object)],
-    seen: &[bool],
-) -> Result<Vec<Oid>, AllocError>
+fn names_seen(alloc: Global, made: &[(Oid, Object)], seen: &[bool]) -> Result<Vec<Oid>, AllocError>
+    requires { length seen.now ≡ length made.now }
     ensures { IfOk result (λ names. names.items ≡ marked made.now seen.now) }
 {
-    made.iter()
-        .zip(seen)
-        .filter(|(_, seen)| **seen)
-        .map(|(entry, _)| entry.0)
-        .collect(alloc)
+    let mut names = Vec::new(alloc);
+    for (at, entry) in made.iter().enumerate() {
+        push_seen(&mut names, seen[at], entry.0)?;
+    }
+    Ok(names)
+}
+
+fn push_seen(names: &mut Vec<Oid>, seen: bool, name: Oid) -> Result<(), AllocError>
+    ensures { OnOk result (names.new.items ≡ names.old.items ++ name_seen seen name) }
+{
+    if seen {
+        names.push(name)?;
+    }
+    Ok(())
 }

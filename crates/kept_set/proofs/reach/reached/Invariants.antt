@@ -1,7 +1,7 @@
 use Rattle.std.proofs.Common.{◌≡◌, length}
 use Rattle.kept_set.specs.Worklist.{unseen}
 use Rattle.kept_set.proofs.Steps.{IsOnTheWay, work}
-use Rattle.kept_set.proofs.kept.reached.Given as goal
+use Rattle.kept_set.proofs.reach.reached.Given as goal
 
 -- what is left is on its way to what is left in the end
 abbrev pub invariant-loop-name : goal.invariant-loop-name
