@@ -1,4 +1,5 @@
 mod Equality
+pub mod Joined
 mod Ties
 mod Sums
 mod Names

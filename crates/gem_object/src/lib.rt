@@ -7,6 +7,7 @@ mod kind;
 pub mod laws;
 mod lists;
 mod object;
+mod references;
 mod size;
 #[cfg(test)]
 mod tests;

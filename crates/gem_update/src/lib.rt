@@ -10,6 +10,7 @@ mod changes;
 mod joined;
 pub mod laws;
 mod merging;
+mod references;
 #[cfg(test)]
 mod tests;
 mod update;

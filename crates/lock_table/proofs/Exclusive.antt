@@ -73,7 +73,8 @@ left_among locks session other object kind held = elim (eqb_tells other session)
   | inr apart ↦ sym (left_others locks session object other object apart.1) ∙ held
 ]
 
-exclusive_event : (locks : LockSet) (event : LockEvent) → MayFollow locks event → IsExclusive locks → IsExclusive (locks_after_event locks event)
+-- one event more keeps it
+pub exclusive_event : (locks : LockSet) (event : LockEvent) → MayFollow locks event → IsExclusive locks → IsExclusive (locks_after_event locks event)
 exclusive_event locks (Held session oid kind) granted exclusive = exclusive_held locks session oid kind granted exclusive
 exclusive_event locks (Dropped session oid) granted exclusive = exclusive_among locks (after_dropped locks session oid) (dropped_among locks session oid) exclusive
 exclusive_event locks (Left session) granted exclusive = exclusive_among locks (after_left locks session) (left_among locks session) exclusive

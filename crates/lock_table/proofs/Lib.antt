@@ -1,6 +1,7 @@
 pub mod Changes
+pub mod Counts
 pub mod Denied
-mod Exclusive
+pub mod Exclusive
 pub mod Held
 mod Request
 mod Scan

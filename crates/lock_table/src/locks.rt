@@ -80,6 +80,21 @@ impl Locks {
         held
     }
 
+    /// For whom a request would be denied now, and how that session holds the object; None where it
+    /// would be granted, or meet want of memory. It takes no memory.
+    pub fn denies(&self, session: u32, oid: u64, kind: LockKind) -> Option<(u32, LockKind)>
+        ensures { result ≡ denied_for self.now session oid kind }
+    {
+        first_in_the_way(&self.held, session, oid, kind)
+    }
+
+    /// How many locks there are, of all sessions together. It takes no memory.
+    pub fn count(&self) -> usize
+        ensures { result ≡ map.len self.now }
+    {
+        self.held.len()
+    }
+
     /// The lowest other session that holds the object, and how it holds it. It takes no memory.
     pub fn blocks(&self, session: u32, oid: u64) -> Option<(u32, LockKind)>
         ensures lowest { (holder : ℕ) (held : LockKind) → (result ≡ Some (holder, held))

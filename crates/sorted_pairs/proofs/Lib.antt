@@ -1,4 +1,4 @@
 pub mod Below
 pub mod Cases
-mod Found
+pub mod Found
 mod Places

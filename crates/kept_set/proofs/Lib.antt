@@ -1,0 +1,4 @@
+pub mod Leads
+mod Look
+mod Marks
+mod Steps

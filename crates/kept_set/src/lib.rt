@@ -1,0 +1,11 @@
+//! Room: values. Takes what a transaction wrote, made and updated; gives the made objects that are
+//! kept. Knows nothing of images, of scripts and of who runs what.
+#![tactic(auto)]
+
+pub mod laws;
+mod reach;
+mod roots;
+#[cfg(test)]
+mod tests;
+
+pub use reach::kept;

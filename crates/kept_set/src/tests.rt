@@ -1,0 +1,133 @@
+// Which made objects are kept: by a table over made objects in a few shapes, and along a chain of
+// many.
+ghost use Rattle.std.specs.Prelude.{◌↔◌, IsTrue};
+ghost use Rattle.std.specs.Ordering.{nat_cmp};
+ghost use Rattle.sorted_pairs.specs.Place.{Ascends};
+
+use super::*;
+use gem_object::{Body, Object, Value};
+use gem_update::Update;
+use gem_value::{Oid, Sequence};
+use rc_counter_bag::BagUpdate;
+use sorted_pairs::ascend;
+use std::alloc::Global;
+use std::test::Fail;
+
+// A class and a segment that weren't made.
+const KERNEL: u64 = 200_001;
+
+const CHAIN: u64 = 100_000;
+
+fn named(number: u64) -> Result<Oid, Fail> {
+    Ok(Oid::of(number).ok_or("the number of a name")?)
+}
+
+// An object of this class and segment, whose slots refer to these names.
+fn object(alloc: Global, class: u64, segment: u64, slots: &[u64]) -> Result<Object, Fail> {
+    let mut values = Vec::new(alloc);
+    for slot in slots {
+        values.push(Value::Ref(named(*slot)?))?;
+    }
+    Ok(Object {
+        class: named(class)?,
+        segment: named(segment)?,
+        changed: 0,
+        body: Body::Plain(Sequence::of(values)),
+    })
+}
+
+fn is_ascending(made: &[(Oid, Object)]) -> bool
+    ensures { IsTrue result ↔ Ascends nat_cmp made.now }
+{
+    ascend(made)
+}
+
+fn shapes(alloc: Global) -> Result<Vec<(Oid, Object)>, Fail> {
+    // Name, class, segment, slots.
+    let rows = [
+        // A cycle, from which there is a way to an object of a made class and segment.
+        (1, KERNEL, KERNEL, [2, KERNEL].as_slice()),
+        (2, KERNEL, KERNEL, [1, 3].as_slice()),
+        (3, 4, 5, [].as_slice()),
+        (4, KERNEL, KERNEL, [].as_slice()),
+        (5, KERNEL, KERNEL, [].as_slice()),
+        // It refers to itself, and to the cycle.
+        (6, KERNEL, KERNEL, [6, 1].as_slice()),
+        (8, KERNEL, KERNEL, [9, 9].as_slice()),
+        (9, KERNEL, KERNEL, [].as_slice()),
+    ];
+    let mut made = Vec::new(alloc);
+    for (name, class, segment, slots) in rows {
+        made.push((named(name)?, object(alloc, class, segment, slots)?))?;
+    }
+    Ok(made)
+}
+
+// A bag to which an object of this name was added.
+fn update(alloc: Global, added: u64) -> Result<(Oid, Sequence<Update>), Fail> {
+    let item = Value::Ref(named(added)?);
+    let updates = vec![in alloc; Update::Counter(1), Update::Bag(BagUpdate::Add(item))]?;
+    Ok((named(KERNEL)?, Sequence::of(updates)))
+}
+
+fn numbers(alloc: Global, names: &[Oid]) -> Result<Vec<u64>, Fail> {
+    let mut numbers = Vec::new(alloc);
+    for name in names {
+        numbers.push(name.number())?;
+    }
+    Ok(numbers)
+}
+
+#[test]
+fn keeps_what_is_reached(rt: HostRuntime) -> Result<(), Fail> {
+    let alloc = rt.alloc();
+    let made = shapes(alloc)?;
+    assert!(rt; is_ascending(&made));
+    // The class of a written object, what its slot refers to, what is added to a bag, and the names
+    // that are kept.
+    let rows = [
+        (KERNEL, KERNEL, KERNEL, [].as_slice()),
+        (KERNEL, 1, KERNEL, [1, 2, 3, 4, 5].as_slice()),
+        (KERNEL, 3, KERNEL, [3, 4, 5].as_slice()),
+        (KERNEL, KERNEL, 8, [8, 9].as_slice()),
+        (4, 6, 9, [1, 2, 3, 4, 5, 6, 9].as_slice()),
+        // No object of this name was made.
+        (KERNEL, 7, KERNEL, [].as_slice()),
+    ];
+    for (class, slot, added, want) in rows {
+        let written = vec![in alloc; (named(7)?, object(alloc, class, KERNEL, &[slot])?)]?;
+        let updates = vec![in alloc; update(alloc, added)?]?;
+        let names = kept(alloc, &written, &made, &updates)?;
+        assert_eq!(rt;
+            numbers(alloc, &names)?.as_slice(),
+            want,
+            "{class} {slot} {added}"
+        );
+    }
+    Ok(())
+}
+
+// So many made objects, of which each refers to the next.
+fn chain(alloc: Global) -> Result<Vec<(Oid, Object)>, Fail> {
+    let mut made = Vec::new(alloc);
+    for number in 1..CHAIN + 1 {
+        made.push((
+            named(number)?,
+            object(alloc, KERNEL, KERNEL, &[number + 1])?,
+        ))?;
+    }
+    Ok(made)
+}
+
+#[test]
+fn keeps_a_long_chain(rt: HostRuntime) -> Result<(), Fail> {
+    let alloc = rt.alloc();
+    let made = chain(alloc)?;
+    assert!(rt; is_ascending(&made));
+    for (first, want) in [(1, 100_000), (99_999, 2), (100_001, 0)] {
+        let written = vec![in alloc; (named(KERNEL)?, object(alloc, KERNEL, KERNEL, &[first])?)]?;
+        let names = kept(alloc, &written, &made, &[])?;
+        assert_eq!(rt; names.len(), want, "{first}");
+    }
+    Ok(())
+}
