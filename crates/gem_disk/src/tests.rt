@@ -50,6 +50,7 @@ fn end(mut disk: MemDisk, pick: Pick) -> Result<Images, AllocError> {
 }
 
 // Where the run is stopped, or fails once; the pick; what is left of both files.
+#[derive(Clone, Copy)]
 struct Row {
     step: u64,
     pick: Pick,
