@@ -1,12 +1,12 @@
 -- What became of two files in memory, told from what they hold and the calls on them.
-use Rattle.std.proofs.Common.{◌≡◌, ℕ, ◌≤◌, Bool, true, false, cond, List, [], ◌∷◌, ◌++◌, length, reverse, Result, Ok, Err, OnOk, OnErr, refl, sym, ◌∙◌, ap, ap₂, subst}
+use Rattle.std.proofs.Common.{◌≡◌, ℕ, ◌≤◌, Bool, true, false, cond, List, [], ◌∷◌, length, reverse, Result, Ok, Err, OnOk, OnErr, refl, sym, ◌∙◌, ap, ap₂, subst}
 use Rattle.std.proofs.lemmas.List.{reverse-append}
 use Rattle.gem_disk.specs.declared.disk.Which.{Which}
 use Rattle.gem_disk.specs.declared.disk.Which.TheVariants.{Extent, Log}
 use Rattle.gem_disk.specs.declared.images.Pick.{Pick}
 use Rattle.gem_disk.specs.declared.images.Pick.TheVariants.{Old, New, Torn as TornTo}
-use Rattle.gem_disk.specs.Disk.{Files, file_of, is_same, Change, Wrote, CutTo, Synced, Past, reads, stepped, placed}
-use Rattle.gem_disk.specs.Picked.{torn_to, since_sync, picked_file, Makes, AreExact, IsExact}
+use Rattle.gem_disk.specs.Disk.{Files, file_of, is_same, Change, Wrote, CutTo, Past, reads, stepped}
+use Rattle.gem_disk.specs.Picked.{torn_to, since_sync, picked_file, Makes, IsExact}
 use Rattle.gem_disk.specs.declared.recorded.Call.{Call}
 use Rattle.gem_disk.specs.declared.recorded.Kind.{Kind}
 use Rattle.gem_disk.specs.declared.recorded.Kind.TheVariants.{Write, Truncation, Sync}

@@ -1,5 +1,5 @@
 -- What a file reads as, and what one may pick, is left by some crash.
-use Rattle.std.proofs.Common.{◌≡◌, ◌≢◌, ◌⊎◌, ℕ, ◌+◌, ◌-◌, ◌≤◌, min, max, Bool, true, false, List, [], ◌∷◌, ◌++◌, length, take, drop, replicate, Result, Ok, Err, refl, sym, ◌∙◌, ap, subst, inl, inr, arith, length-take, length-drop}
+use Rattle.std.proofs.Common.{◌≡◌, ◌≢◌, ℕ, ◌-◌, ◌≤◌, Bool, true, false, List, [], ◌∷◌, length, take, replicate, Result, Ok, Err, refl, sym, ◌∙◌, ap, subst, inl, inr, arith, length-take}
 use Rattle.std.proofs.lemmas.List.{length-replicate, take_min}
 use Rattle.std.proofs.Math.Seq.{take-length}
 use Rattle.gem_disk.specs.declared.disk.Which.{Which}
@@ -7,7 +7,7 @@ use Rattle.gem_disk.specs.declared.disk.Which.TheVariants.{Extent, Log}
 use Rattle.gem_disk.specs.declared.images.Pick.{Pick}
 use Rattle.gem_disk.specs.declared.images.Pick.TheVariants.{Old, New, Torn as TornTo}
 use Rattle.gem_disk.specs.Disk.{Files, file_of, is_same, Change, Wrote, CutTo, Synced, Step, Past, reads_after, reads, as_read, stepped, placed, Torn, Cut, Leaves, FileImages, CrashImages, Writes, Cuts, Syncs}
-use Rattle.gem_disk.specs.Picked.{torn_to, since_sync, picked_file, picked, Makes, AreExact, IsExact}
+use Rattle.gem_disk.specs.Picked.{torn_to, since_sync, picked, Makes, AreExact, IsExact}
 use Rattle.gem_disk.proofs.Placed.{take-placed, drop-placed, length-placed}
 
 -- what a change may make of a file, done or failed

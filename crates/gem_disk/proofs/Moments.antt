@@ -1,5 +1,5 @@
 -- How a run of disk calls goes on, one call after another.
-use Rattle.std.proofs.Common.{◌≡◌, ◌⊎◌, ℕ, ◌≤◌, List, [], ◌∷◌, length, inl, inr, ⊎_elim, subst, arith}
+use Rattle.std.proofs.Common.{◌⊎◌, ℕ, List, [], ◌∷◌, length, inl, inr, ⊎_elim, arith}
 use Rattle.gem_disk.specs.declared.disk.Which.{Which}
 use Rattle.gem_disk.specs.Disk.{Files, Change, Step, Past, moment, stepped, CrashImages, ImagesAfter, CrashImagesSince}
 use Rattle.gem_disk.specs.Runs.{LeavesOnly}

@@ -1,6 +1,6 @@
 -- Bytes written over a list, and taken back.
-use Rattle.std.proofs.Common.{◌≡◌, ℕ, ◌+◌, ◌-◌, ◌≤◌, min, List, [], ◌++◌, length, take, drop, replicate, refl, sym, ◌∙◌, ap, subst, inl, inr, arith, append_assoc, length-append, length-drop, length-take, length-take-le, take-append-drop, take-add, take_at, drop_at, take_all, take-take}
-use Rattle.std.proofs.lemmas.List.{take_rest, drop_all, take_min}
+use Rattle.std.proofs.Common.{◌≡◌, ℕ, ◌+◌, ◌-◌, ◌≤◌, min, List, [], ◌++◌, length, take, drop, refl, sym, ◌∙◌, ap, subst, inl, inr, arith, append_assoc, length-append, length-drop, length-take-le, take-append-drop, take-add, take_at, drop_at, take_all, take-take}
+use Rattle.std.proofs.lemmas.List.{take_rest, drop_all}
 use Rattle.std.proofs.lemmas.Bool.{cases_lt}
 use Rattle.std.proofs.Math.Seq.{take-append-add, take-length}
 use Rattle.gem_disk.specs.Disk.{placed}

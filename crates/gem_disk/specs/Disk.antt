@@ -68,8 +68,8 @@ stepped past file change bytes = record {
 abbrev pub placed : ℕ → List ℕ → List ℕ → List ℕ
 placed at bytes old = take at old ++ bytes ++ drop (at + length bytes) old
 
--- What a write of n bytes may leave of old, where it isn't known to be on the disk: any bytes in its
--- range, the old ones elsewhere, and any length from the old one up to the end of the write.
+-- What a write of n bytes may leave of old, where it isn't known to be on the disk: any bytes in
+-- its range, the old ones elsewhere, and any length from the old one up to the end of the write.
 pub record Torn (at n : ℕ) (old new : List ℕ) : Type 0 where
   pub before : take at new ≡ take at old
   pub after : drop (at + n) new ≡ drop (at + n) old

@@ -37,15 +37,15 @@ after_call m = record m { passes = one_less m.passes; fails_in = m.fails_in - 1 
 
 -- the disk after a call that was to fail
 abbrev pub after_refusal : Memory → Memory
-after_refusal m = record m { passes = one_less m.passes; fails_in = m.fails_in - 1; refused = next_count m.refused }
+after_refusal m = record (after_call m) { refused = next_count m.refused }
 
 -- the disk after a call that found no memory
 abbrev pub after_want : Memory → Memory
-after_want m = record m { passes = one_less m.passes; fails_in = m.fails_in - 1; starved = next_count m.starved }
+after_want m = record (after_call m) { starved = next_count m.starved }
 
 -- the disk after a call that changed a file
 abbrev pub after_change : Past → Memory → Memory
-after_change past m = record m { past = past; passes = one_less m.passes; fails_in = m.fails_in - 1 }
+after_change past m = record (after_call m) { past = past }
 
 -- A call that only reads fails exactly where it is to fail.
 abbrev pub Answers : {T E : Type 0} → Memory → Result T E → Memory → Type 0
@@ -53,8 +53,8 @@ Answers old result new = MatchBool (fails_next old.passes old.fails_in)
     (IsErr result × (new ≡ after_refusal old))
     (IsOk result × (new ≡ after_call old))
 
--- A call that changes a file fails where it is to fail, and else only for want of memory. It changes
--- nothing then. Otherwise it does all of it.
+-- A call that changes a file fails where it is to fail, and else only for want of memory. It
+-- changes nothing then. Otherwise it does all of it.
 abbrev pub Changes : {T E : Type 0} → Memory → Result T E → Past → Memory → Type 0
 Changes old result past new = MatchBool (fails_next old.passes old.fails_in)
     (IsErr result × (new ≡ after_refusal old))

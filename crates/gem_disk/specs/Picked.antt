@@ -12,7 +12,8 @@ torn_to byte (Wrote at n) old = placed at (replicate n byte) old
 torn_to byte (CutTo n) old = take n old
 torn_to byte Synced old = old
 
--- A file as at its last sync, or as at first, with each later change of it done anew in another way.
+-- A file as at its last sync, or as at first, with each later change of it done anew in another
+-- way.
 abbrev pub since_sync : (Change → List ℕ → List ℕ) → Files → List Step → Which → List ℕ
 since_sync anew first [] file = file_of first file
 since_sync anew first (step ∷ older) file = elim (is_same step.file file) [

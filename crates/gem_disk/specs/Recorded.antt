@@ -1,5 +1,5 @@
 -- Two files in memory and the record of the calls on them, as what became of a disk.
-use Rattle.std.specs.Prelude.{◌≡◌, ℕ, Bool, true, false, List, [], ◌∷◌, ◌++◌, take, length, replicate, cond}
+use Rattle.std.specs.Prelude.{◌≡◌, ℕ, Bool, true, false, List, [], ◌∷◌, ◌++◌, take, length, cond}
 use Rattle.gem_disk.specs.declared.disk.Which.{Which}
 use Rattle.gem_disk.specs.declared.disk.Which.TheVariants.{Extent, Log}
 use Rattle.gem_disk.specs.declared.images.Pick.{Pick}
@@ -43,7 +43,8 @@ history now (call ∷ older) = stepped
 
 -- One call more on a file, which made this change of it, from what it held before to what it held
 -- after.
-pub record OneCall (file : Which) (kind : Kind) (at : ℕ) (bytes before after : List ℕ) (old new : List Call) : Type 0 where
+pub record OneCall (file : Which) (kind : Kind) (at : ℕ) (bytes before after : List ℕ)
+    (old new : List Call) : Type 0 where
   pub makes : after ≡ made kind at bytes before
   pub call : Call
   pub more : new ≡ old ++ call ∷ []

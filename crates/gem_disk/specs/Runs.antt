@@ -7,4 +7,5 @@ pub record LeavesOnly (old new : Past) (P : Files → Type 0) : Type 0 where
   pub later : moment old ≤ moment new
   pub each : (images : Files) → CrashImagesSince (moment old) new images → P images
   -- for a run that began earlier
-  pub before : (since : ℕ) (images : Files) → since ≤ moment old → CrashImagesSince since new images → CrashImagesSince since old images ⊎ P images
+  pub before : (since : ℕ) (images : Files) → since ≤ moment old
+      → CrashImagesSince since new images → CrashImagesSince since old images ⊎ P images

@@ -20,8 +20,8 @@ pub enum Which {
 ///
 /// Each call may fail. `Failed` tells only that the count of faults rose in the call.
 pub trait Disk {
-    /// Whether the disk tells its contents. Where it doesn't, no clause speaks of them, and none has
-    /// to be known before a call.
+    /// Whether the disk tells its contents. Where it doesn't, no clause speaks of them, and nothing
+    /// has to be known of them before a call.
     ghost tells: { Bool };
 
     /// What became of the disk: what each file reads as, and what a crash may leave at this moment

@@ -1,5 +1,5 @@
 //! A disk of two files of the file system. What the files hold is outside of what is proved.
-ghost use Rattle.std.specs.Prelude.{◌≡◌, false, IfOk, IsSome};
+ghost use Rattle.std.specs.Prelude.{◌≡◌, false, None, IfOk, string_bytes};
 ghost use Rattle.gem_io.specs.Faults.{HasCause};
 ghost use Rattle.gem_disk.specs.Disk.{untold};
 
@@ -20,7 +20,10 @@ struct LateFile<R: Files> {
 }
 
 impl<R: Files> LateFile<R> {
-    fn at(alloc: Global, path: &str) -> Result<LateFile<R>, AllocError> {
+    fn at(alloc: Global, path: &str) -> Result<LateFile<R>, AllocError>
+        ensures path { IfOk result (λ late. string_bytes late.path ≡ path.now) }
+        ensures closed { IfOk result (λ late. late.file ≡ None) }
+    {
         Ok(LateFile {
             path: String::from_str(alloc, path)?,
             file: None,
@@ -89,7 +92,8 @@ impl<R: Files> LateFile<R> {
     }
 }
 
-// Brings the names in a file's folder to the disk, since a file that was made has to be found again.
+// Brings the names in a file's folder to the disk, since a file that was made has to be found
+// again.
 fn sync_folder<R: Files>(rt: &R, path: &str) -> io::Result<()> {
     let folder = match Path::new(path).parent() {
         Some(folder) if !folder.as_str().is_empty() => folder.as_str(),
@@ -129,10 +133,14 @@ pub struct FileDisk<R: Files> {
 }
 
 impl<R: Files + Clone + Drop> FileDisk<R> {
-    /// A disk of the files at these paths, of which none is opened yet. The error is that memory ran
-    /// out.
+    /// A disk of the files at these paths, of which none is opened yet. The error is that memory
+    /// ran out.
     pub fn at(rt: &R, alloc: Global, extent: &str, log: &str) -> Result<FileDisk<R>, AllocError>
-        ensures { IfOk result (λ disk. ⟦<FileDisk<R> as Disk>⟧.faults disk ≡ 0) }
+        ensures extent { IfOk result (λ disk. string_bytes disk.extent.path ≡ extent.now) }
+        ensures log { IfOk result (λ disk. string_bytes disk.log.path ≡ log.now) }
+        ensures closed { IfOk result (λ disk.
+            (disk.extent.file ≡ None) × (disk.log.file ≡ None)) }
+        ensures faults { IfOk result (λ disk. ⟦<FileDisk<R> as Disk>⟧.faults disk ≡ 0) }
     {
         Ok(FileDisk {
             rt: rt.clone()?,

@@ -1,5 +1,5 @@
-//! Room: shelves. Reads and writes the two files of a disk, and says what a crash may leave of them.
-//! Knows nothing of what stands in the files.
+//! Room: shelves. Reads and writes the two files of a disk, and says what a crash may leave of
+//! them. Knows nothing of what stands in the files.
 //!
 //! The trait is `Disk`, with a disk in memory, which fails in the calls that one chooses and gives
 //! what a crash may leave, and a disk of two files.

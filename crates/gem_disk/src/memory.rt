@@ -100,8 +100,8 @@ impl MemDisk {
         self.starved
     }
 
-    /// What a crash leaves at this moment, of all that it may leave what `pick` says. It may run out
-    /// of memory.
+    /// What a crash leaves at this moment: of all that it may leave, what `pick` says. The error is
+    /// that memory ran out.
     pub fn crash(self, pick: Pick) -> Result<Images, AllocError>
         ensures picked { IfOk result (λ images. images ≡ picked pick self.past) }
         ensures left { IfOk result (λ images. CrashImages self.past images) }

@@ -1,5 +1,5 @@
 //! Two files in memory, with a record of the calls that changed them.
-ghost use Rattle.std.specs.Prelude.{◌≡◌, ℕ, ◌+◌, ◌≤◌, ◌&&◌, List, [], ◌∷◌, ◌++◌, length, take, drop, reverse, OnOk, OnErr, IfOk, is_ok, if◌then◌else◌};
+ghost use Rattle.std.specs.Prelude.{◌≡◌, ℕ, ◌+◌, ◌≤◌, ◌&&◌, List, [], length, take, drop, reverse, OnOk, OnErr, IfOk, if◌then◌else◌};
 ghost use Rattle.gem_disk.specs.Disk.{Change, reads, stepped, placed, is_same, CrashImages};
 ghost use Rattle.gem_disk.specs.Picked.{picked, torn_to};
 ghost use Rattle.gem_disk.specs.Recorded.{change_by, made, change_of, undone, OneCall, is_sync, back, done_anew, image_back};

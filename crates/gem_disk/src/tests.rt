@@ -41,27 +41,38 @@ fn start(alloc: Global) -> Result<MemDisk, AllocError> {
     Ok(MemDisk::new(b"page".to_vec(alloc)?, b"ab".to_vec(alloc)?))
 }
 
-// What a crash leaves after the run.
-fn end(mut disk: MemDisk, pick: Pick) -> Result<Images, AllocError> {
+// What a crash leaves after the run, which stops after some steps, or fails in one.
+fn left_by(alloc: Global, fault: Fault, pick: Pick) -> Result<Images, AllocError> {
+    let mut disk = start(alloc)?;
+    match fault {
+        Fault::StopAfter(steps) => disk.stop_after(steps.saturating_mul(2)),
+        Fault::FailAt(step) => disk.fail_at(step.saturating_mul(2)),
+    }
     for number in 1..=STEPS {
         let _ = step(&mut disk, number);
     }
     disk.crash(pick)
 }
 
-// Where the run is stopped, or fails once; the pick; what is left of both files.
+#[derive(Clone, Copy, Debug)]
+enum Fault {
+    StopAfter(u64),
+    FailAt(u64),
+}
+
+// The fault, the pick, and what is left of both files.
 #[derive(Clone, Copy)]
 struct Row {
-    step: u64,
+    fault: Fault,
     pick: Pick,
     extent: &'static str,
     log: &'static str,
 }
 
 macro_rules! rows {
-    ($($step:expr, $pick:expr => $extent:expr, $log:expr;)*) => {
+    ($($fault:expr, $pick:expr => $extent:expr, $log:expr;)*) => {
         [$(Row {
-            step: $step,
+            fault: $fault,
             pick: $pick,
             extent: $extent,
             log: $log,
@@ -70,62 +81,44 @@ macro_rules! rows {
 }
 
 #[test]
-fn crashes_after_each_step(rt: HostRuntime) -> Result<(), Fail> {
+fn crashes_leave_what_is_picked(rt: HostRuntime) -> Result<(), Fail> {
     for row in rows! {
-        0, Pick::Old => "page", "ab";
-        0, Pick::New => "page", "ab";
-        0, Pick::Torn(b'?') => "page", "ab";
-        1, Pick::Old => "page", "ab";
-        1, Pick::New => "page", "abcd";
-        1, Pick::Torn(b'?') => "page", "ab??";
-        2, Pick::Old => "page", "abcd";
-        2, Pick::New => "page", "abcd";
-        2, Pick::Torn(b'?') => "page", "abcd";
-        3, Pick::Old => "page", "abcd";
-        3, Pick::New => "page", "abcxyz";
-        3, Pick::Torn(b'?') => "page", "abc???";
-        4, Pick::Old => "page", "abcd";
-        4, Pick::New => "page", "abcxy";
-        4, Pick::Torn(b'?') => "page", "abc??";
-        5, Pick::Old => "page", "abcd";
-        5, Pick::New => "pAGe", "abcxy";
-        5, Pick::Torn(b'?') => "p??e", "abc??";
+        Fault::StopAfter(0), Pick::Old => "page", "ab";
+        Fault::StopAfter(0), Pick::New => "page", "ab";
+        Fault::StopAfter(0), Pick::Torn(b'?') => "page", "ab";
+        Fault::StopAfter(1), Pick::Old => "page", "ab";
+        Fault::StopAfter(1), Pick::New => "page", "abcd";
+        Fault::StopAfter(1), Pick::Torn(b'?') => "page", "ab??";
+        Fault::StopAfter(2), Pick::Old => "page", "abcd";
+        Fault::StopAfter(2), Pick::New => "page", "abcd";
+        Fault::StopAfter(2), Pick::Torn(b'?') => "page", "abcd";
+        Fault::StopAfter(3), Pick::Old => "page", "abcd";
+        Fault::StopAfter(3), Pick::New => "page", "abcxyz";
+        Fault::StopAfter(3), Pick::Torn(b'?') => "page", "abc???";
+        Fault::StopAfter(4), Pick::Old => "page", "abcd";
+        Fault::StopAfter(4), Pick::New => "page", "abcxy";
+        Fault::StopAfter(4), Pick::Torn(b'?') => "page", "abc??";
+        Fault::StopAfter(5), Pick::Old => "page", "abcd";
+        Fault::StopAfter(5), Pick::New => "pAGe", "abcxy";
+        Fault::StopAfter(5), Pick::Torn(b'?') => "p??e", "abc??";
+        Fault::FailAt(0), Pick::New => "pAGe", "abcxy";
+        Fault::FailAt(1), Pick::New => "pAGe", "ab";
+        Fault::FailAt(2), Pick::New => "pAGe", "abcxy";
+        Fault::FailAt(2), Pick::Old => "page", "ab";
+        Fault::FailAt(3), Pick::New => "pAGe", "abcd";
+        Fault::FailAt(4), Pick::New => "pAGe", "abcxyz";
+        Fault::FailAt(5), Pick::New => "page", "abcxy";
+        Fault::FailAt(5), Pick::Old => "page", "abcd";
+        Fault::FailAt(5), Pick::Torn(b'?') => "page", "abc??";
     } {
-        let mut disk = start(rt.alloc())?;
-        disk.stop_after(2 * row.step);
-        let left = end(disk, row.pick)?;
+        let left = left_by(rt.alloc(), row.fault, row.pick)?;
+        let fault = row.fault;
         assert_eq!(rt;
             left.extent.as_slice(),
             row.extent.as_bytes(),
-            "at {}",
-            row.step
+            "at {fault:?}"
         );
-        assert_eq!(rt; left.log.as_slice(), row.log.as_bytes(), "at {}", row.step);
-    }
-    Ok(())
-}
-
-#[test]
-fn fails_in_the_chosen_call(rt: HostRuntime) -> Result<(), Fail> {
-    for row in rows! {
-        0, Pick::New => "pAGe", "abcxy";
-        1, Pick::New => "pAGe", "ab";
-        2, Pick::New => "pAGe", "abcxy";
-        2, Pick::Old => "page", "ab";
-        3, Pick::New => "pAGe", "abcd";
-        4, Pick::New => "pAGe", "abcxyz";
-        5, Pick::New => "page", "abcxy";
-    } {
-        let mut disk = start(rt.alloc())?;
-        disk.fail_at(2 * row.step);
-        let left = end(disk, row.pick)?;
-        assert_eq!(rt;
-            left.extent.as_slice(),
-            row.extent.as_bytes(),
-            "at {}",
-            row.step
-        );
-        assert_eq!(rt; left.log.as_slice(), row.log.as_bytes(), "at {}", row.step);
+        assert_eq!(rt; left.log.as_slice(), row.log.as_bytes(), "at {fault:?}");
     }
     Ok(())
 }

@@ -1,4 +1,4 @@
-use Rattle.std.proofs.Common.{rules, ◌≡◌, ℕ, List, length, take, refl, ◌∙◌, ap}
+use Rattle.std.proofs.Common.{rules, ◌≡◌, ℕ, length, take, refl, ◌∙◌, ap}
 use Rattle.gem_disk.specs.Disk.{placed}
 use Rattle.gem_disk.proofs.recorded.change.Goals as goal
 
