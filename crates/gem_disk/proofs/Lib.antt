@@ -1,0 +1,5 @@
+pub mod History
+pub mod Leaves
+pub mod Moments
+pub mod Placed
+pub mod Undoing

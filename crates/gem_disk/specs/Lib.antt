@@ -1,0 +1,5 @@
+pub mod Disk
+pub mod Memory
+pub mod Picked
+pub mod Recorded
+pub mod Runs

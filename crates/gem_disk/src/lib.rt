@@ -1,0 +1,20 @@
+//! Room: shelves. Reads and writes the two files of a disk, and says what a crash may leave of
+//! them. Knows nothing of what stands in the files.
+//!
+//! The trait is `Disk`, with a disk in memory, which fails in the calls that one chooses and gives
+//! what a crash may leave, and a disk of two files.
+#![tactic(auto)]
+
+mod disk;
+mod file;
+mod images;
+pub mod laws;
+mod memory;
+mod recorded;
+#[cfg(test)]
+mod tests;
+
+pub use disk::{Disk, Which};
+pub use file::FileDisk;
+pub use images::{Images, Pick};
+pub use memory::MemDisk;
