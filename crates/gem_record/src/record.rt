@@ -4,13 +4,14 @@ ghost use Rattle.gem_record.specs.History.{entry_of};
 
 use crate::by_name::ByName;
 use crate::oid_list::OidList;
+use gem_image::Image;
 use gem_object::Object;
 use gem_update::Update;
 use gem_value::{Oid, Sequence};
 
 /// What a session asks to commit: who ran which commands, on which view, and what they did there.
 /// That its fields are those of one such run is for whoever makes it to say.
-#[derive(Debug, Drop)]
+#[derive(Drop)]
 pub struct TxnRecord {
     /// The session's number, from 1.
     pub session: u32,
@@ -26,6 +27,8 @@ pub struct TxnRecord {
     pub first_name: u32,
     /// The number of commits in the image that it ran on.
     pub view: u64,
+    /// The image that it ran on.
+    pub base: Image,
     /// The objects that it read or wrote. Reduced-conflict objects and those that it made aren't
     /// among them.
     pub touched: OidList,

@@ -1,5 +1,6 @@
 // A record and its entry, look-ups by name, and the size of an effect.
 use super::*;
+use gem_image::Image;
 use gem_object::{Body, Object};
 use gem_update::Update;
 use gem_value::{Oid, Sequence};
@@ -43,6 +44,7 @@ fn record(rt: &impl Abort, alloc: Global) -> Result<TxnRecord, Fail> {
         last_command: 5,
         first_name: 1,
         view: 7,
+        base: Image::empty(),
         touched: two_names(alloc)?,
         written: by_name(rt, Vec::new(alloc)),
         made: by_name(rt, made),
