@@ -47,7 +47,7 @@ impl Refers for (Value, u64) {
 
 impl Value {
     /// Adds the number of the name that the value refers to, if it does, at the end of the list.
-    /// Where it finds no memory the list is as before.
+    /// The error is want of memory, and then the list is as before.
     pub fn push_reference(&self, list: &mut Vec<u64>) -> Result<(), AllocError>
         ensures added { OnOk result
             (list.new.items ≡ list.old.items ++ option_to_list (reference_of self.now)) }
@@ -62,9 +62,9 @@ impl Value {
 
 impl Body {
     /// Adds the numbers of the names that the body refers to at the end of the list, each as often
-    /// and in the order in which the body has them. Where it finds no memory the first of them may
-    /// be there. They are numbers, since a segment has its owner's number, which is a name's only
-    /// where the segment has a spelling.
+    /// and in the order in which the body has them. They are numbers, since a segment has its
+    /// owner's number, which is a name's only where the segment has a spelling. The error is want of
+    /// memory, and then the first of them may be there.
     pub fn push_references(&self, list: &mut Vec<u64>) -> Result<(), AllocError>
         ensures { OnOk result (list.new.items ≡ list.old.items ++ names_in_body self.now) }
     {
@@ -85,7 +85,8 @@ impl Body {
 
 impl Object {
     /// Adds the numbers of the names that the object refers to at the end of the list: its class,
-    /// its segment, and those in its body. Where it finds no memory the first of them may be there.
+    /// its segment, and those in its body. The error is want of memory, and then the first of them
+    /// may be there.
     pub fn push_references(&self, list: &mut Vec<u64>) -> Result<(), AllocError>
         ensures { OnOk result (list.new.items ≡ list.old.items ++ references_of self.now) }
     {

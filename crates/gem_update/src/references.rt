@@ -11,9 +11,9 @@ use rc_queue::QueueUpdate;
 use std::alloc::AllocError;
 
 impl Update {
-    /// Adds the numbers of the names that the update refers to at the end of the list, each as often
-    /// and in the order in which the update has them. Where it finds no memory the first of them may
-    /// be there.
+    /// Adds the numbers of the names that the update refers to at the end of the list, each as
+    /// often and in the order in which the update has them. The error is want of memory, and then
+    /// the first of them may be there.
     pub fn push_references(&self, list: &mut Vec<u64>) -> Result<(), AllocError>
         ensures { OnOk result (list.new.items ≡ list.old.items ++ names_in_update self.now) }
     {

@@ -17,7 +17,7 @@ use std::alloc::{AllocError, Global};
 ///
 /// It looks up each root and each reference of a kept object once, by a binary search among the
 /// made names; the contract doesn't say so. It needs memory for the names that are yet to be looked
-/// up, for a mark a made object, and for the result.
+/// up, for a mark a made object, and for the result; want of it is the only error.
 pub fn kept(
     alloc: Global,
     written: &[(Oid, Object)],
