@@ -9,8 +9,6 @@ mod lists;
 mod object;
 mod references;
 mod size;
-#[cfg(test)]
-mod tests;
 mod value;
 
 pub use body::{Body, ClassBody, Method, MethodCode, UserBody};

@@ -11,8 +11,6 @@ mod joined;
 pub mod laws;
 mod merging;
 mod references;
-#[cfg(test)]
-mod tests;
 mod update;
 
 pub use joined::{UpdateFault, merge_body, merge_kind, update_body};

@@ -5,7 +5,5 @@
 pub mod laws;
 mod reach;
 mod roots;
-#[cfg(test)]
-mod tests;
 
 pub use reach::kept;

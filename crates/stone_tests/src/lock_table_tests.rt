@@ -54,6 +54,17 @@ fn answers_requests(rt: HostRuntime) {
             "{session} {oid} {kind:?}"
         );
     }
+    // Who stands in the way of a request, and how many locks there are.
+    assert_eq!(rt;
+        locks.denies(1, OTHER, LockKind::Read),
+        Some((2, LockKind::Write))
+    );
+    assert_eq!(rt;
+        locks.denies(2, BOX, LockKind::Write),
+        Some((3, LockKind::Read))
+    );
+    assert_eq!(rt; locks.denies(1, BOX, LockKind::Read), None);
+    assert_eq!(rt; locks.count(), 5);
     assert_eq!(rt; locks.blocks(1, BOX), Some((2, LockKind::Read)));
     assert_eq!(rt; locks.blocks(2, BOX), Some((3, LockKind::Read)));
     assert_eq!(rt; locks.blocks(2, OTHER), None);

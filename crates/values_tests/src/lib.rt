@@ -1,4 +1,4 @@
-//! Room: values. Tests the crates of the room but `gem_object`, a file for each.
+//! Room: values. Tests crates of the room, a file for each.
 //!
 //! A crate that has its tests in itself is proved once more with them.
 #![tactic(auto)]

@@ -1,7 +1,7 @@
 // Updates and merges as sessions and commits make them: a table for each class, and the same over
 // bodies.
-use super::*;
 use gem_object::{Body, Value};
+use gem_update::*;
 use gem_value::ConflictKind;
 use rc_counter_bag::{Bag, BagFault, BagUpdate, Counter, CounterRange};
 use rc_dict::{DictFault, DictUpdate, KeyDict};

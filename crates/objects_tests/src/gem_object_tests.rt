@@ -1,5 +1,8 @@
 // Slots, sizes and references of each body, the order of values, and each change of a place.
-use super::*;
+use gem_object::{
+    BlockRef, Body, ByteString, ClassBody, Dictionary, Kind, Method, MethodCode, Methods, Names,
+    Object, UserBody, Value, Values,
+};
 use gem_value::Oid;
 use rc_counter_bag::{Bag, Counter};
 use rc_dict::KeyDict;
