@@ -1,0 +1,10 @@
+pub mod Fault
+pub mod Budget
+pub mod Local
+pub mod Fixed
+pub mod Guard
+pub mod Atom
+pub mod Run
+pub mod Programs
+pub mod Steps
+pub mod Laws

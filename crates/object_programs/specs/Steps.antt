@@ -1,0 +1,61 @@
+-- Commands of the first order, and the program of a list of them: laws are stated of all these.
+use Rattle.std.specs.Prelude.{ℕ, List, [], ◌∷◌}
+use Rattle.texts.specs.Bytes.{Bytes as Text}
+use Rattle.gem_object.specs.declared.body.Body.{Body}
+use Rattle.gem_update.specs.declared.update.Update.{Update}
+use Rattle.gem_image.specs.Image.{Contents}
+use Rattle.gem_world.specs.World.{Setting, World}
+use Rattle.object_programs.specs.Budget.{Budget}
+use Rattle.object_programs.specs.Local.{nothing}
+use Rattle.object_programs.specs.Atom.{Put, Move, Tick, Room, Show}
+use Rattle.object_programs.specs.Run.{Run, give, atom, and_then, Outcome, perform}
+use Rattle.object_programs.specs.Programs.{read, write, known, make_object, update}
+use Rattle.object_programs.specs.declared.fault.Fault.TheVariants as fault
+
+-- A command.
+pub data Step : Type 0 where
+  -- the object of this name is read, or written
+  reading : ℕ → Step
+  writing : ℕ → Step
+  -- its fixed part is asked for
+  knowing : ℕ → Step
+  -- it gets this body, or lies in this segment
+  putting : ℕ → Body → Step
+  moving : (name segment : ℕ) → Step
+  -- it is updated
+  updating : ℕ → Update → Step
+  -- this object is made
+  making : Contents → Step
+  -- a unit is spent, and so much space
+  spending : Step
+  taking : ℕ → Step
+  -- this text comes on the transcript
+  showing : Text → Step
+
+module _ {B : Type 0} where
+  -- a program without its answer
+  abbrev pub only : {A : Type 0} → Run B A → Run B (Unit {0})
+  only program = and_then program (λ answer. give tt)
+
+  -- the program of a command
+  abbrev pub step_program : Step → Run B (Unit {0})
+  step_program (reading name) = only (read name)
+  step_program (writing name) = only (write name)
+  step_program (knowing name) = only (known fault.ArgumentKind name)
+  step_program (putting name body) = and_then (write name) (λ object. atom (Put name body))
+  step_program (moving name segment) = and_then (write name) (λ object. atom (Move name segment))
+  step_program (updating name change) = only (update fault.KeyAbsent name change)
+  step_program (making object) = only (make_object object)
+  step_program spending = atom Tick
+  step_program (taking slots) = atom (Room slots)
+  step_program (showing text) = atom (Show text)
+
+  -- the program of a list of commands, which ends with the first error
+  abbrev pub steps_program : List Step → Run B (Unit {0})
+  steps_program [] = give tt
+  steps_program (step ∷ rest) = and_then (step_program step) (λ done. steps_program rest)
+
+-- what performing them does
+abbrev pub after_steps : List Step → Setting → World → Budget → Outcome (Unit {0}) (Unit {0})
+after_steps steps setting world budget = perform (steps_program steps) setting
+    (record { world = world; budget = budget; local = nothing (Unit {0}) })

@@ -1,0 +1,12 @@
+//! Room: meaning. Gives the definitions of programs over objects: what they may do to objects and
+//! budgets, and what holds of all of them. Knows nothing of trees and of look-up.
+#![tactic(auto)]
+
+mod fault;
+pub mod laws;
+mod limits;
+
+pub use fault::Fault;
+pub use limits::{
+    BYTES_LIMIT, COUNTER_LIMIT, NAMES_LIMIT, SLOTS_LIMIT, SPACE_LIMIT, TRANSCRIPT_LIMIT, UNIT_LIMIT,
+};

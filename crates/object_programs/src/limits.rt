@@ -1,0 +1,23 @@
+//! The limits of what a chunk may use, and of what an object may hold.
+
+/// How many units a chunk may use: one for each message, and one for each turn of a loop.
+pub const UNIT_LIMIT: u64 = 1_000_000;
+
+/// How much space a chunk may use: an object that is made takes one and one for each slot, bytes
+/// one for each 8 begun.
+pub const SPACE_LIMIT: u64 = 4_000_000;
+
+/// How many slots an object has at most.
+pub const SLOTS_LIMIT: u64 = 65_000;
+
+/// How many bytes an object has at most where it is stored.
+pub const BYTES_LIMIT: u64 = 1_048_576;
+
+/// How many bytes the text has at most that a chunk writes on the transcript.
+pub const TRANSCRIPT_LIMIT: u64 = 65_536;
+
+/// The counters in names are below this.
+pub const COUNTER_LIMIT: u64 = 1 << 24;
+
+/// How many names of instance variables a class has at most, with those that it inherits.
+pub const NAMES_LIMIT: u64 = 200;
