@@ -264,3 +264,61 @@ fn changes_of_a_dictionary(rt: HostRuntime) -> Result<(), Fail> {
     assert!(rt; body.value_at(&second) == Some(&Value::Int(2)));
     Ok(())
 }
+
+fn refers_to(alloc: Global, body: Body, names: &[u64]) -> Result<bool, Fail> {
+    let object = Object {
+        class: Oid::from_parts(0, 19),
+        segment: Oid::from_parts(0, 30),
+        changed: 3,
+        body,
+    };
+    let mut list = Vec::new(alloc);
+    object.push_references(&mut list)?;
+    Ok(list.as_slice() == names)
+}
+
+fn reference(counter: u8) -> Value {
+    Value::Ref(Oid::from_parts(1, counter as u32))
+}
+
+// A dictionary, a bag and a queue with references in them; of a dictionary whose updates are merged
+// only the values can be some.
+fn dict_of_references(alloc: Global) -> Result<Body, Fail> {
+    let mut pairs = Dictionary::new(alloc);
+    pairs.put(reference(2), reference(1))?;
+    pairs.put(Value::Int(9), reference(3))?;
+    Ok(Body::Dict(pairs))
+}
+
+fn bag_of_references(alloc: Global) -> Result<Option<Body>, Fail> {
+    let pairs = vec![in alloc; (reference(4), 7)]?;
+    Ok(Bag::of_pairs(pairs).map(Body::Bag))
+}
+
+fn key_dict_of_references(alloc: Global) -> Result<Option<Body>, Fail> {
+    let pairs = vec![in alloc; (Value::Int(1), reference(5))]?;
+    Ok(KeyDict::of_pairs(pairs).map(Body::RcDict))
+}
+
+#[test]
+fn references(rt: HostRuntime) -> Result<(), Fail> {
+    let alloc = rt.alloc();
+    assert!(rt; refers_to(alloc, plain(alloc)?, &[19, 30, 16_777_218])?);
+    let pairs = [19, 30, 16_777_218, 16_777_217, 16_777_219];
+    assert!(rt; refers_to(alloc, dict_of_references(alloc)?, &pairs)?);
+    assert!(rt; refers_to(alloc, class(alloc)?, &[19, 30, 1])?);
+    assert!(rt; refers_to(alloc, segment(alloc)?, &[19, 30, 31])?);
+    assert!(rt; refers_to(alloc, user(alloc)?, &[19, 30, 30, 34])?);
+    assert!(rt; refers_to(alloc, Body::Counter(Counter { value: 27 }), &[19, 30])?);
+    let queue = Queue::of_items(2, vec![in alloc; reference(6), Value::Nil]?);
+    assert!(rt; refers_to(alloc, Body::Queue(queue), &[19, 30, 16_777_222])?);
+    let Some(bag) = bag_of_references(alloc)? else {
+        panic!(rt; "a bag");
+    };
+    assert!(rt; refers_to(alloc, bag, &[19, 30, 16_777_220])?);
+    let Some(dict) = key_dict_of_references(alloc)? else {
+        panic!(rt; "a dictionary");
+    };
+    assert!(rt; refers_to(alloc, dict, &[19, 30, 16_777_221])?);
+    Ok(())
+}
