@@ -158,7 +158,8 @@ class_sides_of receiver.UserClass = 24 ∷ []
 class_sides_of receiver.SystemClass = 25 ∷ []
 class_sides_of _ = []
 
-abbrev pub stands_where : (class : ℕ) (class_side : Bool) (selector : Text) → Option Primitive → Bool
+abbrev pub stands_where : (class : ℕ) (class_side : Bool) (selector : Text)
+    → Option Primitive → Bool
 stands_where class class_side selector None = false
 stands_where class class_side selector (Some primitive) =
     bytes_eq primitive.selector selector

@@ -1,4 +1,5 @@
--- Sound objects, those of an image or those that a transaction sees: the rules that each of them keeps.
+-- Sound objects, those of an image or those that a transaction sees: the rules that each of them
+-- keeps.
 use Rattle.std.specs.Prelude.{◌≡◌, ◌<◌, ◌≤◌, ◌^◌, ℕ, Bool, true, false, IsTrue, List, [], ◌∷◌, length, All, Option, Some, None, IsSome, Ok}
 use Rattle.std.specs.Option.{IfSome}
 use Rattle.texts.specs.Bytes.{Bytes as Text}

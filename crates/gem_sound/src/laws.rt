@@ -65,8 +65,8 @@ pub fn sound_objects_have()
         → (names : List Text) × HasNames objects number names × (length names ≤ 200) }
 {}
 
-/// A class has one list of names. Where objects are sound no rule is broken, and else at most one is
-/// the first that is, at one name.
+/// Where objects are sound no rule is broken, and else at most one is the first that is, at one
+/// name.
 pub fn one_first_fault()
     ensures none { (objects : Objects) (number : ℕ) (rule : ImageRule) → IsSound objects
         → BreaksFirst objects number rule → ⊥ }

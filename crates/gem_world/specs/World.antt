@@ -1,5 +1,6 @@
 -- The objects of a running transaction: what it begins with, what it has changed, and what it sees.
--- Objects stand here without the number of the commit that changed them last: no transaction sees it.
+-- Objects stand here without the number of the commit that changed them last: no transaction sees
+-- it.
 use Rattle.std.specs.Prelude.{ℕ, Bool, true, false, ◌&&◌, cond, nat_le, nat_lt, nat_eq, List, [], ◌∷◌, ◌++◌, Option, None, Some, is_some}
 use Rattle.std.specs.List.{list_any}
 use Rattle.std.specs.Option.{option_or}
