@@ -1,0 +1,10 @@
+mod Added
+mod Entries
+mod Listed
+mod Members
+mod MergedObjects
+mod Ordered
+mod Sorted
+mod Stood
+mod Unions
+mod Used

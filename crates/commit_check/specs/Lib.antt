@@ -1,0 +1,3 @@
+pub mod Union
+pub mod Conflicts
+pub mod Table
