@@ -12,7 +12,7 @@ use std::alloc::Global;
 use std::test::Fail;
 use texts::Text;
 
-fn text(alloc: Global, bytes: &[u8]) -> Result<Text, Fail> {
+pub(crate) fn text(alloc: Global, bytes: &[u8]) -> Result<Text, Fail> {
     Ok(Text::copy_of(alloc, bytes)?)
 }
 
@@ -20,7 +20,7 @@ fn symbol(alloc: Global, bytes: &[u8]) -> Result<Value, Fail> {
     Ok(Value::Sym(text(alloc, bytes)?))
 }
 
-fn plain(alloc: Global) -> Result<Body, Fail> {
+pub(crate) fn plain(alloc: Global) -> Result<Body, Fail> {
     let mut values = Values::of(Vec::new(alloc));
     values.push(Value::Nil)?;
     values.push(Value::Int(3))?;
@@ -30,14 +30,14 @@ fn plain(alloc: Global) -> Result<Body, Fail> {
     Ok(Body::Plain(values))
 }
 
-fn dict(alloc: Global) -> Result<Body, Fail> {
+pub(crate) fn dict(alloc: Global) -> Result<Body, Fail> {
     let mut pairs = Dictionary::new(alloc);
     pairs.put(symbol(alloc, b"a")?, Value::Int(9))?;
     pairs.put(symbol(alloc, b"bc")?, Value::True)?;
     Ok(Body::Dict(pairs))
 }
 
-fn class(alloc: Global) -> Result<Body, Fail> {
+pub(crate) fn class(alloc: Global) -> Result<Body, Fail> {
     let mut names = Names::of(Vec::new(alloc));
     names.push(text(alloc, b"a")?)?;
     names.push(text(alloc, b"bc")?)?;
@@ -61,7 +61,7 @@ fn class(alloc: Global) -> Result<Body, Fail> {
     }))
 }
 
-fn segment(alloc: Global) -> Result<Body, Fail> {
+pub(crate) fn segment(alloc: Global) -> Result<Body, Fail> {
     let mut groups = Vec::new(alloc);
     groups.push((text(alloc, b"Readers")?, Right::Read))?;
     groups.push((text(alloc, b"Writers")?, Right::Write))?;
@@ -73,7 +73,7 @@ fn segment(alloc: Global) -> Result<Body, Fail> {
     }))
 }
 
-fn user(alloc: Global) -> Result<Body, Fail> {
+pub(crate) fn user(alloc: Global) -> Result<Body, Fail> {
     let mut groups = Names::of(Vec::new(alloc));
     groups.push(text(alloc, b"Staff")?)?;
     Ok(Body::User(UserBody {
@@ -84,20 +84,20 @@ fn user(alloc: Global) -> Result<Body, Fail> {
     }))
 }
 
-fn bag(alloc: Global, most: u64) -> Result<Option<Body>, Fail> {
+pub(crate) fn bag(alloc: Global, most: u64) -> Result<Option<Body>, Fail> {
     let mut pairs = Vec::new(alloc);
     pairs.push((Value::Int(3), most))?;
     pairs.push((symbol(alloc, b"a")?, 1))?;
     Ok(Bag::of_pairs(pairs).map(Body::Bag))
 }
 
-fn key_dict(alloc: Global) -> Result<Option<Body>, Fail> {
+pub(crate) fn key_dict(alloc: Global) -> Result<Option<Body>, Fail> {
     let mut pairs = Vec::new(alloc);
     pairs.push((symbol(alloc, b"a")?, Value::Nil))?;
     Ok(KeyDict::of_pairs(pairs).map(Body::RcDict))
 }
 
-fn queue(alloc: Global) -> Result<Body, Fail> {
+pub(crate) fn queue(alloc: Global) -> Result<Body, Fail> {
     let mut items = Vec::new(alloc);
     items.push(Value::True)?;
     items.push(Value::Int(5))?;

@@ -1,11 +1,9 @@
-//! Room: values. Tests `gem_object`, `gem_update` and `kept_set`, a file for each.
+//! Room: values. Tests `gem_object` and `body_codec`, a file for each.
 //!
 //! No crate has tests of its own, as it would be proved once more with them.
 #![tactic(auto)]
 
 #[cfg(test)]
+mod body_codec_tests;
+#[cfg(test)]
 mod gem_object_tests;
-#[cfg(test)]
-mod gem_update_tests;
-#[cfg(test)]
-mod kept_set_tests;

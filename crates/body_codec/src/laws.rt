@@ -1,0 +1,22 @@
+//! What follows from the definitions alone. Each law is the contract of a function that does
+//! nothing.
+ghost use Rattle.std.specs.Prelude.{◌≡◌, ℕ, length};
+ghost use Rattle.gem_object.specs.Sizes.{object_size};
+ghost use Rattle.gem_object.specs.declared.object.Object.{Object};
+ghost use Rattle.gem_record.specs.Effects.{effect_size};
+ghost use Rattle.gem_record.specs.declared.effect.Effect.{Effect};
+ghost use Rattle.body_codec.specs.Spelled.{spelled_object, spelled_effect};
+ghost use Rattle.body_codec.specs.Stored.{TellsApart, IsStored, IsStoredEffect};
+
+/// Objects and effects have one spelling each, and none is the front of another. The number of the
+/// commit isn't in it, so it is said of objects and effects of the same number.
+pub fn no_prefix()
+    ensures objects { (number : ℕ) → TellsApart (IsStored number) spelled_object }
+    ensures effects { (number : ℕ) → TellsApart (IsStoredEffect number) spelled_effect }
+{}
+
+/// A spelling is as long as the size says.
+pub fn length_is_size()
+    ensures objects { (object : Object) → length (spelled_object object) ≡ object_size object }
+    ensures effects { (effect : Effect) → length (spelled_effect effect) ≡ effect_size effect }
+{}
