@@ -1,4 +1,4 @@
-//! Room: values. Takes what a session asks to commit, and the image and the locks that it meets;
+//! Room: Stone. Takes what a session asks to commit, and the image and the locks that it meets;
 //! gives the conflicts that stand against it, and what its merges make. Knows nothing of histories,
 //! of scripts and of who runs what.
 #![tactic(auto)]

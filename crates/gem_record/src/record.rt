@@ -23,7 +23,7 @@ pub struct TxnRecord {
     pub first_command: u32,
     /// The number of the commit that ends it.
     pub last_command: u32,
-    /// The counter in the first name that it drew, or would have drawn. It is below 2^24.
+    /// The counter in the first name that it drew, or would have drawn. It is from 1 to 2^24.
     pub first_name: u32,
     /// The number of commits in the image that it ran on.
     pub view: u64,
@@ -72,7 +72,7 @@ pub struct Entry {
     pub first_command: u32,
     /// The number of the commit that ended it.
     pub last_command: u32,
-    /// The counter in the first name that it drew, or would have drawn. It is below 2^24.
+    /// The counter in the first name that it drew, or would have drawn. It is from 1 to 2^24.
     pub first_name: u32,
     /// The number of commits in the image that it ran on.
     pub view: u64,

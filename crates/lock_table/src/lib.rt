@@ -1,4 +1,4 @@
-//! Room: values. Takes requests of sessions for locks on objects; grants them, or names the session
+//! Room: Stone. Takes requests of sessions for locks on objects; grants them, or names the session
 //! that is in the way. Knows nothing of what an object holds and of commits.
 #![tactic(auto)]
 
