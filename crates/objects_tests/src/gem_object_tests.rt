@@ -300,25 +300,54 @@ fn key_dict_of_references(alloc: Global) -> Result<Option<Body>, Fail> {
     Ok(KeyDict::of_pairs(pairs).map(Body::RcDict))
 }
 
+fn some_refers_to(alloc: Global, body: Option<Body>, names: &[u64]) -> Result<bool, Fail> {
+    match body {
+        Some(body) => refers_to(alloc, body, names),
+        None => Ok(false),
+    }
+}
+
+fn queue_of_references(alloc: Global) -> Result<Body, Fail> {
+    let items = vec![in alloc; reference(6), Value::Nil]?;
+    Ok(Body::Queue(Queue::of_items(2, items)))
+}
+
 #[test]
-fn references(rt: HostRuntime) -> Result<(), Fail> {
+fn references_of_values(rt: HostRuntime) -> Result<(), Fail> {
     let alloc = rt.alloc();
     assert!(rt; refers_to(alloc, plain(alloc)?, &[19, 30, 16_777_218])?);
-    let pairs = [19, 30, 16_777_218, 16_777_217, 16_777_219];
-    assert!(rt; refers_to(alloc, dict_of_references(alloc)?, &pairs)?);
+    let names = [19, 30, 16_777_218, 16_777_217, 16_777_219];
+    assert!(rt; refers_to(alloc, dict_of_references(alloc)?, &names)?);
+    Ok(())
+}
+
+#[test]
+fn references_of_classes(rt: HostRuntime) -> Result<(), Fail> {
+    let alloc = rt.alloc();
     assert!(rt; refers_to(alloc, class(alloc)?, &[19, 30, 1])?);
+    Ok(())
+}
+
+#[test]
+fn references_of_administration(rt: HostRuntime) -> Result<(), Fail> {
+    let alloc = rt.alloc();
     assert!(rt; refers_to(alloc, segment(alloc)?, &[19, 30, 31])?);
     assert!(rt; refers_to(alloc, user(alloc)?, &[19, 30, 30, 34])?);
+    Ok(())
+}
+
+#[test]
+fn references_of_merged_bodies(rt: HostRuntime) -> Result<(), Fail> {
+    let alloc = rt.alloc();
     assert!(rt; refers_to(alloc, Body::Counter(Counter { value: 27 }), &[19, 30])?);
-    let queue = Queue::of_items(2, vec![in alloc; reference(6), Value::Nil]?);
-    assert!(rt; refers_to(alloc, Body::Queue(queue), &[19, 30, 16_777_222])?);
-    let Some(bag) = bag_of_references(alloc)? else {
-        panic!(rt; "a bag");
-    };
-    assert!(rt; refers_to(alloc, bag, &[19, 30, 16_777_220])?);
-    let Some(dict) = key_dict_of_references(alloc)? else {
-        panic!(rt; "a dictionary");
-    };
-    assert!(rt; refers_to(alloc, dict, &[19, 30, 16_777_221])?);
+    assert!(rt; some_refers_to(alloc, bag_of_references(alloc)?, &[19, 30, 16_777_220])?);
+    Ok(())
+}
+
+#[test]
+fn references_of_merged_values(rt: HostRuntime) -> Result<(), Fail> {
+    let alloc = rt.alloc();
+    assert!(rt; some_refers_to(alloc, key_dict_of_references(alloc)?, &[19, 30, 16_777_221])?);
+    assert!(rt; refers_to(alloc, queue_of_references(alloc)?, &[19, 30, 16_777_222])?);
     Ok(())
 }
