@@ -1,5 +1,5 @@
 -- The guard: what it says of more objects, and which objects it asks for.
-use Rattle.std.proofs.Common.{◌≡◌, ◌∙◌, refl, sym, ap, ap₂, subst, ℕ, zero, suc, Bool, true, false, ◌&&◌, ◌||◌, nat_eq, nat_lt, Option, Some, None, List, [], ◌∷◌, ◌++◌, option_map}
+use Rattle.std.proofs.Common.{◌≡◌, ◌∙◌, refl, sym, ap, ap₂, subst, ℕ, zero, suc, ◌+◌, Bool, true, false, ◌&&◌, ◌||◌, nat_eq, nat_lt, Option, Some, None, List, [], ◌∷◌, ◌++◌, option_map}
 use Rattle.std.specs.List.{list_all}
 use Rattle.std.specs.Option.{option_to_list}
 use Rattle.std.proofs.lemmas.Bool.{false≢true, and_parts, and_from, or_left, or_right, eq-eqb}
@@ -16,7 +16,10 @@ use Rattle.gem_world.specs.World.{is_among}
 use Rattle.gem_sound.specs.Kernel.{KernelClass, kernel_class}
 use Rattle.gem_sound.specs.Sound.{has_named_slots}
 use Rattle.object_programs.specs.Fixed.{ClassPart, class_part, Fixed, same_kind}
-use Rattle.object_programs.specs.Guard.{Parts, holds_of, is_there, is_segment, is_user, is_dictionary, is_known, is_segment_at, is_dictionary_at, names_above, names_of_class, names_of_part, names_within, chain_limit, names_at, has_slots, is_class_object, is_transcript, accepts_by, accepts, named_fit, kernel_fits, kind_is_inherited, row_fits, has_none, are_few, place_fits, fits, line_above, line_of_class, line_of_part, line_within, line_at, asked_names}
+use Rattle.object_programs.specs.Guard.{Parts, holds_of, is_there, is_segment, is_user, is_dictionary, is_known, is_segment_at, is_dictionary_at, names_above, names_of_class, names_of_part, names_within, chain_limit, names_at, has_slots, is_class_object, is_transcript, accepts_by, accepts, named_fit, kernel_fits, kind_is_inherited, row_fits, has_none, are_few, place_fits, fits, line_above, line_of_class, line_of_part, line_within, line_at, asked_names, all_fit}
+use Rattle.object_programs.specs.Methods.{methods_fit}
+use Rattle.object_programs.specs.Spelled.{is_spelled}
+use Rattle.object_programs.specs.Atom.{asked_by_all}
 use Rattle.object_programs.specs.Laws.{KeepsParts}
 
 -- two tests that hold after one another
@@ -156,12 +159,21 @@ module _ (parts later : Parts) (keeps : KeepsParts parts later) where
       let fourth = and_parts _ _ third.1 in
       let fifth = and_parts _ _ fourth.1 in
       let sixth = and_parts _ _ fifth.1 in
+      let seventh = and_parts _ _ sixth.1 in
       and_from _ _ first.0
       (and_from _ _ (all_more (names_in object) second.0)
       (and_from _ _ (known_more (λ fixed. is_segment fixed.kind) object.segment third.0)
       (and_from _ _ (accepts_more object.class object.body fourth.0)
       (and_from _ _ (named_more object.body fifth.0)
-      (and_from _ _ sixth.0 (place_more name (class_part object.body) sixth.1))))))
+      (and_from _ _ sixth.0
+      (and_from _ _ (place_more name (class_part object.body) seventh.0) seventh.1))))))
+
+  pub all_fit_more : (name : ℕ) (objects : List Contents) → all_fit parts name objects ≡ true
+      → all_fit later name objects ≡ true
+  all_fit_more name [] holds = holds
+  all_fit_more name (object ∷ rest) holds = both (fits parts name object) (all_fit parts (name + 1) rest)
+      (fits later name object) (all_fit later (name + 1) rest) (fits_more name object) (all_fit_more (name + 1) rest)
+      holds
 
 -- The same objects at the names that are asked for: the same answer.
 abbrev pub SameOn : Parts → Parts → List ℕ → Type 0
@@ -370,7 +382,8 @@ module _ (parts later : Parts) where
       let before_changes = place_same name object.body body (same_right class_line line lines) in
       ap (λ rest. nat_lt 0 name && rest)
       (ap₂ ◌&&◌ known (ap₂ ◌&&◌ segment (ap₂ ◌&&◌ accepted (ap₂ ◌&&◌ named
-      (ap (λ rest. kernel_fits name object.body && rest) before_changes)))))
+      (ap (λ place. kernel_fits name object.body
+      && (place && (methods_fit name object.body && is_spelled object.body))) before_changes)))))
 
   pub asked_same : (object : Contents) → SameOn parts later (asked_names parts object)
       → asked_names later object ≡ asked_names parts object
@@ -381,3 +394,17 @@ module _ (parts later : Parts) where
       ap (λ names. names_in object ++ names)
       (ap₂ ◌++◌ (line_at_same object.class (same_left class_line line lines))
       (line_of_same (class_part object.body) (same_right class_line line lines)))
+
+  pub all_fit_same : (name : ℕ) (objects : List Contents) → SameOn parts later (asked_by_all parts objects)
+      → all_fit later name objects ≡ all_fit parts name objects
+  all_fit_same name [] same = refl
+  all_fit_same name (object ∷ rest) same = ap₂ ◌&&◌
+      (fits_same name object (same_left (asked_names parts object) (asked_by_all parts rest) same))
+      (all_fit_same (name + 1) rest (same_right (asked_names parts object) (asked_by_all parts rest) same))
+
+  pub all_asked_same : (objects : List Contents) → SameOn parts later (asked_by_all parts objects)
+      → asked_by_all later objects ≡ asked_by_all parts objects
+  all_asked_same [] same = refl
+  all_asked_same (object ∷ rest) same = ap₂ ◌++◌
+      (asked_same object (same_left (asked_names parts object) (asked_by_all parts rest) same))
+      (all_asked_same rest (same_right (asked_names parts object) (asked_by_all parts rest) same))

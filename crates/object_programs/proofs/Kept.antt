@@ -1,17 +1,21 @@
 -- What every atom keeps every program keeps.
-use Rattle.std.proofs.Common.{◌≡◌, refl, ℕ, zero, suc, Bool, true, false, Option, Some, None, List, cond, nat_lt, nat_le, ◌<◌, ◌≤◌}
-use Rattle.std.proofs.lemmas.Bool.{ltb-true, leb-true}
+use Rattle.std.proofs.Common.{◌≡◌, refl, ℕ, zero, suc, ◌+◌, Bool, true, false, ◌&&◌, Option, Some, None, List, [], ◌∷◌, length, cond, nat_le, ◌<◌, ◌≤◌, arith}
+use Rattle.std.specs.FinMap.{get}
+use Rattle.std.specs.List.{list_all}
+use Rattle.std.proofs.lemmas.Bool.{leb-true}
 use Rattle.texts.specs.Bytes.{Bytes as Text}
 use Rattle.gem_object.specs.Kinds.{is_shared}
+use Rattle.gem_object.specs.declared.body.Body.{Body}
+use Rattle.gem_update.specs.Update.{updated}
 use Rattle.gem_update.specs.declared.update.Update.{Update}
 use Rattle.gem_image.specs.Image.{Contents}
-use Rattle.gem_world.specs.World.{Setting, World, shown, touch}
-use Rattle.gem_world.specs.Changes.{put, make}
-use Rattle.gem_world.specs.Access.{a_write, after_allowed}
+use Rattle.gem_world.specs.World.{Setting, World, name_of, shown, touch}
+use Rattle.gem_world.specs.Changes.{with_body, in_segment, put, make, note}
+use Rattle.gem_world.specs.Access.{Access, a_read, a_write, is_allowed, touches_of, with_touches, after_allowed, accessed}
 use Rattle.object_programs.specs.declared.limits.TheConstants.{COUNTER_LIMIT}
-use Rattle.object_programs.specs.Budget.{Budget, object_cost, is_within_limits}
-use Rattle.object_programs.specs.Guard.{Parts, may_replace, may_make}
-use Rattle.object_programs.specs.Atom.{Atom, Look, Kind, Who, Hold, Put, Move, Note, Make, Tick, Room, Show, done, MakeCheck, too_large, no_name, no_space, no_fault, make_check, made_where, made_by, ticked, spent_where, shown_where, touch_missing, noted, replaced_where, replaced_by, replaced_at, changed}
+use Rattle.object_programs.specs.Budget.{Budget, is_within_limits}
+use Rattle.object_programs.specs.Guard.{Parts, may_change, may_replace, may_make}
+use Rattle.object_programs.specs.Atom.{Atom, Ask, Own, Kind, Made, Who, Put, Move, Note, Names, Make, Tick, Room, Show, done, MakeCheck, too_large, no_name, no_space, no_fault, make_check, objects_cost, with_new, made_where, made_by, named_where, ticked, spent_where, shown_where, touch_missing, replaced_where, edited_at, edited, updated_by, updated_at, updated_where, after_update}
 use Rattle.object_programs.specs.Run.{Run, give, fail, return_to, atom, seeing, become, and_then, ending, Ending, gives, returns, fails, State, Outcome, onward, perform}
 
 -- a relation between what was and what is later, which each atom keeps
@@ -62,14 +66,14 @@ by_three true true false found = cc
 by_three true false space found = cc
 by_three false name space found = cc
 
-pub no_fault_found : (object : Contents) (world : World) (budget : Budget)
-    → make_check object world budget ≡ no_fault
-    → (world.next < COUNTER_LIMIT) × (object_cost object.body ≤ budget.slots)
-no_fault_found object world budget found =
-    let tests = by_three (is_within_limits object) (nat_lt world.next COUNTER_LIMIT)
-    (nat_le (object_cost object.body) budget.slots) found in (
-      ltb-true world.next COUNTER_LIMIT tests.0,
-      leb-true (object_cost object.body) budget.slots tests.1,
+pub no_fault_found : (objects : List Contents) (world : World) (budget : Budget)
+    → make_check objects world budget ≡ no_fault
+    → (world.next + length objects ≤ COUNTER_LIMIT) × (objects_cost objects ≤ budget.slots)
+no_fault_found objects world budget found =
+    let tests = by_three (list_all is_within_limits objects) (nat_le (world.next + length objects) COUNTER_LIMIT)
+    (nat_le (objects_cost objects) budget.slots) found in (
+      leb-true (world.next + length objects) COUNTER_LIMIT tests.0,
+      leb-true (objects_cost objects) budget.slots tests.1,
     )
 
 -- the same of worlds alone: by what becomes of a world
@@ -78,76 +82,159 @@ pub record KeptWorlds (setting : Setting) (R : World → World → Type 0) : Typ
   pub along : (world between later : World) → R world between → R between later → R world later
   pub touches : (name : ℕ) (world : World) → R world (touch name setting world)
   pub misses : (parts : Parts) (names : List ℕ) (world : World) → R world (touch_missing parts names world)
+  -- an ordinary object is written as it is
   pub holds : (name : ℕ) (object : Contents) (world : World) → shown name setting world ≡ Some object
-      → R world (put name object world)
-  pub replaces : (name : ℕ) (update : Option Update) (old new : Contents) (world : World)
-      → shown name setting world ≡ Some old → may_replace name old new setting world ≡ true
-      → R world (put name new (noted name update setting world))
-  pub makes : (object : Contents) (world : World) → world.next < COUNTER_LIMIT
-      → may_make object setting world ≡ true → R world (make object setting world)
+      → is_shared object.body ≡ false → R world (put name object world)
+  -- an object among the changes is edited
+  pub edits : (name : ℕ) (old new : Contents) (world : World) → get world.changes name ≡ Some old
+      → may_change name old setting world ≡ true → may_replace name old new setting world ≡ true
+      → R world (put name new world)
+  -- an object is updated
+  pub updates : (name : ℕ) (update : Update) (old : Contents) (body : Body) (world : World)
+      → shown name setting world ≡ Some old → updated update old.body ≡ Some body
+      → may_replace name old (with_body body old) setting world ≡ true
+      → R world (put name (with_body body old) (note name update setting world))
+  pub makes : (objects : List Contents) (world : World) → world.next + length objects ≤ COUNTER_LIMIT
+      → may_make objects setting world ≡ true → R world (with_new objects setting world)
+
+made_next : (object : Contents) (setting : Setting) (world : World)
+    → (make object setting world).next ≡ world.next + 1
+unfolding make
+made_next object setting world = refl
+
+-- what one object that is made keeps several keep
+pub each_new : (setting : Setting) (R : World → World → Type 0) → ((world : World) → R world world)
+    → ((world between later : World) → R world between → R between later → R world later)
+    → ((object : Contents) (world : World) → world.next < COUNTER_LIMIT → R world (make object setting world))
+    → (objects : List Contents) (world : World) → world.next + length objects ≤ COUNTER_LIMIT
+    → R world (with_new objects setting world)
+each_new setting R same along one [] world below = same world
+each_new setting R same along one (object ∷ rest) world below =
+    let made = make object setting world in
+    let is : made.next ≡ world.next + 1 = made_next object setting world in
+    along world made (with_new rest setting made) (one object world (omega (arith, below)))
+    (each_new setting R same along one rest made (omega (arith, below, is)))
+
+module _ (by setting : Setting) where
+  shown_among : (name other : ℕ) (found : Option Contents) (world : World)
+      → shown other by (touches_of name found setting world) ≡ shown other by world
+  unfolding touch
+  shown_among name other None world = refl
+  shown_among name other (Some object) world = refl
+
+  -- touches leave what is seen
+  pub shown_asked : (name other : ℕ) (world : World)
+      → shown other by (with_touches name setting world) ≡ shown other by world
+  unfolding with_touches
+  shown_asked name other world = shown_among name other (shown name setting world) world
 
 module _ (setting : Setting) (R : World → World → Type 0) (law : KeptWorlds setting R) where
-  where_kept : (fits : Bool) (name : ℕ) (update : Option Update) (old new : Contents) (world : World)
-      → shown name setting world ≡ Some old → may_replace name old new setting world ≡ fits
-      → R world (replaced_where fits name update new setting world)
-  where_kept true name update old new world there is = law.replaces name update old new world there is
-  where_kept false name update old new world there is = law.misses _ _ world
+  touches_kept : (name : ℕ) (found : Option Contents) (world : World)
+      → R world (touches_of name found setting world)
+  touches_kept name None world = law.touches name world
+  touches_kept name (Some object) world =
+      let once = touch name setting world in
+      let twice = touch object.segment setting once in
+      law.along world twice (touch setting.user setting twice)
+      (law.along world once twice (law.touches name world) (law.touches object.segment once))
+      (law.touches setting.user twice)
 
-  by_kept : (name : ℕ) (update : Option Update) (old : Contents) (edited : Option Contents) (world : World)
-      → shown name setting world ≡ Some old → R world (replaced_by name update old edited setting world)
-  by_kept name update old None world there = law.same world
-  by_kept name update old (Some new) world there =
-      where_kept (may_replace name old new setting world) name update old new world there refl
-
-  pub at_kept : (name : ℕ) (update : Option Update) (edit : Contents → Option Contents) (found : Option Contents)
-      (world : World) → shown name setting world ≡ found
-      → R world (replaced_at name update edit found setting world)
-  at_kept name update edit None world there = law.same world
-  at_kept name update edit (Some old) world there = by_kept name update old (edit old) world there
-
-  shown_touched : (name other : ℕ) (world : World)
-      → shown name setting (touch other setting world) ≡ shown name setting world
-  unfolding touch
-  shown_touched name other world = refl
-
-  changed_kept : (name : ℕ) (update : Option Update) (edit : Contents → Option Contents) (world : World)
-      → R world (changed name update edit setting world)
-  unfolding changed
-  changed_kept name update edit world =
-      let now = touch name setting world in
-      law.along world now (replaced_at name update edit (shown name setting world) setting now)
-      (law.touches name world)
-      (at_kept name update edit (shown name setting world) now (shown_touched name name world))
+  pub asked_kept : (name : ℕ) (world : World) → R world (with_touches name setting world)
+  unfolding with_touches
+  asked_kept name world = touches_kept name (shown name setting world) world
 
   held_by : (shared : Bool) (name : ℕ) (object : Contents) (world : World) → shown name setting world ≡ Some object
-      → R world (cond shared world (put name object world))
-  held_by true name object world there = law.same world
-  held_by false name object world there = law.holds name object world there
+      → is_shared object.body ≡ shared → R world (cond shared world (put name object world))
+  held_by true name object world there is = law.same world
+  held_by false name object world there is = law.holds name object world there is
 
-  held_kept : (name : ℕ) (found : Option Contents) (world : World) → shown name setting world ≡ found
-      → R world (after_allowed a_write name found world)
-  held_kept name None world there = law.same world
-  held_kept name (Some object) world there = held_by (is_shared object.body) name object world there
+  allowed_kept : (access : Access) (name : ℕ) (found : Option Contents) (world : World)
+      → shown name setting world ≡ found → R world (after_allowed access name found world)
+  allowed_kept a_read name found world there = law.same world
+  allowed_kept a_write name None world there = law.same world
+  allowed_kept a_write name (Some object) world there = held_by (is_shared object.body) name object world there refl
 
-  hold_kept : (name : ℕ) (world : World)
-      → R world (after_allowed a_write name (shown name setting world) (touch name setting world))
-  hold_kept name world =
-      let now = touch name setting world in
-      law.along world now (after_allowed a_write name (shown name setting world) now) (law.touches name world)
-      (held_kept name (shown name setting world) now (shown_touched name name world))
+  accessed_by : (allowed : Bool) (access : Access) (name : ℕ) (world : World)
+      → R world (cond allowed (after_allowed access name (shown name setting world) (with_touches name setting world))
+      (with_touches name setting world))
+  accessed_by false access name world = asked_kept name world
+  accessed_by true access name world =
+      let now = with_touches name setting world in
+      law.along world now (after_allowed access name (shown name setting world) now) (asked_kept name world)
+      (allowed_kept access name (shown name setting world) now (shown_asked setting setting name name world))
 
-  fit_kept : (fits : Bool) (object : Contents) (world : World) (budget : Budget) → world.next < COUNTER_LIMIT
-      → may_make object setting world ≡ fits → R world (made_where fits object setting world budget).world
-  fit_kept true object world budget below is = law.makes object world below is
-  fit_kept false object world budget below is = law.misses _ _ world
+  accessed_kept : (access : Access) (name : ℕ) (world : World) → R world (accessed access name setting world)
+  unfolding accessed
+  accessed_kept access name world = accessed_by (is_allowed access name setting world) access name world
 
-  make_kept : (found : MakeCheck) (object : Contents) (world : World) (budget : Budget)
-      → make_check object world budget ≡ found → R world (made_by found object setting world budget).world
-  make_kept too_large object world budget is = law.same world
-  make_kept no_name object world budget is = law.same world
-  make_kept no_space object world budget is = law.same world
-  make_kept no_fault object world budget is =
-      fit_kept (may_make object setting world) object world budget (no_fault_found object world budget is).0 refl
+  where_edited : (own may : Bool) (name : ℕ) (old new : Contents) (world : World)
+      → get world.changes name ≡ Some old → may_change name old setting world ≡ own
+      → may_replace name old new setting world ≡ may
+      → R world (replaced_where (own && may) name None new setting world)
+  where_edited true true name old new world there own may = law.edits name old new world there own may
+  where_edited true false name old new world there own may = law.misses _ _ world
+  where_edited false may name old new world there own is = law.misses _ _ world
+
+  pub edited_kept_at : (name : ℕ) (edit : Contents → Contents) (found : Option Contents) (world : World)
+      → get world.changes name ≡ found → R world (edited_at name edit found setting world)
+  edited_kept_at name edit None world there = law.same world
+  edited_kept_at name edit (Some old) world there = where_edited (may_change name old setting world)
+      (may_replace name old (edit old) setting world) name old (edit old) world there refl refl
+
+  edited_kept : (name : ℕ) (edit : Contents → Contents) (world : World) → R world (edited name edit setting world)
+  unfolding edited
+  edited_kept name edit world = edited_kept_at name edit (get world.changes name) world refl
+
+  where_updated : (may : Bool) (name : ℕ) (update : Update) (old : Contents) (body : Body) (world : World)
+      → shown name setting world ≡ Some old → updated update old.body ≡ Some body
+      → may_replace name old (with_body body old) setting world ≡ may
+      → R world (replaced_where may name (Some update) (with_body body old) setting world)
+  where_updated true name update old body world there is may = law.updates name update old body world there is may
+  where_updated false name update old body world there is may = law.misses _ _ world
+
+  updated_kept_by : (name : ℕ) (update : Update) (old : Contents) (found : Option Body) (world : World)
+      → shown name setting world ≡ Some old → updated update old.body ≡ found
+      → R world (updated_by name update old found setting world)
+  updated_kept_by name update old None world there is = law.same world
+  updated_kept_by name update old (Some body) world there is = where_updated
+      (may_replace name old (with_body body old) setting world) name update old body world there is refl
+
+  pub updated_kept_at : (name : ℕ) (update : Update) (found : Option Contents) (world : World)
+      → shown name setting world ≡ found → R world (updated_at name update found setting world)
+  updated_kept_at name update None world there = law.same world
+  updated_kept_at name update (Some old) world there =
+      updated_kept_by name update old (updated update old.body) world there refl
+
+  pub updated_kept_where : (allowed : Bool) (name : ℕ) (update : Update) (world : World)
+      → R world (updated_where allowed name update setting world)
+  updated_kept_where true name update world = updated_kept_at name update (shown name setting world) world refl
+  updated_kept_where false name update world = law.same world
+
+  update_kept : (name : ℕ) (update : Update) (world : World) → R world (after_update name update setting world)
+  unfolding after_update
+  update_kept name update world =
+      let now = with_touches name setting world in
+      let allowed = is_allowed a_write name setting world in
+      law.along world now (updated_where allowed name update setting now) (asked_kept name world)
+      (updated_kept_where allowed name update now)
+
+  fit_kept : (fits : Bool) (objects : List Contents) (world : World) (budget : Budget)
+      → world.next + length objects ≤ COUNTER_LIMIT → may_make objects setting world ≡ fits
+      → R world (made_where fits objects setting world budget).world
+  fit_kept true objects world budget below is = law.makes objects world below is
+  fit_kept false objects world budget below is = law.misses _ _ world
+
+  make_kept : (found : MakeCheck) (objects : List Contents) (world : World) (budget : Budget)
+      → make_check objects world budget ≡ found → R world (made_by found objects setting world budget).world
+  make_kept too_large objects world budget is = law.same world
+  make_kept no_name objects world budget is = law.same world
+  make_kept no_space objects world budget is = law.same world
+  make_kept no_fault objects world budget is =
+      fit_kept (may_make objects setting world) objects world budget (no_fault_found objects world budget is).0 refl
+
+  named_kept : (enough : Bool) (world : World) (budget : Budget) → R world (named_where enough world budget).world
+  named_kept true world budget = law.same world
+  named_kept false world budget = law.same world
 
   tick_kept : (units : ℕ) (world : World) (budget : Budget) → R world (ticked units world budget).world
   tick_kept zero world budget = law.same world
@@ -166,15 +253,18 @@ module _ (setting : Setting) (R : World → World → Type 0) (law : KeptWorlds 
 
   step_kept : {A : Type 0} (one : Atom A) (world : World) (budget : Budget)
       → R world (done one setting world budget).world
-  step_kept (Look name) world budget = law.touches name world
+  step_kept (Ask access name) world budget = accessed_kept access name world
+  step_kept Own world budget = law.touches setting.user world
   step_kept (Kind name) world budget = law.misses _ _ world
+  step_kept (Made name) world budget = law.same world
   step_kept Who world budget = law.same world
-  step_kept (Hold name) world budget = hold_kept name world
-  step_kept (Put name body) world budget = changed_kept name None _ world
-  step_kept (Move name segment) world budget = changed_kept name None _ world
-  step_kept (Note name update) world budget = changed_kept name (Some update) _ world
-  step_kept (Make object) world budget =
-      make_kept (make_check object world budget) object world budget refl
+  step_kept (Put name body) world budget = edited_kept name (with_body body) world
+  step_kept (Move name segment) world budget = edited_kept name (in_segment segment) world
+  step_kept (Note name update) world budget = update_kept name update world
+  step_kept (Names count) world budget = named_kept _ world budget
+  step_kept (Make objects_at) world budget =
+      let objects = objects_at (name_of setting world.next) in
+      make_kept (make_check objects world budget) objects world budget refl
   step_kept Tick world budget = tick_kept budget.units world budget
   step_kept (Room slots) world budget = room_kept _ slots world budget
   step_kept (Show text) world budget = show_kept _ _ text world budget

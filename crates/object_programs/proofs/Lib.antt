@@ -6,6 +6,5 @@ pub mod Frame
 pub mod Sames
 pub mod Objects
 pub mod Reach
-pub mod Accesses
 pub mod Orders
 pub mod Rules

@@ -7,11 +7,11 @@ use Rattle.radix_pages.proofs.Tables.{get-insert_other}
 use Rattle.gem_update.specs.declared.update.Update.{Update}
 use Rattle.gem_image.specs.Image.{Contents}
 use Rattle.gem_world.specs.World.{Setting, World, name_of, before_changes, shown, is_drawn, touch}
-use Rattle.gem_world.specs.Changes.{put, make, note}
+use Rattle.gem_world.specs.Changes.{with_body, put, make, note}
 use Rattle.object_programs.specs.Guard.{Parts}
-use Rattle.object_programs.specs.Atom.{touch_missing, noted}
+use Rattle.object_programs.specs.Atom.{touch_missing}
 use Rattle.object_programs.specs.Laws.{IsInReach}
-use Rattle.object_programs.proofs.Kept.{Kept, of_worlds}
+use Rattle.object_programs.proofs.Kept.{Kept, of_worlds, each_new}
 
 module _ (setting : Setting) where
   abbrev pub StaysInReach : World → World → Type 0
@@ -26,11 +26,10 @@ module _ (setting : Setting) where
   unfolding touch_missing
   misses_reach parts names world reach = record { begun = reach.begun; own = reach.own }
 
-  noted_reach : (name : ℕ) (update : Option Update) (world : World)
-      → StaysInReach world (noted name update setting world)
+  noted_reach : (name : ℕ) (update : Update) (world : World)
+      → StaysInReach world (note name update setting world)
   unfolding note
-  noted_reach name None world reach = reach
-  noted_reach name (Some update) world reach = record { begun = reach.begun; own = reach.own }
+  noted_reach name update world reach = record { begun = reach.begun; own = reach.own }
 
   -- a name that is seen is within reach
   seen_own : (name : ℕ) (found : Option Contents) (object : Contents) (world : World)
@@ -53,11 +52,10 @@ module _ (setting : Setting) where
         | inr apart ↦ reach.own asked (sym (ap is_some (get-insert_other world.changes name new asked apart)) ∙ some)
       ]
 
-  noted_shown : (name : ℕ) (update : Option Update) (world : World)
-      → shown name setting (noted name update setting world) ≡ shown name setting world
+  noted_shown : (name : ℕ) (update : Update) (world : World)
+      → shown name setting (note name update setting world) ≡ shown name setting world
   unfolding note
-  noted_shown name None world = refl
-  noted_shown name (Some update) world = refl
+  noted_shown name update world = refl
 
   drawn_now : (world : World) → setting.first ≤ world.next
       → (nat_le (name_of setting setting.first) (name_of setting world.next)
@@ -96,15 +94,22 @@ module _ (setting : Setting) where
             ]
       ]
 
+  changed_shown : (name : ℕ) (old : Contents) (world : World) → get world.changes name ≡ Some old
+      → shown name setting world ≡ Some old
+  changed_shown name old world there = ap (λ found. option_or found (before_changes name setting)) there
+
   pub reach_stays : Kept setting (λ world budget later left. StaysInReach world later)
   reach_stays = of_worlds setting StaysInReach record {
     same = λ world reach. reach;
     along = λ world between later first second reach. second (first reach);
     touches = touch_reach;
     misses = misses_reach;
-    holds = λ name object world there. put_reach name object object world there;
-    replaces = λ name update old new world there _ reach.
-        put_reach name old new (noted name update setting world) (noted_shown name update world ∙ there)
-        (noted_reach name update world reach);
-    makes = λ object world _ _. make_reach object world;
+    holds = λ name object world there _. put_reach name object object world there;
+    edits = λ name old new world there _ _. put_reach name old new world (changed_shown name old world there);
+    updates = λ name update old body world there _ _ reach.
+        put_reach name old (with_body body old) (note name update setting world)
+        (noted_shown name update world ∙ there) (noted_reach name update world reach);
+    makes = λ objects world below _. each_new setting StaysInReach (λ world reach. reach)
+        (λ world between later first second reach. second (first reach))
+        (λ object world _. make_reach object world) objects world below;
   }

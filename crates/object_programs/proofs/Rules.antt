@@ -1,9 +1,7 @@
 -- What the tests of the guard mean: where they hold, an objects of what is seen keeps the rules.
 use Rattle.std.proofs.Common.{◌≡◌, ◌∙◌, refl, sym, ap, subst, ℕ, zero, suc, ◌<◌, Bool, true, false, ◌&&◌, ◌||◌, cond, nat_eq, nat_lt, length, Option, Some, None, List, [], ◌∷◌, ◌++◌, option_map, is_some, inl, inr, arith}
-use Rattle.std.specs.Bool.{IsTrue}
 use Rattle.std.specs.List.{All, list_all}
 use Rattle.std.specs.Option.{IfSome, IsSome, option_and_then}
-use Rattle.std.specs.FinMap.{get}
 use Rattle.std.proofs.lemmas.Bool.{false≢true, and_parts, or_cases, eqb-true, leb-true, ltb-true}
 use Rattle.std.proofs.lemmas.List.Elements.{All-nil, All-cons}
 use Rattle.texts.specs.Bytes.{Bytes as Text}
@@ -17,11 +15,13 @@ use Rattle.gem_image.specs.Image.{Contents, Objects}
 use Rattle.gem_world.specs.World.{Setting, World, shown}
 use Rattle.gem_sound.specs.Parts.{class_of, user_of, dictionary_of, class_at}
 use Rattle.gem_image.specs.Rights.{rights_of, rights_at}
-use Rattle.gem_sound.specs.Kernel.{KernelClass, kernel_class, KernelBody, kernel_body, has_kind}
+use Rattle.gem_sound.specs.Kernel.{KernelClass, kernel_class, KernelBody, kernel_body}
 use Rattle.gem_sound.specs.Inherited.{HasNames, at_the_end, under}
 use Rattle.gem_sound.specs.Sound.{HasPlace, HasPlaceByRow, HasInheritedKind, FitsClass, by_kind, class_object, transcript, NamesFit, HasKernelBody, has_named_slots, KeepsRule, i1, i3, i4, i5}
 use Rattle.object_programs.specs.Fixed.{body_kind, ClassPart, class_part, Fixed, fixed_of, fixed_by, same_kind, same_number}
 use Rattle.object_programs.specs.Guard.{Parts, holds_of, is_there, is_segment, is_user, is_dictionary, is_known, is_segment_at, names_above, names_of_class, names_of_part, names_within, chain_limit, names_at, has_slots, is_class_object, is_transcript, accepts_by, accepts, named_fit, kernel_fits_by, kernel_fits, kind_is_inherited, has_none, row_fits, are_few, place_fits, fits}
+use Rattle.object_programs.specs.Methods.{methods_fit}
+use Rattle.object_programs.specs.Spelled.{is_spelled}
 use Rattle.object_programs.specs.Laws.{AreSound, Shows}
 use Rattle.object_programs.proofs.Bases.{some_there}
 use Rattle.object_programs.proofs.Sames.{kind_is, number_is}
@@ -348,6 +348,7 @@ module _ (objects : Objects) (setting : Setting) (world : World) (shows : Shows 
         × (is_segment_at parts object.segment ≡ true) × (accepts parts object.class object.body ≡ true)
         × (named_fit parts object.body ≡ true) × (kernel_fits number object.body ≡ true)
         × (place_fits parts number (class_part object.body) ≡ true)
+        × (methods_fit number object.body ≡ true) × (is_spelled object.body ≡ true)
 
     passed : tests
     unfolding fits
@@ -358,7 +359,9 @@ module _ (objects : Objects) (setting : Setting) (world : World) (shows : Shows 
         let fourth = and_parts _ _ third.1 in
         let fifth = and_parts _ _ fourth.1 in
         let sixth = and_parts _ _ fifth.1 in
-        (first.0, second.0, third.0, fourth.0, fifth.0, sixth.0, sixth.1)
+        let seventh = and_parts _ _ sixth.1 in
+        let last = and_parts _ _ seventh.1 in
+        (first.0, second.0, third.0, fourth.0, fifth.0, sixth.0, seventh.0, last.0, last.1)
 
     pub keeps_references : KeepsRule objects i1 number object
     keeps_references =

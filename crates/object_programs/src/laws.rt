@@ -1,20 +1,18 @@
 //! What follows from the definitions alone. Each law is the contract of a function that does
 //! nothing.
-ghost use Rattle.std.specs.Prelude.{◌≡◌, ◌<◌, ◌≤◌, ◌-◌, ℕ, true, false, List, Some, IsSome};
+ghost use Rattle.std.specs.Prelude.{◌≡◌, ◌<◌, ◌≤◌, ◌-◌, ◌+◌, ℕ, true, false, List, length, Some, IsSome};
+ghost use Rattle.std.specs.List.{list_all};
 ghost use Rattle.gem_image.specs.Image.{Image, Contents, Objects};
 ghost use Rattle.gem_world.specs.World.{Setting, World, name_of};
-ghost use Rattle.gem_world.specs.Access.{IsTouched, a_read, a_write};
-ghost use Rattle.gem_world.specs.Changes.{make};
+ghost use Rattle.gem_world.specs.Access.{IsTouched};
 ghost use Rattle.gem_sound.specs.Kernel.{kernel_body};
 ghost use Rattle.gem_sound.specs.Sound.{KeepsRule, i1, i3, i4, i5};
-ghost use Rattle.object_programs.specs.Budget.{Budget, object_cost, is_within_limits};
+ghost use Rattle.object_programs.specs.Budget.{Budget, is_within_limits};
 ghost use Rattle.object_programs.specs.Fixed.{fixed_by};
 ghost use Rattle.object_programs.specs.Guard.{may_make};
-ghost use Rattle.object_programs.specs.Atom.{Make, says, done, refused};
-ghost use Rattle.object_programs.specs.Run.{State, perform};
-ghost use Rattle.object_programs.specs.Programs.{read, write};
+ghost use Rattle.object_programs.specs.Atom.{Make, says, done, refused, objects_cost, with_new};
 ghost use Rattle.object_programs.specs.Steps.{Step, after_steps};
-ghost use Rattle.object_programs.specs.Laws.{rebased, Stays, AgreeOnTouched, Falls, KeepsParts, AreFree, IsInReach, AreSound, access_outcome, Shows};
+ghost use Rattle.object_programs.specs.Laws.{rebased, Stays, AgreeOnTouched, Falls, KeepsParts, AreFree, IsInReach, AreSound, Shows};
 
 use crate::fault::Fault;
 use crate::limits::COUNTER_LIMIT;
@@ -68,36 +66,31 @@ pub fn soundness_stays()
         → AreSound setting (after_steps steps setting world budget).state.world }
 {}
 
-/// The programs of a read and of a write do what these accesses do: they touch the object, its
-/// segment and the user's profile in this order, and then the user's right decides. An allowed
-/// write leaves an ordinary object written, as it is.
-pub fn accesses_are_programs()
-    ensures read { (name : ℕ) (setting : Setting) (state : State (Unit {0}))
-        → perform (read name) setting state ≡ access_outcome a_read name setting state }
-    ensures write { (name : ℕ) (setting : Setting) (state : State (Unit {0}))
-        → perform (write name) setting state ≡ access_outcome a_write name setting state }
-{}
-
-/// A make asks for the size first (E17), then for a name (E16), then for space (E15), and a refusal
-/// changes nothing. After that an object that fits is made, and takes its space.
+/// A make asks for the size first (E17), then for names (E16), then for space (E15), and a refusal
+/// changes nothing. After that objects that fit are made, one after the other, and take their space.
 pub fn makes_in_order()
-    ensures large { (object : Contents) (setting : Setting) (world : World) (budget : Budget)
-        → is_within_limits object ≡ false
-        → done (Make object) setting world budget ≡ refused Fault.ObjectTooLarge world budget }
-    ensures used_up { (object : Contents) (setting : Setting) (world : World) (budget : Budget)
-        → is_within_limits object ≡ true → COUNTER_LIMIT ≤ world.next
-        → done (Make object) setting world budget ≡ refused Fault.NamesUsedUp world budget }
-    ensures too_little { (object : Contents) (setting : Setting) (world : World) (budget : Budget)
-        → is_within_limits object ≡ true → world.next < COUNTER_LIMIT
-        → budget.slots < object_cost object.body
-        → done (Make object) setting world budget ≡ refused Fault.Space world budget }
-    ensures made { (object : Contents) (setting : Setting) (world : World) (budget : Budget)
-        → may_make object setting world ≡ true → is_within_limits object ≡ true
-        → world.next < COUNTER_LIMIT → object_cost object.body ≤ budget.slots
-        → done (Make object) setting world budget ≡ record {
+    ensures large { (objects_at : ℕ → List Contents) (setting : Setting) (world : World)
+        (budget : Budget) → let objects = objects_at (name_of setting world.next) in
+        list_all is_within_limits objects ≡ false
+        → done (Make objects_at) setting world budget
+        ≡ refused Fault.ObjectTooLarge world budget }
+    ensures used_up { (objects_at : ℕ → List Contents) (setting : Setting) (world : World)
+        (budget : Budget) → let objects = objects_at (name_of setting world.next) in
+        list_all is_within_limits objects ≡ true → COUNTER_LIMIT < world.next + length objects
+        → done (Make objects_at) setting world budget ≡ refused Fault.NamesUsedUp world budget }
+    ensures too_little { (objects_at : ℕ → List Contents) (setting : Setting) (world : World)
+        (budget : Budget) → let objects = objects_at (name_of setting world.next) in
+        list_all is_within_limits objects ≡ true → world.next + length objects ≤ COUNTER_LIMIT
+        → budget.slots < objects_cost objects
+        → done (Make objects_at) setting world budget ≡ refused Fault.Space world budget }
+    ensures made { (objects_at : ℕ → List Contents) (setting : Setting) (world : World)
+        (budget : Budget) → let objects = objects_at (name_of setting world.next) in
+        may_make objects setting world ≡ true → list_all is_within_limits objects ≡ true
+        → world.next + length objects ≤ COUNTER_LIMIT → objects_cost objects ≤ budget.slots
+        → done (Make objects_at) setting world budget ≡ record {
           answer = says (name_of setting world.next);
-          world = make object setting world;
-          budget = record budget { slots = budget.slots - object_cost object.body };
+          world = with_new objects setting world;
+          budget = record budget { slots = budget.slots - objects_cost objects };
         } }
 {}
 

@@ -12,5 +12,5 @@ pub returns-clause-too_little : goal.returns-clause-too_little
 returns-clause-too_little c = too_little
 
 pub returns-clause-made : goal.returns-clause-made
-returns-clause-made c object setting world budget may within below enough =
-    made object setting world budget true may within below enough
+returns-clause-made c objects_at setting world budget may within below enough =
+    made objects_at setting world budget true may within below enough
