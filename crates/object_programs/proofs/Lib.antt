@@ -8,3 +8,5 @@ pub mod Objects
 pub mod Reach
 pub mod Orders
 pub mod Rules
+pub mod Spells
+pub mod MethodRules

@@ -1,6 +1,7 @@
 -- What laws of all programs speak of.
-use Rattle.std.specs.Prelude.{◌≡◌, ◌⊎◌, ℕ, ◌+◌, ◌^◌, ◌≤◌, ◌<◌, true, None, Some, is_some, option_map}
+use Rattle.std.specs.Prelude.{◌≡◌, ◌⊎◌, ℕ, ◌+◌, ◌^◌, ◌≤◌, ◌<◌, true, None, Some, IsSome, is_some, option_map}
 use Rattle.std.specs.FinMap.{get}
+use Rattle.gem_object.specs.Spelling.{IsOid, IsSpelledBody}
 use Rattle.gem_image.specs.Image.{Image, Contents, Objects, objects_in}
 use Rattle.gem_world.specs.World.{Setting, World, name_of, before_changes, shown, is_drawn}
 use Rattle.gem_world.specs.Access.{IsTouched}
@@ -62,6 +63,19 @@ pub record AreSound (setting : Setting) (world : World) : Type 0 where
   pub kernel : (name : ℕ) → is_some (kernel_body name) ≡ true
       → is_some (fixed_by setting world name) ≡ true
   pub user : is_user_at (fixed_by setting world) setting.user ≡ true
+
+-- an object's class and segment are names of objects, and its body has a spelling
+pub record HasSpelling (object : Contents) : Type 0 where
+  pub class_name : IsOid object.class
+  pub segment_name : IsOid object.segment
+  pub body : IsSpelledBody object.body
+
+-- objects that can be stored, as those of an image: their names are names of objects, and their
+-- bodies have spellings
+pub record AreStored (objects : Objects) : Type 0 where
+  pub named : (name : ℕ) → IsSome (objects name) → IsOid name
+  pub spelled : (name : ℕ) (object : Contents) → objects name ≡ Some object
+      → IsSpelledBody object.body
 
 -- these are the objects that are seen
 abbrev pub Shows : Objects → Setting → World → Type 0

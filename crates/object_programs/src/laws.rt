@@ -1,18 +1,24 @@
 //! What follows from the definitions alone. Each law is the contract of a function that does
 //! nothing.
-ghost use Rattle.std.specs.Prelude.{◌≡◌, ◌<◌, ◌≤◌, ◌-◌, ◌+◌, ℕ, true, false, List, length, Some, IsSome};
+ghost use Rattle.std.specs.Prelude.{◌≡◌, ◌↔◌, ◌<◌, ◌≤◌, ◌-◌, ◌+◌, ℕ, true, false, List, length, Some, IsSome};
 ghost use Rattle.std.specs.List.{list_all};
-ghost use Rattle.gem_image.specs.Image.{Image, Contents, Objects};
-ghost use Rattle.gem_world.specs.World.{Setting, World, name_of};
+ghost use Rattle.std.specs.Option.{IfSome};
+ghost use Rattle.gem_object.specs.Spelling.{IsSpelledBody};
+ghost use Rattle.gem_object.specs.declared.body.Body.{Body};
+ghost use Rattle.gem_image.specs.Image.{Image, IsImage, Contents, Objects, objects_in};
+ghost use Rattle.gem_world.specs.World.{Setting, World, untouched, name_of};
 ghost use Rattle.gem_world.specs.Access.{IsTouched};
 ghost use Rattle.gem_sound.specs.Kernel.{kernel_body};
-ghost use Rattle.gem_sound.specs.Sound.{KeepsRule, i1, i3, i4, i5};
+ghost use Rattle.gem_sound.specs.Parts.{class_of};
+ghost use Rattle.gem_sound.specs.Sound.{HasMethods, KeepsRule, i1, i2, i3, i4, i5, IsSoundFor};
 ghost use Rattle.object_programs.specs.Budget.{Budget, is_within_limits};
 ghost use Rattle.object_programs.specs.Fixed.{fixed_by};
+ghost use Rattle.object_programs.specs.Spelled.{is_spelled};
+ghost use Rattle.object_programs.specs.Methods.{methods_fit};
 ghost use Rattle.object_programs.specs.Guard.{may_make};
 ghost use Rattle.object_programs.specs.Atom.{Make, says, done, refused, objects_cost, with_new};
 ghost use Rattle.object_programs.specs.Steps.{Step, after_steps};
-ghost use Rattle.object_programs.specs.Laws.{rebased, Stays, AgreeOnTouched, Falls, KeepsParts, AreFree, IsInReach, AreSound, Shows};
+ghost use Rattle.object_programs.specs.Laws.{rebased, Stays, AgreeOnTouched, Falls, KeepsParts, AreFree, IsInReach, AreSound, HasSpelling, AreStored, Shows};
 
 use crate::fault::Fault;
 use crate::limits::COUNTER_LIMIT;
@@ -94,12 +100,23 @@ pub fn makes_in_order()
         } }
 {}
 
-/// What is sound by the tests of the guard keeps the rules of a sound image, but for that on the
-/// sources of methods: so does each of the objects which are seen.
+/// The guard's tests of bodies tell what is meant: a body passes where it has a spelling, and the
+/// methods of a class where the rule on methods is kept, and nowhere else.
+pub fn what_is_spelled()
+    ensures bodies { (body : Body) → is_spelled body ≡ true ↔ IsSpelledBody body }
+    ensures methods { (name : ℕ) (body : Body)
+        → methods_fit name body ≡ true ↔ IfSome (class_of body) (HasMethods name) }
+{}
+
+/// What is sound by the tests of the guard keeps the rules of a sound image, and can be stored: so
+/// does each of the objects which are seen.
 pub fn sound_objects_keep_the_rules()
     ensures references { (objects : Objects) (setting : Setting) (world : World)
         → Shows objects setting world → AreSound setting world → (number : ℕ) (object : Contents)
         → objects number ≡ Some object → KeepsRule objects i1 number object }
+    ensures methods { (objects : Objects) (setting : Setting) (world : World)
+        → Shows objects setting world → AreSound setting world → (number : ℕ) (object : Contents)
+        → objects number ≡ Some object → KeepsRule objects i2 number object }
     ensures classes { (objects : Objects) (setting : Setting) (world : World)
         → Shows objects setting world → AreSound setting world → (number : ℕ) (object : Contents)
         → objects number ≡ Some object → KeepsRule objects i3 number object }
@@ -109,7 +126,30 @@ pub fn sound_objects_keep_the_rules()
     ensures fitting { (objects : Objects) (setting : Setting) (world : World)
         → Shows objects setting world → AreSound setting world → (number : ℕ) (object : Contents)
         → objects number ≡ Some object → KeepsRule objects i5 number object }
+    ensures spelled { (objects : Objects) (setting : Setting) (world : World)
+        → Shows objects setting world → AreSound setting world → (number : ℕ) (object : Contents)
+        → objects number ≡ Some object → HasSpelling object }
     ensures kernel { (objects : Objects) (setting : Setting) (world : World)
         → Shows objects setting world → AreSound setting world → (number : ℕ)
         → IsSome (kernel_body number) → IsSome (objects number) }
+    ensures all { (objects : Objects) (setting : Setting) (world : World)
+        → Shows objects setting world → AreSound setting world
+        → IsSoundFor objects setting.user setting.serial world.next × AreStored objects }
+{}
+
+/// Sound objects that can be stored pass the tests of the guard: so a transaction can begin on a
+/// sound image.
+pub fn guard_admits()
+    ensures objects { (objects : Objects) (setting : Setting) (world : World)
+        → Shows objects setting world → AreStored objects
+        → IsSoundFor objects setting.user setting.serial world.next → AreSound setting world }
+    ensures image { (image : Image) (user serial first : ℕ) → IsImage image
+        → IsSoundFor (objects_in image) user serial first
+        → AreSound (record {
+          place = image;
+          view = image;
+          user = user;
+          serial = serial;
+          first = first;
+        }) (untouched first) }
 {}
