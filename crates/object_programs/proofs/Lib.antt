@@ -10,3 +10,4 @@ pub mod Orders
 pub mod Rules
 pub mod Spells
 pub mod MethodRules
+pub mod Admits
