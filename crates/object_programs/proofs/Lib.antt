@@ -11,3 +11,4 @@ pub mod Rules
 pub mod Spells
 pub mod MethodRules
 pub mod Admits
+pub mod Told

@@ -1,9 +1,14 @@
 -- What laws of all programs speak of.
-use Rattle.std.specs.Prelude.{◌≡◌, ◌⊎◌, ℕ, ◌+◌, ◌^◌, ◌≤◌, ◌<◌, true, None, Some, IsSome, is_some, option_map}
+use Rattle.std.specs.Prelude.{◌≡◌, ◌⊎◌, ℕ, ◌+◌, ◌^◌, ◌≤◌, ◌<◌, true, false, List, [], ◌∷◌, Option, None, Some, IsSome, is_some, option_map, option_and_then}
 use Rattle.std.specs.FinMap.{get}
 use Rattle.gem_object.specs.Spelling.{IsOid, IsSpelledBody}
+use Rattle.gem_object.specs.Kinds.{is_shared}
+use Rattle.gem_object.specs.declared.body.Body.{Body}
+use Rattle.gem_update.specs.Update.{updated}
+use Rattle.gem_update.specs.declared.update.Update.{Update}
 use Rattle.gem_image.specs.Image.{Image, Contents, Objects, objects_in}
-use Rattle.gem_world.specs.World.{Setting, World, name_of, before_changes, shown, is_drawn}
+use Rattle.gem_world.specs.World.{Setting, World, name_of, before_changes, shown, is_drawn, is_made}
+use Rattle.gem_world.specs.Changes.{with_body, updates_on}
 use Rattle.gem_world.specs.Access.{IsTouched}
 use Rattle.gem_sound.specs.Kernel.{kernel_body}
 use Rattle.object_programs.specs.Budget.{Budget}
@@ -49,6 +54,23 @@ pub record IsInReach (setting : Setting) (world : World) : Type 0 where
   pub begun : setting.first ≤ world.next
   pub own : (name : ℕ) → is_some (get world.changes name) ≡ true
       → (is_drawn name setting world ≡ true) ⊎ (is_some (before_changes name setting) ≡ true)
+
+-- a body after updates, one after the other; None where one of them is refused
+abbrev pub updated_by_all : List Update → Body → Option Body
+updated_by_all [] body = Some body
+updated_by_all (update ∷ rest) body =
+    option_and_then (updated_by_all rest) (updated update body)
+
+-- Names have been drawn from the transaction's first one on. And updates tell what has become of
+-- reduced-conflict objects: one that was there before, and wasn't made here, is seen as it was, but
+-- for its body, which is the one before after its noted updates.
+pub record UpdatesTell (setting : Setting) (world : World) : Type 0 where
+  pub begun : setting.first ≤ world.next
+  pub told : (name : ℕ) (old : Contents) → before_changes name setting ≡ Some old
+      → is_shared old.body ≡ true → is_made name setting world ≡ false
+      → option_map (λ body. with_body body old)
+      (updated_by_all (updates_on name world.updates) old.body)
+      ≡ shown name setting world
 
 -- The objects that are seen are sound: each of them fits and has a name of an object, the kernel and
 -- the user are there, and the names that are still to be drawn are names of objects, and free.

@@ -18,7 +18,7 @@ ghost use Rattle.object_programs.specs.Methods.{methods_fit};
 ghost use Rattle.object_programs.specs.Guard.{may_make};
 ghost use Rattle.object_programs.specs.Atom.{Make, says, done, refused, objects_cost, with_new};
 ghost use Rattle.object_programs.specs.Steps.{Step, after_steps};
-ghost use Rattle.object_programs.specs.Laws.{rebased, Stays, AgreeOnTouched, Falls, KeepsParts, AreFree, IsInReach, AreSound, HasSpelling, AreStored, Shows};
+ghost use Rattle.object_programs.specs.Laws.{rebased, Stays, AgreeOnTouched, Falls, KeepsParts, AreFree, IsInReach, UpdatesTell, AreSound, HasSpelling, AreStored, Shows};
 
 use crate::fault::Fault;
 use crate::limits::COUNTER_LIMIT;
@@ -70,6 +70,16 @@ pub fn soundness_stays()
     ensures { (steps : List Step) (setting : Setting) (world : World) (budget : Budget)
         → AreSound setting world
         → AreSound setting (after_steps steps setting world budget).state.world }
+{}
+
+/// Whatever commands are performed, a reduced-conflict object that was there before, and wasn't made
+/// in the transaction, is changed by its noted updates alone: class and segment stay, and its body
+/// is the one before after these updates in their order. So it is before anything is done.
+pub fn updates_tell_shared()
+    ensures stays { (steps : List Step) (setting : Setting) (world : World) (budget : Budget)
+        → UpdatesTell setting world
+        → UpdatesTell setting (after_steps steps setting world budget).state.world }
+    ensures begins { (setting : Setting) → UpdatesTell setting (untouched setting.first) }
 {}
 
 /// A make asks for the size first (E17), then for names (E16), then for space (E15), and a refusal
