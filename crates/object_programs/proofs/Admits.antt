@@ -1,17 +1,17 @@
 -- Sound objects that can be stored pass the tests of the guard.
-use Rattle.std.proofs.Common.{◌≡◌, ◌∙◌, refl, sym, ap, subst, ℕ, zero, suc, ◌^◌, ◌<◌, ◌≤◌, Bool, true, false, ◌&&◌, ◌||◌, not, nat_eq, nat_lt, nat_le, length, Option, Some, None, List, [], ◌∷◌, ◌++◌, option_map, is_some, inl, inr, arith}
+use Rattle.std.proofs.Common.{◌≡◌, ◌∙◌, refl, sym, ap, subst, ℕ, zero, suc, ◌^◌, ◌<◌, ◌≤◌, Bool, true, false, ◌&&◌, ◌||◌, nat_eq, length, Option, Some, None, List, [], ◌∷◌, ◌++◌, option_map, is_some, inl, inr, arith}
 use Rattle.std.specs.Bool.{IsTrue}
 use Rattle.std.specs.List.{All, AllByRecursion, list_all, list_any, IsDistinct}
 use Rattle.std.specs.Option.{IfSome, IsSome, option_and_then, option_or}
 use Rattle.std.specs.Ordering.{nat_cmp}
 use Rattle.std.specs.FinMap.{get, get-empty}
-use Rattle.std.proofs.lemmas.Bool.{false≢true, and_parts, and_from, or_left, or_right, or_cases, cond_both, eqb-true, eq-eqb, lt-ltb, le-leb, cases_lt}
+use Rattle.std.proofs.lemmas.Bool.{false≢true, and_from, or_left, or_right, or_cases, cond_both, eqb-true, eq-eqb, lt-ltb, le-leb, cases_lt}
 use Rattle.std.proofs.lemmas.List.Elements.{All-head, All-tail}
 use Rattle.std.proofs.lemmas.Map.Steps.{length-le_from_distinct_below}
 use Rattle.texts.specs.Bytes.{Bytes as Text}
 use Rattle.gem_object.specs.Kinds as kinds
 use Rattle.gem_object.specs.Kinds.{is_shared, kind_number}
-use Rattle.gem_object.specs.Spelling.{IsOid, IsSpelledBody}
+use Rattle.gem_object.specs.Spelling.{IsSpelledBody}
 use Rattle.gem_object.specs.Edits.{plain_slots}
 use Rattle.gem_object.specs.declared.kind.Kind.{Kind}
 use Rattle.gem_object.specs.declared.body.ClassBody.{ClassBody}
@@ -24,9 +24,9 @@ use Rattle.gem_world.specs.World.{Setting, World, untouched, as_of, before_chang
 use Rattle.gem_sound.specs.Parts.{class_of, user_of, dictionary_of, class_at}
 use Rattle.gem_sound.specs.Kernel.{object_class, class_class, transcript_class, KernelClass, kernel_class, KernelBody, kernel_body}
 use Rattle.gem_sound.specs.Inherited.{HasNames, at_the_end, under}
-use Rattle.gem_sound.specs.Sound.{names_in, has_named_slots, IsKernelClass, HasPlace, HasPlaceByRow, HasInheritedKind, FitsClass, by_kind, class_object, transcript, NamesFit, HasKernelBody, ImageRule, KeepsRule, i1, i2, i3, i4, i5, KeepsRuleAt, IsSound, IsSoundFor}
+use Rattle.gem_sound.specs.Sound.{names_in, has_named_slots, HasPlace, HasPlaceByRow, HasInheritedKind, FitsClass, by_kind, class_object, transcript, NamesFit, HasKernelBody, ImageRule, KeepsRule, i1, i2, i3, i4, i5, KeepsRuleAt, IsSoundFor}
 use Rattle.object_programs.specs.Fixed.{body_kind, ClassPart, class_part, Fixed, fixed_of, fixed_by, same_kind, same_number}
-use Rattle.object_programs.specs.Guard.{Parts, holds_of, is_there, is_segment, is_user, is_dictionary, is_known, is_segment_at, names_above, names_of_class, names_of_part, names_within, chain_limit, names_at, has_slots, is_class_object, is_transcript, accepts_by, accepts, named_fit, kernel_fits_by, kernel_fits, kind_is_inherited, has_none, row_fits, are_few, place_fits, fits}
+use Rattle.object_programs.specs.Guard.{Parts, holds_of, is_there, is_segment, is_user, is_dictionary, is_known, is_segment_at, names_above, names_of_class, names_of_part, names_within, chain_limit, names_at, has_slots, is_class_object, is_transcript, accepts_by, accepts, named_fit, kernel_fits_by, kind_is_inherited, has_none, row_fits, are_few, place_fits, fits}
 use Rattle.object_programs.specs.Laws.{AreSound, AreStored, Shows}
 use Rattle.object_programs.proofs.Guards.{found_more}
 use Rattle.object_programs.proofs.Rules.{part_of}
@@ -85,8 +85,11 @@ module _ (objects : Objects) where
   apart name other names others has also below = by (nat_eq name other) refl
     where
       by : (same : Bool) → nat_eq name other ≡ same → nat_eq name other ≡ false
-      by true same = absurd (omega (arith, below,
-          same_depth name other names others has also (eqb-true name other same)))
+      by true same = absurd (omega (
+        arith,
+        below,
+        same_depth name other names others has also (eqb-true name other same),
+      ))
       by false same = same
 
   all_apart : (name other : ℕ) (names others : List Text) (has : HasNames objects name names)

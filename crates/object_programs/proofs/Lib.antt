@@ -12,3 +12,4 @@ pub mod Spells
 pub mod MethodRules
 pub mod Admits
 pub mod Told
+pub mod Exact

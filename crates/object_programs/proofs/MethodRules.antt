@@ -1,5 +1,5 @@
 -- The test of methods tells the rule of sound images on methods.
-use Rattle.std.proofs.Common.{◌≡◌, refl, sym, ap, subst, ℕ, ◌^◌, ◌<◌, Bool, true, false, ◌&&◌, nat_lt, bytes_eq, Option, Some, None, Result, Ok, Err, List, length}
+use Rattle.std.proofs.Common.{◌≡◌, refl, sym, ap, subst, ℕ, ◌^◌, Bool, true, false, nat_lt, Option, Some, None, Result, Ok, Err, List, length}
 use Rattle.std.specs.List.{All, list_all}
 use Rattle.std.specs.Option.{IfSome}
 use Rattle.std.proofs.lemmas.Bool.{false≢true, and_parts, and_from, ltb-true, lt-ltb}

@@ -30,7 +30,7 @@ use Rattle.gem_object.specs.declared.body.ClassBody.{ClassBody}
 use Rattle.gem_object.specs.declared.body.UserBody.{UserBody}
 use Rattle.gem_object.specs.declared.body.Body.{Body}
 use Rattle.gem_object.specs.declared.body.Body.TheVariants.{Plain, Bytes, Dict, Class, Segment, User, Counter, Bag, RcDict, Queue}
-use Rattle.object_programs.specs.Spelled.{is_plain_byte, is_oid, is_text, ascends_after, ascends, texts_ascend, is_storable, are_storable, is_storable_pair, keys_differ, is_nil, is_dictionary_body, is_code, is_method, are_methods, is_superclass, is_class_body, is_given, is_segment_body, is_user_body, occurs, are_items, is_key_dictionary, is_spelled}
+use Rattle.object_programs.specs.Spelled.{is_plain_byte, is_text, ascends_after, ascends, texts_ascend, is_storable, are_storable, is_storable_pair, keys_differ, is_nil, is_dictionary_body, is_code, is_method, are_methods, is_superclass, is_class_body, is_given, is_segment_body, is_user_body, occurs, are_items, is_key_dictionary, is_spelled}
 
 -- a test tells a fact
 pub record Tells (test : Bool) (P : Type 0) : Type 0 where

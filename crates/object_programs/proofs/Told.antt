@@ -1,9 +1,9 @@
 -- What has become of a reduced-conflict object that was there before is told by its updates.
-use Rattle.std.proofs.Common.{◌≡◌, ◌≢◌, ◌∙◌, refl, sym, ap, ap₂, subst, ℕ, ◌+◌, ◌≤◌, ◌<◌, Bool, true, false, ◌&&◌, ◌||◌, not, nat_eq, nat_le, nat_lt, cond, if◌then◌else◌, Option, Some, None, List, [], ◌∷◌, ◌++◌, length, append-nil, option_map, is_some, inl, inr, arith}
+use Rattle.std.proofs.Common.{◌≡◌, ◌≢◌, ◌∙◌, refl, sym, ap, subst, ℕ, ◌+◌, ◌≤◌, Bool, true, false, ◌&&◌, ◌||◌, not, nat_eq, nat_le, nat_lt, cond, Option, Some, None, List, [], ◌∷◌, ◌++◌, append-nil, option_map, is_some, inl, inr, arith}
 use Rattle.std.specs.FinMap.{get, insert, get-empty}
 use Rattle.std.specs.Ordering.{nat_cmp}
 use Rattle.std.specs.Option.{option_or, option_and_then}
-use Rattle.std.proofs.lemmas.Bool.{false≢true, true≢false, and_from, cases_eq, eq-eqb, le-leb, lt-ltb, ltb-true, or_cases, ne_eqb}
+use Rattle.std.proofs.lemmas.Bool.{false≢true, true≢false, and_from, cases_eq, eq-eqb, le-leb, lt-ltb, ltb-true, ne_eqb}
 use Rattle.std.proofs.lemmas.List.Elements.{filter_map-append}
 use Rattle.radix_pages.proofs.Tables.{get-insert_same, get-insert_other}
 use Rattle.gem_object.specs.Kinds.{is_shared}
@@ -13,9 +13,9 @@ use Rattle.gem_update.specs.Update.{updated}
 use Rattle.gem_update.specs.declared.update.Update.{Update}
 use Rattle.gem_update.specs.declared.update.Update.TheVariants as change
 use Rattle.gem_image.specs.Image.{Contents}
-use Rattle.gem_world.specs.World.{Setting, World, untouched, name_of, next_name, before_changes, shown, is_drawn, is_made, touch}
+use Rattle.gem_world.specs.World.{Setting, World, untouched, name_of, before_changes, shown, is_drawn, is_made, touch}
 use Rattle.gem_world.specs.Changes.{with_body, put, make, note, update_on, updates_on}
-use Rattle.object_programs.specs.Guard.{Parts, may_change, may_replace}
+use Rattle.object_programs.specs.Guard.{Parts, may_change}
 use Rattle.object_programs.specs.Atom.{touch_missing}
 use Rattle.object_programs.specs.Laws.{updated_by_all, UpdatesTell}
 use Rattle.object_programs.proofs.Kept.{Kept, of_worlds, each_new}
@@ -31,13 +31,13 @@ one_more : (updates : List Update) (update : Update) (of : Body)
     → updated_by_all (updates ++ update ∷ []) of ≡ option_and_then (updated update) (updated_by_all updates of)
 one_more [] update of = and_then_some (updated update of)
 one_more (first ∷ rest) update of = by (updated first of) (one_more rest update)
-    where
-      by : (found : Option Body) → ((next : Body) → updated_by_all (rest ++ update ∷ []) next
-          ≡ option_and_then (updated update) (updated_by_all rest next))
-          → option_and_then (updated_by_all (rest ++ update ∷ [])) found
-          ≡ option_and_then (updated update) (option_and_then (updated_by_all rest) found)
-      by None more = refl
-      by (Some next) more = more next
+  where
+    by : (found : Option Body) → ((next : Body) → updated_by_all (rest ++ update ∷ []) next
+        ≡ option_and_then (updated update) (updated_by_all rest next))
+        → option_and_then (updated_by_all (rest ++ update ∷ [])) found
+        ≡ option_and_then (updated update) (option_and_then (updated_by_all rest) found)
+    by None more = refl
+    by (Some next) more = more next
 
 mapped_shared : {X : Type 0} (made : X → Body) → ((x : X) → is_shared (made x) ≡ true) → (found : Option X)
     (after : Body) → option_map made found ≡ Some after → is_shared after ≡ true
@@ -61,12 +61,12 @@ all_shared [] of after shared is =
     let same : of ≡ after = cc in
     subst (λ some. is_shared some ≡ true) same shared
 all_shared (first ∷ rest) of after shared is = by (updated first of) refl is (λ next. all_shared rest next after)
-    where
-      by : (found : Option Body) → updated first of ≡ found → option_and_then (updated_by_all rest) found ≡ Some after
-          → ((next : Body) → is_shared next ≡ true → updated_by_all rest next ≡ Some after → is_shared after ≡ true)
-          → is_shared after ≡ true
-      by None here given more = absurd (false≢true (ap is_some given))
-      by (Some next) here given more = more next (update_shared first of next here) given
+  where
+    by : (found : Option Body) → updated first of ≡ found → option_and_then (updated_by_all rest) found ≡ Some after
+        → ((next : Body) → is_shared next ≡ true → updated_by_all rest next ≡ Some after → is_shared after ≡ true)
+        → is_shared after ≡ true
+    by None here given more = absurd (false≢true (ap is_some given))
+    by (Some next) here given more = more next (update_shared first of next here) given
 
 -- ---- updates of one name
 
@@ -91,13 +91,13 @@ module _ (setting : Setting) where
       → updates_on asked (note name update setting world).updates ≡ updates_on asked world.updates
   unfolding note
   noted_elsewhere asked name update world apart = by (is_made name setting world)
-      where
-        by : (made : Bool) → updates_on asked (cond made world.updates (world.updates ++ (name, update) ∷ []))
-            ≡ updates_on asked world.updates
-        by true = refl
-        by false = filter_map-append (update_on asked) world.updates ((name, update) ∷ [])
-            ∙ (ap (λ (more : List Update). updates_on asked world.updates ++ more)
-            (update_elsewhere asked name update apart) ∙ append-nil (updates_on asked world.updates))
+    where
+      by : (made : Bool) → updates_on asked (cond made world.updates (world.updates ++ (name, update) ∷ []))
+          ≡ updates_on asked world.updates
+      by true = refl
+      by false = filter_map-append (update_on asked) world.updates ((name, update) ∷ [])
+          ∙ (ap (λ (more : List Update). updates_on asked world.updates ++ more)
+          (update_elsewhere asked name update apart) ∙ append-nil (updates_on asked world.updates))
 
   -- ---- worlds
 
@@ -119,10 +119,10 @@ module _ (setting : Setting) where
   undrawn name new world unmade =
       by (is_drawn name setting world) (is_some (get (insert world.changes name new) name))
       (ap is_some (get-insert_same world.changes name new name refl)) unmade
-      where
-        by : (drawn some : Bool) → some ≡ true → (drawn && some) ≡ false → drawn ≡ false
-        by true some is none = absurd (false≢true (sym none ∙ is))
-        by false some is none = refl
+    where
+      by : (drawn some : Bool) → some ≡ true → (drawn && some) ≡ false → drawn ≡ false
+      by true some is none = absurd (false≢true (sym none ∙ is))
+      by false some is none = refl
 
   unmade_before : (name : ℕ) (world : World) → is_drawn name setting world ≡ false
       → is_made name setting world ≡ false
@@ -162,14 +162,14 @@ module _ (setting : Setting) where
   seen_shared name old object world tells before shared unmade there =
       by (updated_by_all (updates_on name world.updates) old.body) refl
       (tells.told name old before shared unmade ∙ there)
-      where
-        by : (found : Option Body) → updated_by_all (updates_on name world.updates) old.body ≡ found
-            → option_map (λ some. with_body some old) found ≡ Some object → is_shared object.body ≡ true
-        by None is given = absurd (false≢true (ap is_some given))
-        by (Some after) is given =
-            let same : with_body after old ≡ object = cc in
-            subst (λ (some : Contents). is_shared some.body ≡ true) same
-            (all_shared (updates_on name world.updates) old.body after shared is)
+    where
+      by : (found : Option Body) → updated_by_all (updates_on name world.updates) old.body ≡ found
+          → option_map (λ some. with_body some old) found ≡ Some object → is_shared object.body ≡ true
+      by None is given = absurd (false≢true (ap is_some given))
+      by (Some after) is given =
+          let same : with_body after old ≡ object = cc in
+          subst (λ (some : Contents). is_shared some.body ≡ true) same
+          (all_shared (updates_on name world.updates) old.body after shared is)
 
   -- An object is put at a name where no reduced-conflict object stands that was there before.
   put_told : (name : ℕ) (new : Contents) (world : World)
@@ -204,11 +204,11 @@ module _ (setting : Setting) where
       → is_made name setting world ≡ false → is_shared old.body ≡ true → ⊥
   unfolding may_change
   may_not name old world may unmade shared = by (is_made name setting world) (is_shared old.body) may unmade shared
-      where
-        by : (made alike : Bool) → (made || not alike) ≡ true → made ≡ false → alike ≡ true → ⊥
-        by true alike given is also = true≢false is
-        by false true given is also = false≢true given
-        by false false given is also = false≢true also
+    where
+      by : (made alike : Bool) → (made || not alike) ≡ true → made ≡ false → alike ≡ true → ⊥
+      by true alike given is also = true≢false is
+      by false true given is also = false≢true given
+      by false false given is also = false≢true also
 
   edit_told : (name : ℕ) (old new : Contents) (world : World) → get world.changes name ≡ Some old
       → may_change name old setting world ≡ true → StaysTold world (put name new world)
@@ -244,17 +244,17 @@ module _ (setting : Setting) where
   told_here updates update first old after so_far is =
       ap (option_map (λ some. with_body some first)) (one_more updates update first.body)
       ∙ by (updated_by_all updates first.body) so_far
-      where
-        by : (found : Option Body) → option_map (λ some. with_body some first) found ≡ Some old
-            → option_map (λ some. with_body some first) (option_and_then (updated update) found)
-            ≡ Some (with_body after old)
-        by None given = absurd (false≢true (ap is_some given))
-        by (Some now) given =
-            let same : with_body now first ≡ old = cc in
-            let next : updated update now ≡ Some after = subst (λ (some : Contents). updated update some.body ≡ Some after)
-            (sym same) is in
-            ap (option_map (λ some. with_body some first)) next
-            ∙ ap (λ (some : Contents). Some (with_body after some)) same
+    where
+      by : (found : Option Body) → option_map (λ some. with_body some first) found ≡ Some old
+          → option_map (λ some. with_body some first) (option_and_then (updated update) found)
+          ≡ Some (with_body after old)
+      by None given = absurd (false≢true (ap is_some given))
+      by (Some now) given =
+          let same : with_body now first ≡ old = cc in
+          let next : updated update now ≡ Some after = subst (λ (some : Contents). updated update some.body ≡ Some after)
+          (sym same) is in
+          ap (option_map (λ some. with_body some first)) next
+          ∙ ap (λ (some : Contents). Some (with_body after some)) same
 
   update_told : (name : ℕ) (update : Update) (old : Contents) (after : Body) (world : World)
       → shown name setting world ≡ Some old → updated update old.body ≡ Some after
@@ -331,12 +331,12 @@ module _ (setting : Setting) where
       (omega (arith, ltb-true asked (name_of setting world.next) below)))
       (ap (λ found. nat_le (name_of setting setting.first) asked && nat_lt asked (name_of setting (world.next + 1))
       && is_some found) (sym (get-insert_other world.changes (name_of setting world.next) object asked apart)) ∙ unmade)
-      where
-        by : (from below more some : Bool) → (below ≡ true → more ≡ true) → (from && more && some) ≡ false
-            → (from && below && some) ≡ false
-        by false below more some wider given = refl
-        by true false more some wider given = refl
-        by true true more some wider given = subst (λ b. (b && some) ≡ false) (wider refl) given
+    where
+      by : (from below more some : Bool) → (below ≡ true → more ≡ true) → (from && more && some) ≡ false
+          → (from && below && some) ≡ false
+      by false below more some wider given = refl
+      by true false more some wider given = refl
+      by true true more some wider given = subst (λ b. (b && some) ≡ false) (wider refl) given
 
   make_told : (object : Contents) (world : World) → StaysTold world (make object setting world)
   make_told object world tells = record {

@@ -13,7 +13,8 @@ use Rattle.gem_world.specs.Access.{IsTouched}
 use Rattle.gem_sound.specs.Kernel.{kernel_body}
 use Rattle.object_programs.specs.Budget.{Budget}
 use Rattle.object_programs.specs.Fixed.{Fixed, fixed_of, fixed_by}
-use Rattle.object_programs.specs.Guard.{Parts, is_user_at, fits}
+use Rattle.object_programs.specs.Guard.{Parts, is_user_at, asked_names, fits, parts_with}
+use Rattle.object_programs.specs.Atom.{says, Done, touch_missing}
 use Rattle.object_programs.specs.declared.limits.TheConstants.{COUNTER_LIMIT}
 
 -- the setting with another image at its place
@@ -85,6 +86,17 @@ pub record AreSound (setting : Setting) (world : World) : Type 0 where
   pub kernel : (name : ℕ) → is_some (kernel_body name) ≡ true
       → is_some (fixed_by setting world name) ≡ true
   pub user : is_user_at (fixed_by setting world) setting.user ≡ true
+
+-- an atom that says this, and leaves this world and this budget
+abbrev pub answered : {A : Type 0} → A → World → Budget → Done A
+answered answer world budget =
+    record { answer = says answer; world = world; budget = budget }
+
+-- nothing changes but that the names are touched which this object lacks at its name
+abbrev pub lacking : ℕ → Contents → Setting → World → World
+lacking name new setting world =
+    let parts = parts_with name new setting world in
+    touch_missing parts (asked_names parts new) world
 
 -- an object's class and segment are names of objects, and its body has a spelling
 pub record HasSpelling (object : Contents) : Type 0 where
