@@ -1,3 +1,16 @@
 mod Lengths
 mod Fields
 mod Apart
+mod Takes
+mod Tagged
+mod Values
+mod Combined
+mod Lists
+mod Loop
+mod InOrder
+mod Equal
+mod Parts
+mod ListReaders
+mod Readers
+mod Given
+mod Answered
