@@ -1,0 +1,5 @@
+pub mod Sources
+pub mod Codes
+pub mod Spelled
+pub mod Entries
+pub mod Named
