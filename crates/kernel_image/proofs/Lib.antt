@@ -3,3 +3,4 @@ pub mod Codes
 pub mod Spelled
 pub mod Entries
 pub mod Named
+pub mod KernelSound

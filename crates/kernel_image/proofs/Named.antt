@@ -100,5 +100,5 @@ image_made (Err error) first entries first_is entries_are is = is
 
 pub objects_made : {E : Type 0} (made : Result Image E) → IfOk made (λ image. image ≡ kernel_image)
     → IfOk made (λ image. (number : ℕ) → get image number ≡ kernel_objects number)
-objects_made (Ok image) is number = ap (λ i. get i number) is ∙ kernel_has number
+objects_made (Ok image) is = λ number. ap (λ i. get i number) is ∙ kernel_has number
 objects_made (Err error) is = is
