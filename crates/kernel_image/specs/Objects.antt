@@ -8,6 +8,7 @@ use Rattle.seg_rights.specs.declared.right.Right.TheVariants.{Read, Write}
 use Rattle.gem_object.specs.declared.value.Value.{Value}
 use Rattle.gem_object.specs.declared.value.Value.TheVariants.{Sym, Ref}
 use Rattle.gem_object.specs.declared.body.Method.{Method}
+use Rattle.gem_object.specs.declared.body.ClassBody.{ClassBody}
 use Rattle.gem_object.specs.declared.body.Body.{Body}
 use Rattle.gem_object.specs.declared.body.Body.TheVariants.{Plain, Dict, Class, Segment, User}
 use Rattle.gem_object.specs.declared.object.Object.{Object}
@@ -61,15 +62,19 @@ protocols =
     ∷ []
 
 -- a class: its name, its row and its methods
-abbrev pub class_object : Text → KernelClass → Protocol → Object
-class_object name row protocol = kernel_object class_class SYSTEM_SEGMENT (Class (record {
+abbrev pub class_in : Text → KernelClass → Protocol → ClassBody
+class_in name row protocol = record {
   name = name;
   superclass = row.superclass;
   kind = row.kind;
   names = [];
   methods = protocol.methods;
   class_methods = protocol.class_methods;
-}))
+}
+
+abbrev pub class_object : Text → KernelClass → Protocol → Object
+class_object name row protocol =
+    kernel_object class_class SYSTEM_SEGMENT (Class (class_in name row protocol))
 
 -- classes, one for each name, row and protocol
 abbrev pub class_objects : List Text → List KernelClass → List Protocol → List Object
@@ -159,9 +164,13 @@ last_objects =
     ∷ kernel_object transcript_class SYSTEM_SEGMENT (Plain [])  -- 35 Transcript
     ∷ []
 
+-- what follows the classes
+abbrev pub other_objects : List Object
+other_objects = shared_objects ++ profiles ++ last_objects
+
 -- all objects, in the order of their numbers from 1 on
 unfoldable pub kernel_list : List Object
-kernel_list = class_list ++ shared_objects ++ profiles ++ last_objects
+kernel_list = class_list ++ other_objects
 
 -- the object of the kernel with this number; None where there is no such object
 abbrev pub kernel_objects : ℕ → Option Object
