@@ -1,0 +1,8 @@
+pub mod Performed
+pub mod Pairs
+pub mod Printed
+pub mod Ascending
+pub mod Sizes
+pub mod Division
+pub mod Bits
+pub mod Shifts

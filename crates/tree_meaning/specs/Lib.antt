@@ -1,0 +1,11 @@
+pub mod Place
+pub mod Names
+pub mod Forms
+pub mod Operands
+pub mod Scopes
+pub mod Loops
+pub mod Meaning
+pub mod Bodies
+pub mod Calls
+pub mod Replies
+pub mod Reading
