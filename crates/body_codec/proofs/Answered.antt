@@ -55,7 +55,7 @@ module _ {X : Type 0} (P : X → Type 0) (spelled : X → List ℕ) (read : Read
         size_is = size;
       }
 
-  read_of : (x : X) (size : ℕ) → IsRead P spelled bytes x size → read bytes ≡ Ok (x, drop size bytes)
+  pub read_of : (x : X) (size : ℕ) → IsRead P spelled bytes x size → read bytes ≡ Ok (x, drop size bytes)
   read_of x size is =
       let whole : bytes ≡ spelled x ++ drop size bytes =
       sym (take-append-drop size bytes) ∙ ap (λ l. l ++ drop size bytes) is.front in

@@ -1,7 +1,7 @@
-mod Lengths
+pub mod Lengths
 mod Fields
 mod Apart
-mod Takes
+pub mod Takes
 mod Tagged
 mod Values
 mod Combined
@@ -11,6 +11,6 @@ mod InOrder
 mod Equal
 mod Parts
 mod ListReaders
-mod Readers
-mod Given
-mod Answered
+pub mod Readers
+pub mod Given
+pub mod Answered

@@ -21,6 +21,13 @@ use Rattle.body_codec.proofs.Fields.{IsBelow, IsSmall, small_fits, two_back, fou
 abbrev pub IsBytes : List ℕ → Type 0
 IsBytes bytes = (i : ℕ) → get_or bytes i 0 < 256
 
+-- bytes of which each that is there is below 256
+pub all_bytes : (bytes : List ℕ) → All (λ byte. byte < 256) bytes → IsBytes bytes
+all_bytes bytes all i = elim (cases_lt i (length bytes)) [
+  | inl below ↦ all i 0 below
+  | inr past ↦ rw (get_or_past bytes i 0 past) (omega arith)
+]
+
 bytes_drop : (n : ℕ) (bytes : List ℕ) → IsBytes bytes → IsBytes (drop n bytes)
 bytes_drop n bytes h i = rw get_or-drop (h (n + i))
 
