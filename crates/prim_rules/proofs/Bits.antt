@@ -1,5 +1,5 @@
 -- The bits of results in two's complement.
-use Rattle.std.specs.Prelude.{◌≡◌, ℕ, zero, suc, ◌+◌, ◌-◌, ◌*◌, ◌%◌, ◌<◌, min, max, ℤ, pos, negsuc, bit_and, bit_or, bit_xor}
+use Rattle.std.specs.Prelude.{◌≡◌, ℕ, zero, suc, ◌+◌, ◌-◌, ◌%◌, ◌<◌, min, max, ℤ, pos, negsuc, bit_and, bit_xor}
 use Rattle.std.specs.Int.{bit_at}
 use Rattle.std.specs.Int.Bits.{xor_add_and, and_comm}
 use Rattle.std.proofs.Common.{refl, sym, ap, ◌∙◌, arith}

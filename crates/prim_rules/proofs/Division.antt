@@ -1,9 +1,9 @@
 -- Quotients that are rounded down, and their remainders.
-use Rattle.std.specs.Prelude.{◌≡◌, ℕ, zero, suc, ◌+◌, ◌*◌, ◌/◌, ◌%◌, ◌<◌, ℤ, pos, negsuc, neg_ℤ, ◌+ℤ◌, ◌-ℤ◌, ◌*ℤ◌, ◌≤ℤ◌, ◌<ℤ◌}
+use Rattle.std.specs.Prelude.{◌≡◌, ℕ, suc, ◌+◌, ◌*◌, ◌/◌, ◌%◌, ◌<◌, ℤ, pos, negsuc, neg_ℤ, ◌+ℤ◌, ◌-ℤ◌, ◌≤ℤ◌, ◌<ℤ◌}
 use Rattle.std.proofs.Common.{sym, subst, arith}
 use Rattle.std.proofs.Math.Nat.{div-add-mod', mod-lt, zero-lt-suc}
 use Rattle.std.proofs.lemmas.Int.{ints}
-use Rattle.prim_rules.specs.Numbers.{floor_quotient, floor_remainder}
+use Rattle.prim_rules.specs.Numbers.{floor_remainder}
 
 pub makes_whole : (part number : ℤ) → part +ℤ (number -ℤ part) ≡ number
 makes_whole part number = omega (arith, ints)

@@ -6,3 +6,4 @@ pub mod Sizes
 pub mod Division
 pub mod Bits
 pub mod Shifts
+pub mod Moves

@@ -11,7 +11,7 @@ use Rattle.gem_object.specs.declared.body.Body.TheVariants.{Plain}
 use Rattle.gem_image.specs.Image.{Contents}
 use Rattle.gem_world.specs.World.{Setting, World, before_changes, shown, touch}
 use Rattle.gem_world.specs.Changes.{with_body, put}
-use Rattle.gem_world.specs.Access.{Access, a_read, a_write, is_allowed, touches_of, with_touches, after_allowed, accessed}
+use Rattle.gem_world.specs.Access.{a_read, a_write, is_allowed, touches_of, with_touches, after_allowed, accessed}
 use Rattle.object_programs.specs.Fixed.{ClassPart, fixed_of, fixed_by}
 use Rattle.object_programs.specs.Budget.{is_within_limits}
 use Rattle.object_programs.specs.Atom.{Kind, edited}
@@ -19,7 +19,7 @@ use Rattle.object_programs.specs.Run.{Run, give, atom, and_then, gives, State, p
 use Rattle.object_programs.specs.Programs.{read, write, replace_body, part_of, line_of, classes_within, classes_above}
 use Rattle.prim_rules.specs.Parts.{named_slots}
 use Rattle.prim_rules.specs.Sequences.{Sequence, sequence_in, read_sequence, written_sequence, put_elements}
-use Rattle.prim_rules.specs.Worked.{NoBlocks, named_class, pair_in, HasPair}
+use Rattle.prim_rules.specs.Worked.{NoBlocks, after, named_class, pair_in, HasPair}
 use Rattle.prim_rules.proofs.Performed.{goes_on, access_gives, kind_given, body_put}
 
 -- the class has one name
@@ -57,20 +57,22 @@ pair_parts segment class setting state known = goes_on (named_slots class)
       elements = drop named (Nil ∷ True ∷ False ∷ []);
     })) setting state state 1 (one_named class setting state known)
 
--- the state after an access
-abbrev pub after : Access → ℕ → Setting → State NoBlocks → State NoBlocks
-after access name setting state =
-    record state { world = accessed access name setting state.world }
+-- a read changes no object, so a class is known after it
+pub shown_after_read : (name other : ℕ) (object : Contents) (setting : Setting) (world : World)
+    → is_allowed a_read name setting world ≡ true → shown name setting world ≡ Some object
+    → shown other setting (accessed a_read name setting world) ≡ shown other setting world
+unfolding accessed with_touches touch
+shown_after_read name other object setting world allowed there =
+    ap₂ (λ (may : Bool) (found : Option Contents). shown other setting
+    (cond may (after_allowed a_read name found (touches_of name found setting world))
+    (touches_of name found setting world))) allowed there
 
--- the class is known after a read and after a write of the object
 still_after_read : (name class : ℕ) (object : Contents) (setting : Setting) (world : World)
     → is_allowed a_read name setting world ≡ true → shown name setting world ≡ Some object
     → fixed_by setting (accessed a_read name setting world) class ≡ fixed_by setting world class
-unfolding accessed with_touches touch
 still_after_read name class object setting world allowed there =
-    ap₂ (λ (may : Bool) (found : Option Contents). fixed_by setting
-    (cond may (after_allowed a_read name found (touches_of name found setting world))
-    (touches_of name found setting world)) class) allowed there
+    ap (λ (found : Option Contents). option_map fixed_of found)
+    (shown_after_read name class object setting world allowed there)
 
 pub known_after_read : (name segment class : ℕ) (setting : Setting) (state : State NoBlocks)
     → HasPair a_read name segment class setting state.world

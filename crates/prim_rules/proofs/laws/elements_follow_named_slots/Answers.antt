@@ -1,14 +1,14 @@
 use Rattle.std.specs.Prelude.{pos, length, [], ◌∷◌}
 use Rattle.std.proofs.Common.{refl, ap, ◌∙◌}
-use Rattle.gem_object.specs.declared.value.Value.TheVariants.{Nil, True, False, Int, Char}
+use Rattle.gem_object.specs.declared.value.Value.TheVariants.{Nil, True, False, Int, Char, Block}
 use Rattle.gem_world.specs.Access.{a_read, a_write}
 use Rattle.object_programs.specs.Run.{give, Outcome}
 use Rattle.object_programs.specs.declared.fault.Fault.TheVariants as fault
 use Rattle.prim_rules.specs.declared.answer.PrimitiveAnswer.{PrimitiveAnswer}
 use Rattle.prim_rules.specs.Sequences.{read_sequence, without_first, without_last, size_rule, element_rule, at_rule, put_rule, at_put_rule, without_rule, remove_rule}
-use Rattle.prim_rules.specs.Worked.{NoBlocks, int}
+use Rattle.prim_rules.specs.Worked.{NoBlocks, int, after}
 use Rattle.prim_rules.proofs.Performed.{goes_on, answers_give, answers_fail}
-use Rattle.prim_rules.proofs.Pairs.{the_pair, after, with_slots, pair_read, pair_written, pair_put}
+use Rattle.prim_rules.proofs.Pairs.{the_pair, with_slots, pair_read, pair_written, pair_put}
 use Rattle.prim_rules.proofs.laws.elements_follow_named_slots.Goals as goal
 
 pub returns-clause-size : goal.returns-clause-size
@@ -60,3 +60,19 @@ returns-clause-put c = λ name segment class setting state has.
     (with_slots name (Nil ∷ Char 97 ∷ False ∷ []) setting state) (Char 97)
     (pair_written (put_rule name (int 1) (Char 97)) name segment class setting state has
     ∙ pair_put name segment class (Char 97 ∷ False ∷ []) (Char 97) setting state refl)
+
+pub returns-clause-put_block : goal.returns-clause-put_block
+returns-clause-put_block c = λ name segment class setting state has.
+    ap (λ (out : Outcome NoBlocks PrimitiveAnswer). out.end)
+    (answers_fail (at_put_rule name (int 3) (Block (record { number = 0; params = 0 }))) setting state
+    (after a_write name setting state) fault.BlockStored
+    (pair_written (put_rule name (int 3) (Block (record { number = 0; params = 0 }))) name segment
+    class setting state has))
+
+pub returns-clause-put_nowhere : goal.returns-clause-put_nowhere
+returns-clause-put_nowhere c = λ name segment class setting state has.
+    ap (λ (out : Outcome NoBlocks PrimitiveAnswer). out.end)
+    (answers_fail (at_put_rule name Nil (Block (record { number = 0; params = 0 }))) setting state
+    (after a_write name setting state) fault.ArgumentKind
+    (pair_written (put_rule name Nil (Block (record { number = 0; params = 0 }))) name segment
+    class setting state has))

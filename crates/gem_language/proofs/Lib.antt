@@ -1,0 +1,7 @@
+pub mod Lists
+pub mod Ends
+mod LookUps
+mod OneFound
+mod Readings
+mod NameReadings
+mod LiteralReadings

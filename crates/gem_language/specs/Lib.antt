@@ -1,0 +1,13 @@
+pub mod KernelNames
+pub mod LookUp
+pub mod OutOfScope
+pub mod Literals
+pub mod Sends
+pub mod Install
+pub mod Commands
+pub mod Transaction
+pub mod Comes
+pub mod Finds
+pub mod Reading
+pub mod ReadingNames
+pub mod ReadingLiterals
