@@ -5,3 +5,5 @@ mod OneFound
 mod Readings
 mod NameReadings
 mod LiteralReadings
+mod CommandReadings
+mod MethodLists

@@ -17,8 +17,8 @@ use Rattle.object_programs.specs.Budget.{is_within_limits}
 use Rattle.object_programs.specs.Atom.{Kind, edited}
 use Rattle.object_programs.specs.Run.{Run, give, atom, and_then, gives, State, perform}
 use Rattle.object_programs.specs.Programs.{read, write, replace_body, part_of, line_of, classes_within, classes_above}
-use Rattle.prim_rules.specs.Parts.{named_slots}
-use Rattle.prim_rules.specs.Sequences.{Sequence, sequence_in, read_sequence, written_sequence, put_elements}
+use Rattle.prim_rules.specs.Parts.{named_slots, new_object}
+use Rattle.prim_rules.specs.Sequences.{Sequence, sequence_in, read_sequence, written_sequence, put_elements, new_slots, new_sequence}
 use Rattle.prim_rules.specs.Worked.{NoBlocks, after, named_class, pair_in, HasPair}
 use Rattle.prim_rules.proofs.Performed.{goes_on, access_gives, kind_given, body_put}
 
@@ -151,3 +151,31 @@ pair_put name segment class elements answer setting state small =
     (with_slots name (Nil ∷ elements) setting state) tt
     (body_put name (pair_in segment class) (Plain (Nil ∷ elements)) setting
     (after a_write name setting state) small)
+
+-- a rule for a sequence that is read goes on with what it holds
+pub pair_copied : (rule : (class : ℕ) → Sequence → Run NoBlocks Value)
+    → (name segment class : ℕ) (setting : Setting) (state : State NoBlocks)
+    → HasPair a_read name segment class setting state.world
+    → perform (and_then (read name) (λ object. and_then (sequence_in object) (rule object.class)))
+    setting state ≡ perform (rule class the_pair) setting (after a_read name setting state)
+pair_copied rule name segment class setting state has =
+    goes_on (read name) (λ object. and_then (sequence_in object) (rule object.class)) setting state
+    (after a_read name setting state) (pair_in segment class)
+    (access_gives a_read name (pair_in segment class) setting state has.may.allowed
+    has.may.there)
+    ∙ goes_on (sequence_in (pair_in segment class)) (rule class) setting
+    (after a_read name setting state) (after a_read name setting state) the_pair
+    (pair_parts segment class setting (after a_read name setting state)
+    (known_after_read name segment class setting state has))
+
+-- a new object of the class has a slot more, which is nil
+pub pair_made : (name segment class : ℕ) (elements : List Value) (setting : Setting)
+    (state : State NoBlocks) → HasPair a_read name segment class setting state.world
+    → perform (new_sequence class elements) setting (after a_read name setting state)
+    ≡ perform (new_object class (Plain (Nil ∷ elements))) setting
+    (after a_read name setting state)
+pair_made name segment class elements setting state has =
+    goes_on (named_slots class) (λ named. new_object class (Plain (new_slots named elements)))
+    setting (after a_read name setting state) (after a_read name setting state) 1
+    (one_named class setting (after a_read name setting state)
+    (known_after_read name segment class setting state has))

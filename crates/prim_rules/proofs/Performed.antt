@@ -1,5 +1,5 @@
--- What a program does whose first step is known: an access that is allowed or refused, and the fixed
--- part of an object that is there.
+-- What a program does whose first step is known: an access that is allowed or refused, and the
+-- fixed part of an object that is there.
 use Rattle.std.specs.Prelude.{◌≡◌, ℕ, Bool, true, false, cond, is_some, Option, Some}
 use Rattle.std.proofs.Common.{ap, ap₂, ◌∙◌}
 use Rattle.std.proofs.Math.Nat.{sub-zero}
@@ -136,3 +136,11 @@ module _ {B : Type 0} where
       → perform (answers rule) setting state ≡ record { end = fails fault; state = after }
   answers_fail rule setting state after fault done =
       ends_there rule (λ found. give (Gives found)) setting state after fault done
+
+  -- two rules that do the same answer the same
+  pub answers_same : (rule other : Run B Value) (setting : Setting) (state after : State B)
+      → perform rule setting state ≡ perform other setting after
+      → perform (answers rule) setting state ≡ perform (answers other) setting after
+  answers_same rule other setting state after same =
+      ap (λ (out : Outcome B Value). onward out.end out.state
+      (λ found next. perform (give (Gives found)) setting next)) same

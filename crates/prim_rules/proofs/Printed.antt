@@ -12,11 +12,12 @@ use Rattle.object_programs.specs.Run.{Run, and_then, give, gives, fails, State, 
 use Rattle.object_programs.specs.Programs.{need, check, read}
 use Rattle.object_programs.specs.declared.fault.Fault.TheVariants as fault
 use Rattle.prim_rules.specs.Parts.{class_in, default_segment, new_object_in}
-use Rattle.prim_rules.specs.Texts.{string_class, with_article}
-use Rattle.prim_rules.specs.Printing.{array_class, is_short, named_text, body_text, element_text, with_elements, elements_text, array_text, slots_text, whole_text, print_text}
+use Rattle.prim_rules.specs.Texts.{with_article}
+use Rattle.prim_rules.specs.Printing.{is_short, named_text, body_text, element_text, with_elements, elements_text, array_text, slots_text, whole_text, print_text}
 use Rattle.prim_rules.specs.Any.{print_string_rule}
 use Rattle.prim_rules.specs.Worked.{NoBlocks, after, MayAccess, array_in, class_called}
 use Rattle.prim_rules.proofs.Performed.{goes_on, ends_there, access_gives, access_fails, no_segment}
+use Rattle.gem_sound.specs.declared.names.TheConstants.{ARRAY_CLASS, STRING_CLASS}
 
 abbrev object_text : Contents → Run NoBlocks Text
 object_text object = body_text slots_text object.class object.body
@@ -77,21 +78,21 @@ class_named class segment name setting state may =
 -- an Array with an Array in it, whose class is read
 pub array_in_array : (inner segment : ℕ) (setting : Setting) (state : State NoBlocks)
     → MayAccess a_read inner (array_in segment []) setting state.world
-    → MayAccess a_read array_class (class_called segment (codes "Array")) setting
+    → MayAccess a_read ARRAY_CLASS (class_called segment (codes "Array")) setting
     (after a_read inner setting state).world
     → perform (array_text (Ref inner ∷ [])) setting state ≡ record {
       end = gives (codes "#(an Array)");
-      state = after a_read array_class setting (after a_read inner setting state);
+      state = after a_read ARRAY_CLASS setting (after a_read inner setting state);
     }
 array_in_array inner segment setting state may known =
-    let last = after a_read array_class setting (after a_read inner setting state) in
+    let last = after a_read ARRAY_CLASS setting (after a_read inner setting state) in
     let element : perform (element_text (Ref inner)) setting state
     ≡ record { end = gives (codes "an Array"); state = last } =
     goes_on (read inner) (λ object.
     body_text (λ class slots. named_text class) object.class object.body) setting state
     (after a_read inner setting state) (array_in segment [])
     (access_gives a_read inner (array_in segment []) setting state may.allowed may.there)
-    ∙ class_named array_class segment (codes "Array") setting
+    ∙ class_named ARRAY_CLASS segment (codes "Array") setting
     (after a_read inner setting state) known in
     goes_on (elements_text (Ref inner ∷ [])) (λ text. give (codes "#(" ++ (text ++ codes ")")))
     setting state last (codes "an Array")
@@ -111,9 +112,9 @@ profile_first value text setting state last printed refused =
     goes_on (whole_text value) (λ some.
     and_then default_segment (λ segment.
     and_then (check fault.ObjectTooLarge (is_short some)) (λ short.
-    new_object_in segment string_class (Bytes some)))) setting state last text printed
+    new_object_in segment STRING_CLASS (Bytes some)))) setting state last text printed
     ∙ ends_there default_segment (λ segment.
     and_then (check fault.ObjectTooLarge (is_short text)) (λ short.
-    new_object_in segment string_class (Bytes text))) setting last
+    new_object_in segment STRING_CLASS (Bytes text))) setting last
     (after a_read setting.user setting last) (fault.NoReadRight setting.user)
     (no_segment setting last refused)

@@ -21,8 +21,8 @@ floor_quotient number (negsuc before) = int_div_euclid (neg_ℤ number) (pos (su
 abbrev pub floor_remainder : (number divisor : ℤ) → ℤ
 floor_remainder number divisor = number -ℤ floor_quotient number divisor *ℤ divisor
 
--- The bit of a number at a place, in two's complement: a negative number, -(n + 1), has the bits of n,
--- each turned round.
+-- The bit of a number at a place, in two's complement: a negative number, -(n + 1), has the bits of
+-- n, each turned round.
 abbrev pub bit_of : (number : ℤ) (place : ℕ) → ℕ
 bit_of (pos number) place = bit_at number place
 bit_of (negsuc number) place = 1 - bit_at number place

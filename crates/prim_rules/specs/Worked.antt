@@ -1,4 +1,4 @@
--- How worked rows are said: what a rule comes to that asks no object.
+-- How worked rows are said: what a rule comes to, and the objects in worked rows.
 use Rattle.std.specs.Prelude.{◌≡◌, ℕ, pos, neg_ℤ, true, false, nat_eq, List, [], ◌∷◌, Option, Some, None, codes}
 use Rattle.texts.specs.Bytes.{Bytes as Text}
 use Rattle.seg_rights.specs.declared.rights.Rights.{Rights}
@@ -53,13 +53,13 @@ abbrev pub ends : Rule NoBlocks → Value → List Value → Setting → State N
 ends rule receiver arguments setting state =
     (perform (rule receiver arguments) setting state).end
 
+abbrev pub prints : Value → Setting → State NoBlocks → Ending Text
+prints value setting state = (perform (print_text value) setting state).end
+
 -- the state after an access
 abbrev pub after : Access → ℕ → Setting → State NoBlocks → State NoBlocks
 after access name setting state =
     record state { world = accessed access name setting state.world }
-
-abbrev pub prints : Value → Setting → State NoBlocks → Ending Text
-prints value setting state = (perform (print_text value) setting state).end
 
 -- the user may read or write the object of this name, and this is the object
 pub record MayAccess (access : Access) (name : ℕ) (object : Contents) (setting : Setting)
@@ -134,6 +134,7 @@ pair_in segment class = record {
   body = Plain (Nil ∷ True ∷ False ∷ []);
 }
 
+-- the user may read or write that object, and its class is another object
 pub record HasPair (access : Access) (name segment class : ℕ) (setting : Setting) (world : World)
     : Type 0 where
   pub may : MayAccess access name (pair_in segment class) setting world

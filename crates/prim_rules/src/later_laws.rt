@@ -34,14 +34,13 @@ ghost use Rattle.object_programs.specs.declared.limits.TheConstants.{COUNTER_LIM
 ghost use Rattle.object_programs.specs.declared.fault.Fault.TheVariants as fault;
 ghost use Rattle.prim_rules.specs.Parts.{is_block};
 ghost use Rattle.prim_rules.specs.Admitted.{Admits, an_object, first_name, kernel_parts, fit_beside_kernel};
-ghost use Rattle.prim_rules.specs.Any.{segment_class};
 ghost use Rattle.prim_rules.specs.Receivers.{Receiver};
 ghost use Rattle.prim_rules.specs.Making.{Entered, sized_objects, sized_dictionary, make_and_enter};
 ghost use Rattle.prim_rules.specs.Classes.{class_name_in, may_add_names, new_class, class_object, row_54};
 ghost use Rattle.prim_rules.specs.Dictionaries.{pair_growth, row_61, row_62};
 ghost use Rattle.prim_rules.specs.Groups.{are_few_groups, with_group, without_group, with_right};
 ghost use Rattle.prim_rules.specs.Segments.{right_in, right_symbol, with_group_right, row_71};
-ghost use Rattle.prim_rules.specs.Users.{all_users, data_curator_segment, symbol_dictionary_class, user_class, user_name_in, user_objects, row_76, row_79};
+ghost use Rattle.prim_rules.specs.Users.{user_name_in, user_objects, row_76, row_79};
 ghost use Rattle.prim_rules.specs.Transcript.{row_82};
 ghost use Rattle.prim_rules.specs.Counters.{row_83, row_84};
 ghost use Rattle.prim_rules.specs.Bags.{items_of, row_86};
@@ -49,6 +48,7 @@ ghost use Rattle.prim_rules.specs.RcDicts.{row_89, row_91};
 ghost use Rattle.prim_rules.specs.Queues.{row_95};
 ghost use Rattle.prim_rules.specs.LaterRules.{later_rule};
 ghost use Rattle.prim_rules.specs.declared.answer.PrimitiveAnswer.TheVariants.{Gives};
+ghost use Rattle.gem_sound.specs.declared.names.TheConstants.{ALL_USERS, DATA_CURATOR_SEGMENT, SEGMENT_CLASS, SYMBOL_DICTIONARY_CLASS, USER_PROFILE_CLASS};
 
 /// Which names a class may have, and which names of instance variables it may add.
 pub fn names_of_new_classes()
@@ -180,11 +180,11 @@ pub fn refused_users()
     ensures taken { (class own segment : ℕ) (name : Text) (user : Value)
         (pairs : List (Value × Value)) (setting : Setting) (state : State (Unit {0}))
         → is_user_name name ≡ true
-        → Admits a_write all_users (an_object own segment (body.Dict pairs)) setting state
+        → Admits a_write ALL_USERS (an_object own segment (body.Dict pairs)) setting state
         → value_at (Sym name) (body.Dict pairs) ≡ Some user
         → perform (row_79 (Ref class) (Sym name ∷ [])) setting state ≡ record {
           end = fails fault.ArgumentKind;
-          state = record state { world = accessed a_write all_users setting state.world };
+          state = record state { world = accessed a_write ALL_USERS setting state.world };
         } }
 {}
 
@@ -387,23 +387,23 @@ pub fn new_objects_fit()
 /// user, a segment with a right for a group, and a user in a group.
 pub fn changed_objects_fit()
     ensures users { fits
-        (with_parts first_name (user_objects (codes "ada") first_name) kernel_parts) all_users
-        (an_object symbol_dictionary_class data_curator_segment
+        (with_parts first_name (user_objects (codes "ada") first_name) kernel_parts) ALL_USERS
+        (an_object SYMBOL_DICTIONARY_CLASS DATA_CURATOR_SEGMENT
         (with_value_at (Sym (codes "ada")) (Ref (first_name + 2))
         (body.Dict ((Sym (codes "DataCurator"), Ref 32) ∷ [])))) ≡ true }
-    ensures segment { fits kernel_parts data_curator_segment
-        (an_object segment_class data_curator_segment
+    ensures segment { fits kernel_parts DATA_CURATOR_SEGMENT
+        (an_object SEGMENT_CLASS DATA_CURATOR_SEGMENT
         (body.Segment (with_group_right (codes "staff") Read (record {
           owner = 32;
           owner_right = Write;
           groups = (codes "guests", Write) ∷ [];
           world_right = Read;
         })))) ≡ true }
-    ensures user { fits kernel_parts 32 (an_object user_class data_curator_segment
+    ensures user { fits kernel_parts 32 (an_object USER_PROFILE_CLASS DATA_CURATOR_SEGMENT
         (body.User (record {
           name = codes "DataCurator";
           groups = with_group (codes "staff") (codes "guests" ∷ []);
-          default_segment = data_curator_segment;
+          default_segment = DATA_CURATOR_SEGMENT;
           globals = 34;
         }))) ≡ true }
 {}

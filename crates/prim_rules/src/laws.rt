@@ -18,18 +18,19 @@ ghost use Rattle.object_programs.specs.Run.{State, give, and_then, gives, fails,
 ghost use Rattle.object_programs.specs.Programs.{make_object};
 ghost use Rattle.object_programs.specs.declared.fault.Fault.TheVariants.{Index, ArgumentKind, IntegerRange, ZeroDivisor, BlockArgumentCount, BlockStored, ObjectTooLarge, NoReadRight, NoWriteRight};
 ghost use Rattle.prim_rules.specs.declared.answer.PrimitiveAnswer.TheVariants.{Gives, Evaluates};
-ghost use Rattle.prim_rules.specs.Parts.{new_object};
+ghost use Rattle.prim_rules.specs.Parts.{new_object, answers};
 ghost use Rattle.prim_rules.specs.Texts.{quoted, symbol_text, with_article, radix_text, integer_in};
-ghost use Rattle.prim_rules.specs.Printing.{array_class, is_short, whole_text, print_text};
+ghost use Rattle.prim_rules.specs.Printing.{is_short, whole_text, print_text};
 ghost use Rattle.prim_rules.specs.Indexes.{place_in, part_of};
 ghost use Rattle.prim_rules.specs.Any.{print_string_rule, is_moved, gives_write, reads_up, check_segment, row_1, row_7, row_8};
 ghost use Rattle.prim_rules.specs.Numbers.{floor_quotient, floor_remainder, bit_of, bits_and, bits_or, bits_xor, shifted, row_10, row_11, row_12, row_13, row_14, row_15, row_16, row_17, row_20, row_21, row_22, row_23, row_24, row_25, row_26, row_27};
 ghost use Rattle.prim_rules.specs.Blocks.{row_28, row_29, row_30, row_32};
-ghost use Rattle.prim_rules.specs.Sequences.{row_33, row_34, row_35, row_38, row_39};
+ghost use Rattle.prim_rules.specs.Sequences.{row_33, row_34, row_35, row_38, row_39, row_40};
 ghost use Rattle.prim_rules.specs.Strings.{row_42, row_43, row_49, row_50, row_51};
 ghost use Rattle.prim_rules.specs.New.{new_body, sized_body, own_rights, new_segment, row_52, row_53};
 ghost use Rattle.prim_rules.specs.FirstRules.{first_rules};
 ghost use Rattle.prim_rules.specs.Worked.{int, minus, NoBlocks, AlwaysEnds, Answers, Refuses, Prints, MayAccess, HasPair, string_in, array_in, class_in, class_called, class_under, segment_of, profile_in, after, ends, prints};
+ghost use Rattle.gem_sound.specs.declared.names.TheConstants.{ARRAY_CLASS};
 
 use gem_object::Kind;
 
@@ -44,8 +45,8 @@ pub fn sums_in_range()
     ensures kind { Refuses row_10 (int 1) (Nil ∷ []) ArgumentKind }
 {}
 
-/// `//` and `\\` round down, `quo:` and `rem:` toward 0; a division by 0 is E7, and the one quotient
-/// that is no integer of the language is E6.
+/// `//` and `\\` round down, `quo:` and `rem:` toward 0; a division by 0 is E7, and the one
+/// quotient that is no integer of the language is E6.
 pub fn divisions_round()
     ensures quotient { Answers row_13 (minus 7) (int 2 ∷ []) (minus 4) }
     ensures remainder { Answers row_14 (minus 7) (int 2 ∷ []) (int 1) }
@@ -151,6 +152,7 @@ pub fn values_are_printed()
     ensures paren { Prints (Sym (codes "(")) (codes "#'('") }
     ensures digit { Prints (Sym (codes "1a")) (codes "#'1a'") }
     ensures quote { Prints (Sym (codes "it's")) (codes "#'it''s'") }
+    ensures quoted_name { Prints (Sym (codes "'abc'")) (codes "#'abc'") }
 {}
 
 /// Print texts of Strings and of instances.
@@ -186,7 +188,8 @@ pub fn symbols_are_texts()
     ensures prefix { Answers row_50 (Sym (codes "ab")) (Sym (codes "a") ∷ []) False }
 {}
 
-/// An Array or an OrderedCollection whose class names one slot: its elements stand behind that slot.
+/// An Array or an OrderedCollection whose class names one slot: its elements stand behind that
+/// slot.
 pub fn elements_follow_named_slots()
     ensures size { (name segment class : ℕ) (setting : Setting) (state : State NoBlocks)
         → HasPair a_read name segment class setting state.world
@@ -197,6 +200,14 @@ pub fn elements_follow_named_slots()
     ensures past { (name segment class : ℕ) (setting : Setting) (state : State NoBlocks)
         → HasPair a_read name segment class setting state.world
         → ends row_34 (Ref name) (int 3 ∷ []) setting state ≡ fails Index }
+    ensures copied { (name segment class : ℕ) (setting : Setting) (state : State NoBlocks)
+        → HasPair a_read name segment class setting state.world
+        → perform (row_40 (Ref name) (int 2 ∷ int 2 ∷ [])) setting state
+        ≡ perform (answers (new_object class (Plain (Nil ∷ False ∷ [])))) setting
+        (after a_read name setting state) }
+    ensures copied_past { (name segment class : ℕ) (setting : Setting) (state : State NoBlocks)
+        → HasPair a_read name segment class setting state.world
+        → ends row_40 (Ref name) (int 2 ∷ int 3 ∷ []) setting state ≡ fails Index }
     ensures put_past { (name segment class : ℕ) (setting : Setting) (state : State NoBlocks)
         → HasPair a_write name segment class setting state.world
         → perform (row_35 (Ref name) (int 3 ∷ Nil ∷ [])) setting state
@@ -268,11 +279,11 @@ pub fn objects_are_read()
         → MayAccess a_read name (array_in segment (Ref inner ∷ [])) setting state.world
         → MayAccess a_read inner (array_in segment []) setting
         (after a_read name setting state).world
-        → MayAccess a_read array_class (class_called segment (codes "Array")) setting
+        → MayAccess a_read ARRAY_CLASS (class_called segment (codes "Array")) setting
         (after a_read inner setting (after a_read name setting state)).world
         → perform (print_text (Ref name)) setting state ≡ record {
           end = gives (codes "#(an Array)");
-          state = after a_read array_class setting
+          state = after a_read ARRAY_CLASS setting
               (after a_read inner setting (after a_read name setting state));
         } }
     ensures empty { (name segment : ℕ) (setting : Setting) (state : State NoBlocks)

@@ -6,10 +6,10 @@ use Rattle.gem_object.specs.declared.value.Value.TheVariants.{Nil, Char, Sym, Re
 use Rattle.gem_world.specs.Access.{a_read}
 use Rattle.object_programs.specs.Run.{Outcome}
 use Rattle.prim_rules.specs.Texts.{is_symbol_token}
-use Rattle.prim_rules.specs.Printing.{array_class}
 use Rattle.prim_rules.specs.Worked.{NoBlocks, after, minus, string_in, array_in}
 use Rattle.prim_rules.proofs.Printed.{object_printed, not_printed, array_in_array}
 use Rattle.prim_rules.proofs.laws.objects_are_read.Goals as goal
+use Rattle.gem_sound.specs.declared.names.TheConstants.{ARRAY_CLASS}
 
 pub returns-clause-text : goal.returns-clause-text
 returns-clause-text c = λ name segment setting state may.
@@ -40,6 +40,6 @@ returns-clause-unreadable c = λ name setting state refused.
 pub returns-clause-nested : goal.returns-clause-nested
 returns-clause-nested c = λ name inner segment setting state may known class.
     object_printed name (array_in segment (Ref inner ∷ [])) (codes "#(an Array)") setting state
-    (after a_read array_class setting
+    (after a_read ARRAY_CLASS setting
     (after a_read inner setting (after a_read name setting state))) may
     (array_in_array inner segment setting (after a_read name setting state) known class)
