@@ -33,3 +33,11 @@ Agree (over first) (over second) = first ≡ second
 Agree (over first) stuck = ⊥
 Agree stuck (over second) = ⊥
 Agree stuck stuck = ⊤
+
+-- However many instructions are allowed, the code ends as the program ends, or they run out.
+abbrev pub EveryRun : Outside → Setting → (table : List Piece) → (code : List Instruction)
+    → (Frame → ValueRun) → Type 0
+EveryRun outside setting table code program = (allowed : List ℕ) (frame : Frame)
+    (state : State MadeBlock)
+    → Agree (execute outside setting table code allowed 0 [] frame state)
+    (over (perform (program frame) setting state))

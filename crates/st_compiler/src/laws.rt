@@ -7,12 +7,12 @@ ghost use Rattle.gem_world.specs.World.{Setting};
 ghost use Rattle.object_programs.specs.Run.{State};
 ghost use Rattle.op_table.specs.Ops.{row_for};
 ghost use Rattle.tree_meaning.specs.Place.{Frame, MadeBlock};
-ghost use Rattle.tree_meaning.specs.Bodies.{method_body, chunk_body};
+ghost use Rattle.tree_meaning.specs.Bodies.{method_body, chunk_body, block_body};
 ghost use Rattle.st_compiler.specs.Instruction.{Instruction, op_of, operands_of};
 ghost use Rattle.st_compiler.specs.Code.{Piece};
 ghost use Rattle.st_compiler.specs.TreeCode.{method_code, chunk_code};
 ghost use Rattle.st_compiler.specs.Machine.{execute};
-ghost use Rattle.st_compiler.specs.Runs.{Runs, IsBlockCode, Agree};
+ghost use Rattle.st_compiler.specs.Runs.{Runs, IsBlockCode, Agree, EveryRun};
 ghost use Rattle.gem_language.specs.Sends.{outside};
 
 /// An instruction has as many operands as its op code's row says.
@@ -49,4 +49,21 @@ pub fn one_answer()
         → Agree
         (execute (outside depth) setting table code first place stack frame state)
         (execute (outside depth) setting table code second place stack frame state) }
+{}
+
+/// So whoever carries out code, with whatever number of instructions, comes to what the tree means
+/// or to the end of what was allowed; no instruction ever lacks what it wants.
+pub fn every_run_means_tree()
+    ensures method { (depth : ℕ) (setting : Setting) (tree : Program)
+        → EveryRun (outside depth) setting (method_code tree 0).pieces (method_code tree 0).code
+        (method_body (outside depth) tree) }
+    ensures chunk { (depth : ℕ) (setting : Setting) (tree : Program)
+        → EveryRun (outside depth) setting (chunk_code tree 0).pieces (chunk_code tree 0).code
+        (chunk_body (outside depth) tree) }
+    ensures blocks { (depth : ℕ) (setting : Setting) (tree : Program)
+        → All (λ piece. EveryRun (outside depth) setting (method_code tree 0).pieces piece.code
+        (block_body (outside depth) piece.tree piece.place)) (method_code tree 0).pieces }
+    ensures chunk_blocks { (depth : ℕ) (setting : Setting) (tree : Program)
+        → All (λ piece. EveryRun (outside depth) setting (chunk_code tree 0).pieces piece.code
+        (block_body (outside depth) piece.tree piece.place)) (chunk_code tree 0).pieces }
 {}

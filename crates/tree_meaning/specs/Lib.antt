@@ -9,3 +9,4 @@ pub mod Bodies
 pub mod Calls
 pub mod Replies
 pub mod Reading
+pub mod Samples
