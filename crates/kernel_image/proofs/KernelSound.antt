@@ -1,5 +1,5 @@
 -- The image of the kernel is sound.
-use Rattle.std.proofs.Common.{◌≡◌, ◌≢◌, ◌<◌, ◌≤◌, ◌+◌, ◌-◌, ℕ, zero, suc, Bool, true, false, ◌&&◌, List, [], ◌∷◌, ◌++◌, map, length, Option, Some, None, IsSome, is_some, All, refl, ap, sym, subst, ◌∙◌, eqb, arith}
+use Rattle.std.proofs.Common.{◌≡◌, ◌≢◌, ◌↔◌, ◌<◌, ◌≤◌, ◌+◌, ◌-◌, ℕ, zero, suc, Bool, true, false, ◌&&◌, List, [], ◌∷◌, ◌++◌, map, length, Option, Some, None, IsSome, is_some, All, refl, ap, sym, subst, ◌∙◌, eqb, arith}
 use Rattle.std.specs.Prelude.{nat_lt, nat_eq, IsTrue}
 use Rattle.std.specs.List.{slice_get, list_all}
 use Rattle.std.specs.Option.{option_map, option_to_list, IfSome}
@@ -438,3 +438,21 @@ pub kernel_is_sound : IsSoundImage kernel_image
 kernel_is_sound =
     subst IsSound (sym (fun_ext (λ number. ap (option_map contents_of) (kernel_has number))))
     (λ number rule. kept_by rule number (kernel_class number) refl)
+
+kernel_number : (number : ℕ) (found : Option Object) → kernel_objects number ≡ found → IsSome found
+    → (0 < number) × (number ≤ 35)
+kernel_number zero found is some = absurd (false≢true (ap is_some is ∙ some))
+kernel_number number None is some = absurd (false≢true some)
+kernel_number (suc at) (Some object) is some =
+    let within = number_within kernel_list (suc at) object is in
+    let count = kernel_length in
+    (omega arith, omega (arith, within, count))
+
+-- the numbers at which objects of the kernel stand
+pub kernel_numbers : (number : ℕ) → IsSome (kernel_objects number) ↔ ((0 < number) × (number ≤ 35))
+kernel_numbers number = (
+  λ some. kernel_number number (kernel_objects number) refl some,
+  λ bounds.
+      let count = kernel_length in
+      ap is_some (item_at kernel_list number bounds.0 (omega (arith, bounds.1, count))).1,
+)
