@@ -128,3 +128,14 @@ module _ (objects : Objects) (class count : ℕ) (at : IsCount objects class cou
   pub counts_more : (entries : List (ℕ × ℕ)) → AreCounts objects entries
       → AreCounts objects (insert_entry nat_cmp entries class count)
   counts_more entries are = record { each = each_more entries are.each }
+
+-- a step more
+pub step_taken : (objects : Objects) (steps after : List Step) (step : Step) (from above turn : ℕ)
+    → after ≡ steps ++ step ∷ [] → length steps ≡ turn → AreSteps objects steps from step.class → IsStep objects step above
+    → (length after ≡ turn + 1) × AreSteps objects after from above
+step_taken objects steps after step from above turn after_is count are is =
+    let more = length-append steps (step ∷ []) in
+    let whole = ap length after_is in
+    (omega (arith, whole, more, count),
+    subst (λ items. AreSteps objects items from above) (sym after_is)
+    (steps_more objects steps step from step.class above are refl is))

@@ -1,5 +1,5 @@
 //! The rules on the kernel's objects, and on what fits an object.
-ghost use Rattle.std.specs.Prelude.{◌≡◌, ◌<◌, ◌^◌, map, min, is_some, IsSome, IfOk, Some, length};
+ghost use Rattle.std.specs.Prelude.{◌≡◌, ◌<◌, ◌^◌, map, is_some, IsSome, IfOk, Some, slice_get};
 ghost use Rattle.std.specs.Bool.{Decides};
 ghost use Rattle.std.specs.Option.{option_map};
 ghost use Rattle.gem_object.specs.Edits.{plain_slots};
@@ -43,11 +43,16 @@ fn bodies() -> &'static [KernelBody]
     &BODIES
 }
 
+fn body_at(bodies: &[KernelBody], place: usize) -> Option<KernelBody>
+    ensures { result ≡ slice_get bodies.now place }
+{
+    bodies.get(place).copied()
+}
+
 fn body_in(bodies: &[KernelBody], number: u64) -> Option<KernelBody>
     ensures { option_map body_of result ≡ numbered (map body_of bodies.now) number }
 {
-    let place = number.checked_sub(1)?;
-    bodies.get(place as usize).copied()
+    body_at(bodies, number.checked_sub(1)? as usize)
 }
 
 /// What body the kernel's object with this number has. None where there is no such object.

@@ -1,5 +1,5 @@
 //! The rules on what an object refers to, on methods, and on the places of classes.
-ghost use Rattle.std.specs.Prelude.{◌≡◌, ◌<◌, cond, is_some, IsSome, IsTrue, All, IfOk, Some, nat_eq, length, map};
+ghost use Rattle.std.specs.Prelude.{◌≡◌, ◌<◌, cond, is_some, IsSome, IsTrue, All, IfOk, Some, nat_eq, length, map, slice_get};
 ghost use Rattle.std.specs.Bool.{Decides};
 ghost use Rattle.std.specs.List.{list_any};
 ghost use Rattle.std.specs.Option.{option_map};
@@ -63,9 +63,12 @@ pub(crate) fn has_references(
     ensures { IfOk result (λ kept.
         Decides kept (HasReferences (objects_in image.now) number (contents_of object.now))) }
 {
+    if number.number() == 0 {
+        return Ok(false);
+    }
     let mut names = Vec::new(alloc);
     object.push_references(&mut names)?;
-    Ok(number.number() > 0 && are_there(image, &names))
+    Ok(are_there(image, &names))
 }
 
 // The counters of the classes in which a primitive for these receivers stands, on this side.
@@ -189,12 +192,17 @@ pub(crate) fn has_methods(
     are_methods(alloc, number, true, class.class_methods.as_slice())
 }
 
+fn row_at(rows: &[ClassRow], place: usize) -> Option<ClassRow>
+    ensures { result ≡ slice_get rows.now place }
+{
+    rows.get(place).copied()
+}
+
 fn row_in(rows: &[ClassRow], number: u64) -> Option<ClassRow>
     ensures { option_map kernel_class_of result
         ≡ numbered (map kernel_class_of rows.now) number }
 {
-    let place = number.checked_sub(1)?;
-    rows.get(place as usize).copied()
+    row_at(rows, number.checked_sub(1)? as usize)
 }
 
 // The row of the kernel's class with this number.
@@ -262,7 +270,11 @@ pub(crate) fn has_place(
     let Some(count) = count_names(alloc, image, counts, number)? else {
         return Ok(false);
     };
-    Ok(count <= NAMES_LIMIT
-        && has_place_by_row(image, number.number(), class)
-        && may_have_names(class))
+    if count > NAMES_LIMIT {
+        return Ok(false);
+    }
+    if !has_place_by_row(image, number.number(), class) {
+        return Ok(false);
+    }
+    Ok(may_have_names(class))
 }

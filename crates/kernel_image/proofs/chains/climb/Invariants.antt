@@ -6,5 +6,5 @@ use Rattle.kernel_image.proofs.chains.climb.Given as goal
 abbrev pub invariant-loop-turn : goal.invariant-loop-turn
 invariant-loop-turn l = record {
   count : length l.steps.items ≡ l._turn;
-  steps : AreSteps (objects_in l.image) l.steps.items l.name l.class;
+  steps : AreSteps (objects_in l.image) l.steps.items l.fn.name l.class;
 }
