@@ -49,10 +49,10 @@ fits_in (suc most) number_of image there apart =
     let some = some_left image (number_of (suc most)) last in
     let less = one_less image (number_of (suc most)) last in
     let rest : most < len (remove image (number_of (suc most))) =
-        fits_in most number_of (remove image (number_of (suc most)))
-        (λ i within. removed_stays image (number_of (suc most)) (number_of i)
-        (apart i (suc most) (omega (arith, within)) (omega arith)) (there i (omega (arith, within))))
-        (λ i j below within. apart i j below (omega (arith, within))) in
+    fits_in most number_of (remove image (number_of (suc most)))
+    (λ i within. removed_stays image (number_of (suc most)) (number_of i)
+    (apart i (suc most) (omega (arith, within)) (omega arith)) (there i (omega (arith, within))))
+    (λ i j below within. apart i j below (omega (arith, within))) in
     omega (arith, some, less, rest)
 
 -- ---- how far a class is from Object
@@ -120,14 +120,14 @@ circle image (step ∷ steps) from to are many names chain =
     let all = step ∷ steps in
     let far = far_of objects from names chain in
     let within : length steps < len image = fits_in (length steps) (λ i. (get_or all i step).class) image
-        (λ i below. object_there (get image (get_or all i step).class)
-        (there_along objects all from to are i step (omega (arith, below))))
-        (λ i j less below same.
-            let one = far_along objects all from to far.0 are far.1 i step (omega (arith, less, below)) in
-            let two = far_along objects all from to far.0 are far.1 j step (omega (arith, below)) in
-            let equal : one.0 ≡ two.0 = one_far objects one.0 two.0 (get_or all j step).class
-                (subst (IsFar objects one.0) same one.2) two.2 in
-            let first : one.0 + i ≡ far.0 = one.1 in
-            let second : two.0 + j ≡ far.0 = two.1 in
-            omega (arith, less, equal, first, second)) in
+    (λ i below. object_there (get image (get_or all i step).class)
+    (there_along objects all from to are i step (omega (arith, below))))
+    (λ i j less below same.
+    let one = far_along objects all from to far.0 are far.1 i step (omega (arith, less, below)) in
+    let two = far_along objects all from to far.0 are far.1 j step (omega (arith, below)) in
+    let equal : one.0 ≡ two.0 = one_far objects one.0 two.0 (get_or all j step).class
+    (subst (IsFar objects one.0) same one.2) two.2 in
+    let first : one.0 + i ≡ far.0 = one.1 in
+    let second : two.0 + j ≡ far.0 = two.1 in
+    omega (arith, less, equal, first, second)) in
     omega (arith, many, within)

@@ -135,7 +135,8 @@ pub step_taken : (objects : Objects) (steps after : List Step) (step : Step) (fr
     → (length after ≡ turn + 1) × AreSteps objects after from above
 step_taken objects steps after step from above turn after_is count are is =
     let more = length-append steps (step ∷ []) in
-    let whole = ap length after_is in
-    (omega (arith, whole, more, count),
-    subst (λ items. AreSteps objects items from above) (sym after_is)
-    (steps_more objects steps step from step.class above are refl is))
+    let whole = ap length after_is in (
+      omega (arith, whole, more, count),
+      subst (λ items. AreSteps objects items from above) (sym after_is)
+          (steps_more objects steps step from step.class above are refl is),
+    )

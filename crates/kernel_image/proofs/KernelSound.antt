@@ -343,14 +343,29 @@ others_keep : AllKeep 27 other_objects
 unfolding kernel_list class_list protocols kernel_classes kernel_bodies shared_objects profiles last_objects globals_entries users_entries other_entries
 others_keep = (
   dictionary_keeps 27 30 _ (omega arith) refl curator_segment refl,
-  (dictionary_keeps 28 30 _ (omega arith) refl curator_segment refl,
-  (segment_keeps 29 31 (omega arith) refl system_segment refl refl,
-  (segment_keeps 30 32 (omega arith) refl curator_segment refl refl,
-  (user_keeps 31 _ 29 33 (omega arith) refl system_segment refl refl,
-  (user_keeps 32 _ 30 34 (omega arith) refl curator_segment refl refl,
-  (dictionary_keeps 33 29 _ (omega arith) refl system_segment refl,
-  (dictionary_keeps 34 30 _ (omega arith) refl curator_segment refl,
-  (transcript_keeps, tt)))))))))
+  (
+    dictionary_keeps 28 30 _ (omega arith) refl curator_segment refl,
+    (
+      segment_keeps 29 31 (omega arith) refl system_segment refl refl,
+      (
+        segment_keeps 30 32 (omega arith) refl curator_segment refl refl,
+        (
+          user_keeps 31 _ 29 33 (omega arith) refl system_segment refl refl,
+          (
+            user_keeps 32 _ 30 34 (omega arith) refl curator_segment refl refl,
+            (
+              dictionary_keeps 33 29 _ (omega arith) refl system_segment refl,
+              (
+                dictionary_keeps 34 30 _ (omega arith) refl curator_segment refl,
+                (transcript_keeps, tt),
+              ),
+            ),
+          ),
+        ),
+      ),
+    ),
+  ),
+)
 
 -- ---- all numbers
 

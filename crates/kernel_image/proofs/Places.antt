@@ -102,11 +102,11 @@ pub fit_special : (objects : Objects) (name : ℕ) (body : Body) → IsSpecial o
     → Decides true (FitsClass objects name body)
 fit_special objects name (Class class) special =
     let here : FitsClass objects class_class (Class class) =
-        class_object class (subst (λ (n : ℕ). IsSome (class_at objects n)) special.0 special.1) in
+    class_object class (subst (λ (n : ℕ). IsSome (class_at objects n)) special.0 special.1) in
     (λ _. subst (λ (n : ℕ). FitsClass objects n (Class class)) (sym special.0) here, λ _. refl)
 fit_special objects name (Plain []) special =
     let here : FitsClass objects transcript_class (Plain []) =
-        transcript (subst (λ (n : ℕ). IsSome (class_at objects n)) special.0 special.1) in
+    transcript (subst (λ (n : ℕ). IsSome (class_at objects n)) special.0 special.1) in
     (λ _. subst (λ (n : ℕ). FitsClass objects n (Plain [])) (sym special.0) here, λ _. refl)
 fit_special objects name (Plain (value ∷ values)) special = absurd special
 fit_special objects name (Bytes bytes) special = absurd special

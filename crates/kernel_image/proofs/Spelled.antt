@@ -161,9 +161,11 @@ ascend_tells : (texts : List Text) → ascend_test texts ≡ true
 unfolding IsStrictlySortedBy
 ascend_tells [] passed = tt
 ascend_tells (text ∷ texts) passed =
-    let parts = both (below_all text texts) (ascend_test texts) passed in
-    (by_recursion (λ later. is_lt (slice_cmp nat_cmp text later)) (λ later. slice_cmp nat_cmp text later ≡ Less)
-    (λ later lt. less_of (slice_cmp nat_cmp text later) lt) texts parts.0, ascend_tells texts parts.1)
+    let parts = both (below_all text texts) (ascend_test texts) passed in (
+      by_recursion (λ later. is_lt (slice_cmp nat_cmp text later)) (λ later. slice_cmp nat_cmp text later ≡ Less)
+          (λ later lt. less_of (slice_cmp nat_cmp text later) lt) texts parts.0,
+      ascend_tells texts parts.1,
+    )
 
 methods_tell : (methods : List Method) → methods_test methods ≡ true → AreMethods methods
 methods_tell methods passed =
@@ -224,9 +226,11 @@ pub distinct_tells : (pairs : List (Value × Value)) → distinct_test pairs ≡
     → AreDistinct same_value pairs
 distinct_tells [] passed = tt
 distinct_tells (pair ∷ pairs) passed =
-    let parts = both (list_all (differs pair.0) pairs) (distinct_test pairs) passed in
-    (by_recursion (differs pair.0) (λ later. same_value pair.0 later.0 ≡ false)
-    (λ later other. false_of (same_value pair.0 later.0) other) pairs parts.0, distinct_tells pairs parts.1)
+    let parts = both (list_all (differs pair.0) pairs) (distinct_test pairs) passed in (
+      by_recursion (differs pair.0) (λ later. same_value pair.0 later.0 ≡ false)
+          (λ later other. false_of (same_value pair.0 later.0) other) pairs parts.0,
+      distinct_tells pairs parts.1,
+    )
 
 pairs_tell : (pairs : List (Value × Value)) → pairs_test pairs ≡ true → IsDictionary pairs
 pairs_tell pairs passed =

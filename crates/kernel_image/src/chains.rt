@@ -74,9 +74,10 @@ fn climb(
         IsClimb (objects_in image.now) name found.0.items found.1)) }
     ensures none { IfOk result (λ climbed. IfNone climbed (IsEndless (objects_in image.now) name)) }
 {
+    let objects = image.count();
     let mut steps = Vec::new(alloc);
     let mut class = name;
-    for _turn in 0..image.count() + 1 {
+    for _turn in 0..objects + 1 {
         match look(image, counts, class) {
             Seen::Known(count) => return Ok(Some((steps, count))),
             Seen::Above(own, superclass) => {

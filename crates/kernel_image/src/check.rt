@@ -97,12 +97,7 @@ fn check_object(
 }
 
 // Goes on where what stands at the kernel's name keeps all rules.
-fn check_name(
-    alloc: Global,
-    image: &Image,
-    counts: &mut Counts,
-    oid: Oid,
-) -> Result<(), SoundFault>
+fn check_name(alloc: Global, image: &Image, counts: &mut Counts, oid: Oid) -> Result<(), SoundFault>
     requires counts { AreCounts (objects_in image.now) counts.old.entries }
     requires below { AreKeptBelow (objects_in image.now) oid }
     ensures next { OnOk result (AreKeptBelow (objects_in image.now) (oid + 1)) }
@@ -140,9 +135,9 @@ fn check_others(alloc: Global, image: &Image, counts: &mut Counts) -> Result<(),
     ensures fault { IfErr result (IsFault (objects_in image.now)) }
 {
     let mut from = u64::from(KERNEL_END);
-    while let Some((oid, object)) = image.next_from(from) {
-        check_object(alloc, image, counts, oid, object)?;
-        from = oid.number() + 1;
+    while let Some(entry) = image.next_from(from) {
+        check_object(alloc, image, counts, entry.0, entry.1)?;
+        from = entry.0.number() + 1;
     }
     Ok(())
 }

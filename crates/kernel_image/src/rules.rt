@@ -12,10 +12,10 @@ ghost use Rattle.kernel_image.specs.Rows.{kernel_class_of};
 
 use crate::chains::{Counts, class_at, count_names};
 use crate::names::{
-    ARRAY_CLASS, BLOCK_CLASS, CHARACTER_CLASS, CLASS_CLASS, IDENTITY_DICTIONARY_CLASS, OBJECT_CLASS,
-    ORDERED_COLLECTION_CLASS, RC_COUNTER_CLASS, RC_IDENTITY_BAG_CLASS,
-    RC_KEY_VALUE_DICTIONARY_CLASS, RC_QUEUE_CLASS, SEGMENT_CLASS, SMALL_INTEGER_CLASS, STRING_CLASS,
-    SYMBOL_CLASS, SYSTEM_CLASS, TRANSCRIPT_STREAM_CLASS, USER_PROFILE_CLASS,
+    ARRAY_CLASS, BLOCK_CLASS, CHARACTER_CLASS, CLASS_CLASS, IDENTITY_DICTIONARY_CLASS,
+    OBJECT_CLASS, ORDERED_COLLECTION_CLASS, RC_COUNTER_CLASS, RC_IDENTITY_BAG_CLASS,
+    RC_KEY_VALUE_DICTIONARY_CLASS, RC_QUEUE_CLASS, SEGMENT_CLASS, SMALL_INTEGER_CLASS,
+    STRING_CLASS, SYMBOL_CLASS, SYSTEM_CLASS, TRANSCRIPT_STREAM_CLASS, USER_PROFILE_CLASS,
 };
 use crate::table::{ClassRow, class_rows};
 use gem_image::Image;
@@ -178,11 +178,7 @@ fn are_methods(
 
 /// Whether the methods of the class are sources of their selectors, and primitives that belong
 /// there.
-pub(crate) fn has_methods(
-    alloc: Global,
-    number: Oid,
-    class: &ClassBody,
-) -> Result<bool, AllocError>
+pub(crate) fn has_methods(alloc: Global, number: Oid, class: &ClassBody) -> Result<bool, AllocError>
     ensures { IfOk result (λ kept. Decides kept (HasMethods number class.now)) }
 {
     let number = number.number();

@@ -10,9 +10,9 @@ loop-step-preserved c =
     let climb = c.loop-step.invariant.climb in
     let step = c.in-Some-pop.step in
     let parts = steps_less objects c.pop.new.self.items step c.args.name climb.top
-        (subst (λ items. AreSteps objects items c.args.name climb.top) c.in-Some-pop.ensures.items climb.steps_are) in
+    (subst (λ items. AreSteps objects items c.args.name climb.top) c.in-Some-pop.ensures.items climb.steps_are) in
     let made = count_below objects step climb.top c.loop-step.count c.saturating_add-count.result parts.1 climb.count_is
-        c.saturating_add-count.ensures in
+    c.saturating_add-count.ensures in
     let named = subst (λ (n : ℕ). IsCount objects n c.saturating_add-count.result) (sym c.number.ensures.number) made in
     record {
       climb = record { top = step.class; steps_are = parts.0; count_is = made };

@@ -1,4 +1,4 @@
-use Rattle.std.proofs.Common.{ℕ, sym, subst, ◌∙◌, arith}
+use Rattle.std.proofs.Common.{◌≡◌, ℕ, sym, subst, arith}
 use Rattle.gem_image.specs.Image.{objects_in}
 use Rattle.kernel_image.specs.Chains.{IsCount}
 use Rattle.kernel_image.proofs.Counts.{kept_count, at_object}
@@ -11,7 +11,7 @@ returns-in-Some c =
 
 pub returns-in-None : goal.returns-in-None
 returns-in-None c =
+    let one : c.args.name ≡ 1 = omega arith in
     at_object (objects_in c.args.image.now) c.args.name c.len-own.result c.in-Some-class_at.class.now
-    (sym c.in-Some-class_at.ensures) c.in-None.is
-    (sym c.number-in-None-class.ensures.number ∙ (c.if-number-from.true ∙ c.from.ensures)) c.len-own.ensures
+    (sym c.in-Some-class_at.ensures) c.in-None.is one c.len-own.ensures
     (omega (arith, c.len-own.type_inv))

@@ -1,4 +1,4 @@
-use Rattle.std.proofs.Common.{ℕ, ◌+◌, sym, subst}
+use Rattle.std.proofs.Common.{ℕ, ◌+◌, sym, subst, arith}
 use Rattle.gem_image.specs.Image.{objects_in}
 use Rattle.kernel_image.specs.Faults.{AreKeptBelow}
 use Rattle.kernel_image.proofs.check.check_kernel.Goals as goal
@@ -14,4 +14,6 @@ loop-counter-preserved c = record {
 }
 
 pub returns-clause-next : goal.returns-clause-next
-returns-clause-next c = let a = c.loop-counter.invariant.below in let b = c.loop-counter-test.false in let d = c.loop-counter.auto in ?
+returns-clause-next c other less any =
+    let ended = c.loop-counter-test.false in
+    c.loop-counter.invariant.below other (omega (arith, less, ended)) any

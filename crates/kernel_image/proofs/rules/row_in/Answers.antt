@@ -4,4 +4,6 @@ use Rattle.kernel_image.proofs.Lists.{mapped_at}
 use Rattle.kernel_image.proofs.rules.row_in.Goals as goal
 
 pub returns : goal.returns
-returns c = let h = c.row_at.ensures in ?
+returns c =
+    mapped_at kernel_class_of c.args.rows.now c.args.number c.in_ok-checked_sub.field-0 c.row_at.result
+    (omega (arith, c.in_ok-checked_sub.ensures.0, c.in_ok-checked_sub.ensures.1)) c.row_at.ensures
