@@ -1,7 +1,7 @@
 -- More superclasses than there are objects go in a circle, so they don't end at Object.
-use Rattle.std.proofs.Common.{◌≡◌, ◌≢◌, ◌<◌, ◌≤◌, ◌+◌, ◌-◌, ℕ, zero, suc, Bool, true, false, cond, List, [], ◌∷◌, length, get_or, Option, Some, None, IsSome, is_some, refl, ap, sym, subst, ◌∙◌, inl, inr, arith}
+use Rattle.std.proofs.Common.{◌≡◌, ◌≢◌, ◌<◌, ◌≤◌, ◌+◌, ◌-◌, ℕ, zero, suc, false, cond, List, [], ◌∷◌, length, get_or, Option, Some, None, IsSome, is_some, refl, ap, sym, subst, ◌∙◌, inl, inr, arith}
 use Rattle.std.specs.Ordering.{nat_cmp, eq_by_cmp}
-use Rattle.std.specs.FinMap.{FinMap, get, len, remove, empty, get-empty, get-remove, len-remove, empty_of_len, gets}
+use Rattle.std.specs.FinMap.{get, len, remove, get-empty, get-remove, len-remove, empty_of_len, gets}
 use Rattle.std.specs.Cmp.{nat_cmp_total}
 use Rattle.std.specs.Option.{option_map, option_and_then}
 use Rattle.std.proofs.lemmas.Bool.{false≢true, cases_eq}
@@ -11,7 +11,6 @@ use Rattle.gem_object.specs.declared.body.ClassBody.{ClassBody}
 use Rattle.gem_object.specs.declared.object.Object.{Object}
 use Rattle.gem_image.specs.Image.{Image, Objects, contents_of, objects_in}
 use Rattle.gem_sound.specs.Parts.{class_at, class_of}
-use Rattle.gem_sound.specs.Kernel.{object_class}
 use Rattle.gem_sound.specs.Inherited.{HasNames, at_the_end, under}
 use Rattle.kernel_image.specs.declared.chains.Step.{Step}
 use Rattle.kernel_image.specs.Chains.{IsStep, AreSteps, IsEndless}

@@ -1,6 +1,5 @@
 -- Steps from class to superclass, and the counts that are kept.
-use Rattle.std.proofs.Common.{◌≡◌, ◌≢◌, ◌<◌, ◌≤◌, ◌+◌, ◌-◌, ◌^◌, ℕ, zero, suc, cond, min, List, [], ◌∷◌, ◌++◌, length, Option, Some, None, refl, ap, sym, subst, ◌∙◌, length-append, arith}
-use Rattle.std.specs.Prelude.{Result, Ok, Err, OnOk, OnErr}
+use Rattle.std.proofs.Common.{◌≡◌, ◌≢◌, ◌<◌, ◌+◌, ◌-◌, ◌^◌, ℕ, cond, min, List, [], ◌∷◌, ◌++◌, length, Option, Some, None, refl, ap, sym, subst, ◌∙◌, length-append, arith}
 use Rattle.std.specs.Ordering.{nat_cmp, is_eq}
 use Rattle.std.specs.declared.cmp.Ordering.{Ordering}
 use Rattle.std.specs.declared.cmp.Ordering.TheVariants.{Less, Equal, Greater}
@@ -13,7 +12,6 @@ use Rattle.texts.specs.Bytes.{Bytes as Text}
 use Rattle.gem_object.specs.declared.body.ClassBody.{ClassBody}
 use Rattle.gem_image.specs.Image.{Objects}
 use Rattle.gem_sound.specs.Parts.{class_at}
-use Rattle.gem_sound.specs.Kernel.{object_class}
 use Rattle.gem_sound.specs.Inherited.{HasNames, at_the_end, under}
 use Rattle.kernel_image.specs.declared.chains.Step.{Step}
 use Rattle.kernel_image.specs.Chains.{IsCount, IsEndless, AreCounts, IsStep, AreSteps}

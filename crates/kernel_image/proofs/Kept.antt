@@ -1,8 +1,7 @@
 -- What is known after an object was checked, and after names at which nothing stands.
-use Rattle.std.proofs.Common.{◌≡◌, ◌≢◌, ◌<◌, ◌≤◌, ◌+◌, ℕ, zero, suc, Bool, true, false, Option, Some, None, refl, ap, sym, subst, ◌∙◌, inl, inr, arith}
+use Rattle.std.proofs.Common.{◌≡◌, ◌<◌, ◌≤◌, ◌+◌, ℕ, zero, suc, true, false, Some, None, refl, ap, sym, subst, inl, inr, arith}
 use Rattle.std.specs.Bool.{Decides}
 use Rattle.std.specs.Option.{option_map, IfSome}
-use Rattle.std.specs.List.{slice_get}
 use Rattle.std.specs.FinMap.{get}
 use Rattle.std.proofs.lemmas.Bool.{false≢true, cases_eq, cases_lt}
 use Rattle.std.proofs.lemmas.Option.{slice_get_past}
@@ -11,7 +10,7 @@ use Rattle.gem_object.specs.declared.object.Object.{Object}
 use Rattle.gem_image.specs.Image.{Image, Contents, Objects, contents_of, objects_in}
 use Rattle.gem_sound.specs.Parts.{class_of}
 use Rattle.gem_sound.specs.Kernel.{KernelBody, kernel_body, kernel_bodies, kernel_classes}
-use Rattle.gem_sound.specs.Sound.{ImageRule, i1, i2, i3, i4, i5, rule_number, HasReferences, HasMethods, HasPlace, HasKernelBody, IsFitting, KeepsRule, KeepsRuleAt, IsSound, IsSoundImage, BreaksFirst}
+use Rattle.gem_sound.specs.Sound.{ImageRule, i1, i2, i3, i4, i5, rule_number, HasReferences, HasMethods, HasPlace, HasKernelBody, IsFitting, KeepsRule, KeepsRuleAt, IsSoundImage, BreaksFirst}
 use Rattle.kernel_image.specs.declared.fault.Rule.{Rule}
 use Rattle.kernel_image.specs.declared.fault.Rule.TheVariants.{I1, I2, I3, I4, I5}
 use Rattle.kernel_image.specs.Faults.{rule_of, IsFirst, IsFirstBroken, IsFirstOfClass, AreKeptBelow}

@@ -1,5 +1,5 @@
 -- Items by number, and tests of all items.
-use Rattle.std.proofs.Common.{◌≡◌, ◌<◌, ◌≤◌, ◌+◌, ℕ, zero, suc, Bool, true, false, List, length, map, take, get_or, Option, All, refl, ap, sym, subst, ◌∙◌, arith}
+use Rattle.std.proofs.Common.{◌≡◌, ◌<◌, ◌≤◌, ◌+◌, ℕ, zero, suc, true, false, List, length, map, take, get_or, Option, All, refl, ap, sym, subst, ◌∙◌, arith}
 use Rattle.std.specs.Bool.{Decides}
 use Rattle.std.specs.List.{slice_get}
 use Rattle.std.specs.Option.{option_map}

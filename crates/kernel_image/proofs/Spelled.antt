@@ -1,6 +1,6 @@
 -- A test of the bodies that the kernel has: those that pass it have a spelling.
-use Rattle.std.proofs.Common.{◌≡◌, ◌≢◌, ◌<◌, ◌≤◌, ◌^◌, ℕ, Bool, true, false, not, ◌&&◌, length, List, [], ◌∷◌, map, Option, Some, None, All, refl, ap, sym, subst, arith}
-use Rattle.std.specs.Prelude.{nat_lt, nat_le, IsTrue}
+use Rattle.std.proofs.Common.{◌≡◌, ◌≢◌, ◌<◌, ◌^◌, ℕ, Bool, true, false, not, ◌&&◌, length, List, [], ◌∷◌, map, Option, Some, None, All, refl, sym, subst, arith}
+use Rattle.std.specs.Prelude.{nat_lt}
 use Rattle.std.specs.List.{list_all, AllByRecursion}
 use Rattle.std.specs.List.Sorted.{IsStrictlySortedBy}
 use Rattle.std.specs.Option.{IfSome}
@@ -8,7 +8,7 @@ use Rattle.std.specs.Ordering.{nat_cmp, is_lt}
 use Rattle.std.specs.declared.cmp.Ordering.{Ordering}
 use Rattle.std.specs.declared.cmp.Ordering.TheVariants.{Less, Equal, Greater}
 use Rattle.std.specs.Cmp.Lexicographic.{slice_cmp}
-use Rattle.std.proofs.lemmas.Bool.{false≢true, ltb-true, leb-true}
+use Rattle.std.proofs.lemmas.Bool.{false≢true, ltb-true}
 use Rattle.std.proofs.lemmas.List.Sums.{AllPass-from_list_all}
 use Rattle.std.proofs.lemmas.List.Elements.{All-nil}
 use Rattle.texts.specs.Bytes.{Bytes as Text}
@@ -16,7 +16,7 @@ use Rattle.insertion_map.specs.Pairs.{AreDistinct}
 use Rattle.seg_rights.specs.declared.right.Right.TheVariants.{None as NoRight}
 use Rattle.seg_rights.specs.declared.rights.Rights.{Rights}
 use Rattle.gem_object.specs.Order.{same_value}
-use Rattle.gem_object.specs.Spelling.{IsPlainByte, IsText, IsStorable, IsStorablePair, AreStorable, IsDictionary, IsSource, IsCode, IsMethod, AreMethods, IsClass, IsSegment, IsUser, IsSpelledBody, IsSpelled}
+use Rattle.gem_object.specs.Spelling.{IsPlainByte, IsText, IsStorable, IsStorablePair, IsDictionary, IsCode, IsMethod, AreMethods, IsClass, IsSegment, IsUser, IsSpelledBody, IsSpelled}
 use Rattle.gem_object.specs.declared.value.Value.{Value}
 use Rattle.gem_object.specs.declared.value.Value.TheVariants.{Nil, False, True, Int, Char, Sym, Ref, Block}
 use Rattle.gem_object.specs.declared.body.MethodCode.{MethodCode}

@@ -1,5 +1,5 @@
 -- What is said of an image that isn't sound.
-use Rattle.std.specs.Prelude.{◌≡◌, ◌<◌, ℕ, Bool, true, List, ◌++◌, codes, Option, None, Some}
+use Rattle.std.specs.Prelude.{◌<◌, ℕ, List, ◌++◌, codes, Option, None, Some}
 use Rattle.std.specs.Fmt.{decimal}
 use Rattle.gem_value.specs.Oid.{oid_text}
 use Rattle.gem_image.specs.Image.{Contents, Objects}

@@ -1,5 +1,4 @@
-use Rattle.std.proofs.Common.{◌<◌, length, arith}
-use Rattle.std.specs.FinMap.{len}
+use Rattle.std.proofs.Common.{arith}
 use Rattle.gem_image.specs.Image.{objects_in}
 use Rattle.kernel_image.proofs.Counts.{endless_below, step_taken}
 use Rattle.kernel_image.proofs.Circles.{circle}
