@@ -13,7 +13,8 @@ use crate::names::{
 };
 use crate::table::{ClassRow, CodeRow, MethodRow, class_rows};
 use gem_object::{
-    Body, ClassBody, Dictionary, Method, MethodCode, Methods, Names, Object, UserBody, Value, Values,
+    Body, ClassBody, Dictionary, Method, MethodCode, Methods, Names, Object, UserBody, Value,
+    Values,
 };
 use gem_value::Oid;
 use profile::{DATA_CURATOR_COUNTER, GLOBALS_COUNTER, KERNEL_SERIAL};
@@ -285,11 +286,7 @@ fn add_own_globals(alloc: Global, objects: &mut Vec<Object>) -> Result<(), Alloc
     ensures { OnOk result (objects.new.items ≡ objects.old.items ++ last_objects) }
 {
     objects.push(own_globals(alloc, SYSTEM_USER_GLOBALS, SYSTEM_SEGMENT)?)?;
-    objects.push(own_globals(
-        alloc,
-        DATA_CURATOR_GLOBALS,
-        DATA_CURATOR_SEGMENT,
-    )?)?;
+    objects.push(own_globals(alloc, DATA_CURATOR_GLOBALS, DATA_CURATOR_SEGMENT)?)?;
     objects.push(transcript(alloc))?;
     Ok(())
 }

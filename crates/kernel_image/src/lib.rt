@@ -3,8 +3,16 @@
 #![tactic(auto)]
 
 mod build;
+mod chains;
+mod check;
+mod fault;
+mod fitting;
 mod image;
+pub mod laws;
 pub mod names;
+mod rules;
 mod table;
 
+pub use check::sound;
+pub use fault::{Rule, SoundFault};
 pub use image::kernel;

@@ -1,6 +1,6 @@
 //! What follows from the definitions alone. Each law is the contract of a function that does
 //! nothing.
-ghost use Rattle.std.specs.Prelude.{◌≡◌, ℕ, List, All};
+ghost use Rattle.std.specs.Prelude.{◌≡◌, ℕ, List, length, All, Some};
 ghost use Rattle.st_tree.specs.Trees.{Program};
 ghost use Rattle.gem_object.specs.declared.value.Value.{Value};
 ghost use Rattle.gem_world.specs.World.{Setting};
@@ -11,13 +11,24 @@ ghost use Rattle.tree_meaning.specs.Bodies.{method_body, chunk_body, block_body}
 ghost use Rattle.st_compiler.specs.Instruction.{Instruction, op_of, operands_of};
 ghost use Rattle.st_compiler.specs.Code.{Piece};
 ghost use Rattle.st_compiler.specs.TreeCode.{method_code, chunk_code};
-ghost use Rattle.st_compiler.specs.Machine.{execute};
-ghost use Rattle.st_compiler.specs.Runs.{Runs, IsBlockCode, Agree, EveryRun};
+ghost use Rattle.st_compiler.specs.Machine.{Next, act, execute};
+ghost use Rattle.st_compiler.specs.Runs.{SameAfter, Runs, IsBlockCode, Agree, EveryRun};
 ghost use Rattle.gem_language.specs.Sends.{outside};
 
 /// An instruction has as many operands as its op code's row says.
 pub fn operands_fit()
     ensures { (one : Instruction) → operands_of one ≡ (row_for (op_of one)).operands }
+{}
+
+/// An instruction takes and puts as many values as its op code's row says, but that the end of a loop
+/// drops both counter and limit: it goes on with stacks of this height alone.
+pub fn rows_are_kept()
+    ensures { (depth : ℕ) (setting : Setting) (table : List Piece) (one : Instruction)
+        (next back other another : Next) (place : ℕ) (stack : List Value) (frame : Frame)
+        (state : State MadeBlock)
+        → SameAfter one (length stack) next other → SameAfter one (length stack) back another
+        → act (outside depth) setting table (Some one) next back place stack frame state
+        ≡ act (outside depth) setting table (Some one) other another place stack frame state }
 {}
 
 /// The code of a method and of a chunk does what its tree means, with however many activations

@@ -4,6 +4,7 @@ pub mod Forms
 pub mod Operands
 pub mod Scopes
 pub mod Loops
+pub mod Parts
 pub mod Meaning
 pub mod Bodies
 pub mod Calls

@@ -93,7 +93,8 @@ looping = a_chunk (a ∷ [])
 -- `1 + 2; + 10`
 abbrev pub cascading : Program
 cascading = a_chunk []
-    (statement false (expression [] (whole 1) (sends (plus (whole 2) ∷ [])) (sends (plus (whole 10) ∷ [])))
+    (statement false (expression [] (whole 1) (sends (plus (whole 2) ∷ []))
+    (sends (plus (whole 10) ∷ [])))
     ∷ [])
 
 -- `| a | a := 7. 1 to: 3 do: [:i | | a | a := 9 + i]. a`: an inner name hides an outer one
@@ -134,6 +135,7 @@ after tree setting = perform
     setting begun
 
 -- `tree` ends so, and leaves so many of 100 units
-pub record ComesTo (tree : Program) (setting : Setting) (end : Ending Value) (units : ℕ) : Type 0 where
+pub record ComesTo (tree : Program) (setting : Setting) (end : Ending Value) (units : ℕ)
+    : Type 0 where
   pub ends : (after tree setting).end ≡ end
   pub leaves : (after tree setting).state.budget.units ≡ units
