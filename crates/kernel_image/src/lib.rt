@@ -9,7 +9,6 @@ mod fault;
 mod fitting;
 mod image;
 pub mod laws;
-pub mod names;
 mod rules;
 mod table;
 

@@ -11,7 +11,7 @@ ghost use Rattle.kernel_image.specs.Chains.{AreCounts};
 ghost use Rattle.kernel_image.specs.Rows.{kernel_class_of};
 
 use crate::chains::{Counts, class_at, count_names};
-use crate::names::{
+use gem_sound::names::{
     ARRAY_CLASS, BLOCK_CLASS, CHARACTER_CLASS, CLASS_CLASS, IDENTITY_DICTIONARY_CLASS,
     OBJECT_CLASS, ORDERED_COLLECTION_CLASS, RC_COUNTER_CLASS, RC_IDENTITY_BAG_CLASS,
     RC_KEY_VALUE_DICTIONARY_CLASS, RC_QUEUE_CLASS, SEGMENT_CLASS, SMALL_INTEGER_CLASS,

@@ -6,7 +6,7 @@ use gem_object::{
     Body, ClassBody, Kind, Method, MethodCode, Methods, Names, Object, UserBody, Values,
 };
 use gem_value::Oid;
-use kernel_image::names::{CLASS_CLASS, SYSTEM_SEGMENT};
+use gem_sound::names::{CLASS_CLASS, SYSTEM_SEGMENT};
 use profile::KERNEL_SERIAL;
 use seg_rights::{Groups, Right, Rights};
 use std::alloc::{AllocError, Global};
