@@ -31,7 +31,7 @@ use Rattle.gem_language.specs.Commands.{Command, run_chunk, install_method, Repl
 use Rattle.gem_language.specs.Transaction.{begin_command}
 use Rattle.gem_language.specs.Comes.{Comes}
 use Rattle.gem_language.specs.ReadingNames.{Reads, Writes, HasGlobal}
-use Rattle.gem_language.specs.ReadingCommands.{stop_of_command, CommandComes, chunk_not_read, method_not_read, chunk_stops, chunk_ran, print_stops, chunk_printed, install_stops, method_installed, MethodSource, with_source, InstallComes, unknown_class, no_reference, not_a_class, not_readable, not_writable, long_selector, puts}
+use Rattle.gem_language.specs.ReadingCommands.{stop_of_command, CommandComes, chunk_not_read, method_not_read, chunk_stops, chunk_ran, print_stops, chunk_printed, install_stops, method_installed, MethodSource, with_source, InstallComes, not_looked_up, unknown_class, no_reference, not_a_class, not_readable, not_writable, long_selector, puts}
 use Rattle.gem_language.proofs.Ends.{then_comes}
 use Rattle.gem_language.proofs.NameReadings.{access_comes, only_global}
 
@@ -267,6 +267,17 @@ module _ (setting : Setting) where
             (λ found after. perform (need (fault.UndefinedVariable method.class) found) setting after) in
             onward needed.end needed.state (λ value after. perform (for_value value) setting after)
 
+    not_found : (wrong : Fault) (after : State MadeBlock)
+        → Comes (find_global method.class) setting state (fails wrong) after → Comes program setting state (fails wrong) after
+    unfolding install global_value
+    not_found wrong after comes = ap (λ (o : Outcome MadeBlock (Option Value)). perform_rest o) comes
+      where
+        perform_rest : Outcome MadeBlock (Option Value) → Outcome MadeBlock (Unit {0})
+        perform_rest o =
+            let needed = onward o.end o.state
+            (λ found after. perform (need (fault.UndefinedVariable method.class) found) setting after) in
+            onward needed.end needed.state (λ value after. perform (for_value value) setting after)
+
     at_reference : (name : ℕ) (object : Contents) (found : State MadeBlock)
         → HasGlobal setting method.class state (Some (value.Ref name)) found
         → shown name setting found.world ≡ Some object → (is_one : Bool) → is_some (class_part object.body) ≡ is_one
@@ -321,6 +332,7 @@ module _ (setting : Setting) where
 
     pub install_only : (end : Ending (Unit {0})) (after : State MadeBlock)
         → InstallComes setting method state end after → Comes program setting state end after
+    install_only _ _ (not_looked_up wrong after comes) = not_found wrong after comes
     install_only _ _ (unknown_class after has) = at_global None after has
     install_only _ _ (no_reference answer after has none) = at_global (Some answer) after has
         ∙ ap (λ (reference : Option ℕ). perform_rest after reference) none

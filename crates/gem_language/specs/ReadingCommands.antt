@@ -18,9 +18,11 @@ use Rattle.gem_world.specs.Access.{a_read, a_write, is_allowed, accessed}
 use Rattle.object_programs.specs.Budget.{bytes_cost}
 use Rattle.object_programs.specs.Run.{Ending, gives, returns, fails, State}
 use Rattle.object_programs.specs.Programs.{replace_body}
+use Rattle.object_programs.specs.declared.fault.Fault.{Fault}
 use Rattle.object_programs.specs.declared.fault.Fault.TheVariants as fault
 use Rattle.tree_meaning.specs.Place.{MadeBlock}
 use Rattle.prim_rules.specs.Printing.{print_text}
+use Rattle.gem_language.specs.OutOfScope.{find_global}
 use Rattle.gem_language.specs.Sends.{chunk_value}
 use Rattle.gem_language.specs.Install.{class_with, install}
 use Rattle.gem_language.specs.Commands.{Command, run_chunk, install_method, Reply, not_read, ran, printed, installed, selector_of}
@@ -96,6 +98,10 @@ with_source wanted held = class_with wanted.class_side
 -- The source is put into its class, or isn't, in the order of the checks.
 pub data InstallComes (setting : Setting) (method : MethodSource) (state : State MadeBlock)
     : Ending (Unit {0}) → (after : State MadeBlock) → Type 0 where
+  -- E10: the user may not read a dictionary in which the global is looked for
+  not_looked_up : (wrong : Fault) (after : State MadeBlock)
+      → Comes (find_global method.class) setting state (fails wrong) after
+      → InstallComes setting method state (fails wrong) after
   -- E2: there is no such global
   unknown_class : (after : State MadeBlock) → HasGlobal setting method.class state None after
       → InstallComes setting method state (fails (fault.UndefinedVariable method.class)) after

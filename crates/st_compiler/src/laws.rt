@@ -20,8 +20,8 @@ pub fn operands_fit()
     ensures { (one : Instruction) → operands_of one ≡ (row_for (op_of one)).operands }
 {}
 
-/// An instruction takes and puts as many values as its op code's row says, but that the end of a loop
-/// drops both counter and limit: it goes on with stacks of this height alone.
+/// An instruction takes and puts as many values as its op code's row says, but that the end of a
+/// loop drops both counter and limit: it goes on with stacks of this height alone.
 pub fn rows_are_kept()
     ensures { (depth : ℕ) (setting : Setting) (table : List Piece) (one : Instruction)
         (next back other another : Next) (place : ℕ) (stack : List Value) (frame : Frame)
