@@ -19,12 +19,13 @@ use Rattle.gem_world.specs.Access.{Access, a_read, a_write, is_allowed, accessed
 use Rattle.object_programs.specs.Budget.{bytes_cost}
 use Rattle.object_programs.specs.Fixed.{Fixed, class_part, fixed_of, fixed_by}
 use Rattle.object_programs.specs.Atom.{Ask, access_fault, access_answer, touch_missing}
+use Rattle.object_programs.specs.declared.fault.Fault.{Fault}
 use Rattle.object_programs.specs.declared.fault.Fault.TheVariants as fault
 use Rattle.object_programs.specs.Run.{Run, give, atom, and_then, Ending, gives, returns, fails, State, Outcome, end_of, onward, perform}
 use Rattle.object_programs.specs.Programs.{need, check, read, write, known, replace_body}
 use Rattle.tree_meaning.specs.Place.{MadeBlock}
 use Rattle.prim_rules.specs.Printing.{print_text}
-use Rattle.gem_language.specs.OutOfScope.{global_value}
+use Rattle.gem_language.specs.OutOfScope.{find_global, global_value}
 use Rattle.gem_language.specs.Sends.{chunk_value}
 use Rattle.gem_language.specs.Install.{class_named, put_method, install}
 use Rattle.gem_language.specs.Commands.{Command, run_chunk, install_method, Reply, ReplyRun, ran, printed, installed, selector_of, chunk_reply, method_reply, reply_by, command_reply}
