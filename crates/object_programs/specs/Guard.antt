@@ -1,19 +1,22 @@
 -- Which object may stand at a name: the rules of a sound image that a change of one object can
 -- break, as tests. They see the other objects by their fixed parts alone.
-use Rattle.std.specs.Prelude.{ℕ, zero, suc, ◌^◌, Bool, true, false, ◌&&◌, ◌||◌, cond, nat_eq, nat_lt, nat_le, length, List, [], ◌∷◌, ◌++◌, Option, None, Some, option_map}
+use Rattle.std.specs.Prelude.{ℕ, zero, suc, ◌+◌, ◌^◌, Bool, true, false, ◌&&◌, ◌||◌, not, cond, nat_eq, nat_lt, nat_le, length, List, [], ◌∷◌, ◌++◌, Option, None, Some, option_map}
 use Rattle.std.specs.List.{list_all}
 use Rattle.texts.specs.Bytes.{Bytes as Text}
 use Rattle.gem_object.specs.Edits.{plain_slots}
 use Rattle.gem_object.specs.Kinds as kinds
+use Rattle.gem_object.specs.Kinds.{is_shared}
 use Rattle.gem_sound.specs.Sound.{names_in}
 use Rattle.gem_object.specs.declared.kind.Kind.{Kind}
 use Rattle.gem_object.specs.declared.body.Body.{Body}
 use Rattle.gem_object.specs.declared.body.Body.TheVariants.{Plain, Class, Segment, User}
 use Rattle.gem_image.specs.Image.{Contents}
-use Rattle.gem_world.specs.World.{Setting, World, name_of}
+use Rattle.gem_world.specs.World.{Setting, World, name_of, is_made}
 use Rattle.gem_sound.specs.Kernel.{KernelClass, kernel_class, KernelBody, kernel_body, has_kind}
 use Rattle.gem_sound.specs.Sound.{has_named_slots}
 use Rattle.object_programs.specs.Fixed.{BodyKind, DictKind, SegmentKind, UserKind, ClassPart, class_part, Fixed, fixed_of, fixed_by, same_fixed, same_kind, same_number}
+use Rattle.object_programs.specs.Spelled.{is_spelled}
+use Rattle.object_programs.specs.Methods.{methods_fit}
 use Rattle.object_programs.specs.declared.limits.TheConstants.{NAMES_LIMIT}
 
 -- The fixed part of the object of each name, where there is one.
@@ -158,14 +161,17 @@ place_fits parts name (Some part) =
 
 -- Whether this object may stand at the name, where these are the fixed parts with its own. I1: the
 -- name isn't 0, and every object is there to which it refers. I5: its segment is a segment, its
--- class accepts it, and what a segment or a user names is of its kind. I4 and I3 as above.
+-- class accepts it, and what a segment or a user names is of its kind. I4, I3 and I2 as above. And
+-- it can be stored.
 unfoldable pub fits : Parts → ℕ → Contents → Bool
 fits parts name object = nat_lt 0 name
     && (list_all (is_known parts) (names_in object)
     && (is_segment_at parts object.segment
     && (accepts parts object.class object.body
     && (named_fit parts object.body
-    && (kernel_fits name object.body && place_fits parts name (class_part object.body))))))
+    && (kernel_fits name object.body
+    && (place_fits parts name (class_part object.body)
+    && (methods_fit name object.body && is_spelled object.body)))))))
 
 -- the names that are asked for on the way up from a class: its own, and those above it
 abbrev pub line_above : Option ℕ → (ℕ → List ℕ) → List ℕ
@@ -197,13 +203,35 @@ asked_names parts object = names_in object
 abbrev pub parts_with : ℕ → Contents → Setting → World → Parts
 parts_with name object setting world = with_part name (fixed_of object) (fixed_by setting world)
 
+-- Whether a body or a segment may be put: the object was made in the transaction, or it is an
+-- ordinary one. Of reduced-conflict objects that were there before only updates are noted.
+unfoldable pub may_change : ℕ → (old : Contents) → Setting → World → Bool
+may_change name old setting world = is_made name setting world || not (is_shared old.body)
+
 -- whether an object may be replaced by another: that has the same fixed part, and fits
 unfoldable pub may_replace : ℕ → (old new : Contents) → Setting → World → Bool
 may_replace name old new setting world = same_fixed (fixed_of old) (fixed_of new)
     && fits (parts_with name new setting world) name new
 
--- whether an object may be made: it fits at the name that is drawn next
-unfoldable pub may_make : Contents → Setting → World → Bool
-may_make object setting world =
-    let name = name_of setting world.next in
-    fits (parts_with name object setting world) name object
+-- the fixed parts with those of new objects, the first of which has this name and the next ones the
+-- names after it
+abbrev pub with_parts : ℕ → List Contents → Parts → Parts
+with_parts name [] parts = parts
+with_parts name (object ∷ rest) parts =
+    with_part name (fixed_of object) (with_parts (name + 1) rest parts)
+
+-- whether each of the objects may stand at its name
+abbrev pub all_fit : Parts → ℕ → List Contents → Bool
+all_fit parts name [] = true
+all_fit parts name (object ∷ rest) = fits parts name object && all_fit parts (name + 1) rest
+
+-- the fixed parts as they would be with these objects at the names that are drawn next
+abbrev pub parts_with_new : List Contents → Setting → World → Parts
+parts_with_new objects setting world =
+    with_parts (name_of setting world.next) objects (fixed_by setting world)
+
+-- Whether objects may be made together: each fits at its name, where all of them are there. So they
+-- may refer to one another and to themselves.
+unfoldable pub may_make : List Contents → Setting → World → Bool
+may_make objects setting world = all_fit (parts_with_new objects setting world)
+    (name_of setting world.next) objects

@@ -1,15 +1,13 @@
 -- What laws of all programs speak of.
-use Rattle.std.specs.Prelude.{◌≡◌, ◌⊎◌, ℕ, ◌+◌, ◌≤◌, ◌<◌, Bool, true, false, Option, None, Some, is_some, option_map}
+use Rattle.std.specs.Prelude.{◌≡◌, ◌⊎◌, ℕ, ◌+◌, ◌^◌, ◌≤◌, ◌<◌, Bool, true, false, Option, None, Some, is_some, option_map}
 use Rattle.std.specs.FinMap.{get}
 use Rattle.gem_image.specs.Image.{Image, Contents, Objects, objects_in}
 use Rattle.gem_world.specs.World.{Setting, World, name_of, before_changes, shown, is_drawn}
-use Rattle.gem_world.specs.Access.{Access, IsTouched, is_allowed, accessed}
+use Rattle.gem_world.specs.Access.{IsTouched}
 use Rattle.gem_sound.specs.Kernel.{kernel_body}
 use Rattle.object_programs.specs.Budget.{Budget}
 use Rattle.object_programs.specs.Fixed.{Fixed, fixed_of, fixed_by}
 use Rattle.object_programs.specs.Guard.{Parts, is_user_at, fits}
-use Rattle.object_programs.specs.Run.{Ending, gives, fails, State, Outcome}
-use Rattle.object_programs.specs.Programs.{access_fault}
 use Rattle.object_programs.specs.declared.limits.TheConstants.{COUNTER_LIMIT}
 
 -- the setting with another image at its place
@@ -51,34 +49,19 @@ pub record IsInReach (setting : Setting) (world : World) : Type 0 where
   pub own : (name : ℕ) → is_some (get world.changes name) ≡ true
       → (is_drawn name setting world ≡ true) ⊎ (is_some (before_changes name setting) ≡ true)
 
--- The objects that are seen are sound but for the sources of methods: each of them fits, the kernel
--- and the user are there, and the names that are still to be drawn are free.
+-- The objects that are seen are sound: each of them fits and has a name of an object, the kernel and
+-- the user are there, and the names that are still to be drawn are names of objects, and free.
 pub record AreSound (setting : Setting) (world : World) : Type 0 where
+  pub serial_bound : setting.serial < 2 ^ 24
   pub some_name : 0 < world.next
   pub next_bound : world.next ≤ COUNTER_LIMIT
   pub free : AreFree setting world
+  pub named : (name : ℕ) → is_some (shown name setting world) ≡ true → name < 2 ^ 48
   pub each : (name : ℕ) (object : Contents) → shown name setting world ≡ Some object
       → fits (fixed_by setting world) name object ≡ true
   pub kernel : (name : ℕ) → is_some (kernel_body name) ≡ true
       → is_some (fixed_by setting world name) ≡ true
   pub user : is_user_at (fixed_by setting world) setting.user ≡ true
-
--- how an access ends: with the object where it is allowed, else with its error
-abbrev pub access_end_by : (allowed : Bool) → Access → ℕ → Option Contents → Ending Contents
-access_end_by true access name (Some object) = gives object
-access_end_by true access name None = fails (access_fault access name)
-access_end_by false access name found = fails (access_fault access name)
-
-abbrev pub access_end : Access → ℕ → Setting → World → Ending Contents
-access_end access name setting world = access_end_by (is_allowed access name setting world)
-    access name (shown name setting world)
-
--- what an access does, when it is performed as a program in this state
-abbrev pub access_outcome : Access → ℕ → Setting → State (Unit {0}) → Outcome (Unit {0}) Contents
-access_outcome access name setting state = record {
-  end = access_end access name setting state.world;
-  state = record state { world = accessed access name setting state.world };
-}
 
 -- these are the objects that are seen
 abbrev pub Shows : Objects → Setting → World → Type 0

@@ -2,6 +2,8 @@ pub mod Fault
 pub mod Budget
 pub mod Local
 pub mod Fixed
+pub mod Spelled
+pub mod Methods
 pub mod Guard
 pub mod Atom
 pub mod Run

@@ -1,30 +1,19 @@
--- Programs for one access each, and for what comes beside accesses.
-use Rattle.std.specs.Prelude.{ℕ, Bool, true, false, Option, None, Some, option_and_then}
-use Rattle.seg_rights.specs.declared.right.Right.{Right}
+-- Programs for accesses, for changes with what they cost, and for what comes beside them.
+use Rattle.std.specs.Prelude.{ℕ, zero, suc, ◌+◌, Bool, true, false, ◌&&◌, ◌||◌, nat_eq, List, [], ◌∷◌, ◌++◌, Option, None, Some, option_map}
+use Rattle.texts.specs.Bytes.{Bytes as Text}
 use Rattle.gem_object.specs.declared.body.Body.{Body}
-use Rattle.gem_object.specs.declared.body.Body.TheVariants.{Segment}
-use Rattle.gem_image.specs.Rights.{rights_of, groups_of, right_by, right_on_segment}
 use Rattle.gem_update.specs.Update.{updated}
 use Rattle.gem_update.specs.declared.update.Update.{Update}
 use Rattle.gem_image.specs.Image.{Contents}
-use Rattle.gem_world.specs.Access.{Access, a_read, a_write, allows}
-use Rattle.object_programs.specs.Fixed.{Fixed}
-use Rattle.object_programs.specs.Atom.{Look, Kind, Who, Hold, Note, Make}
+use Rattle.gem_world.specs.Access.{Access, a_read, a_write}
+use Rattle.gem_world.specs.Changes.{with_body}
+use Rattle.object_programs.specs.Budget.{is_within_limits}
+use Rattle.object_programs.specs.Fixed.{Fixed, ClassPart}
+use Rattle.object_programs.specs.Guard.{chain_limit}
+use Rattle.object_programs.specs.Atom.{Ask, Own, Kind, Made, Who, Put, Move, Note, Names, Make, Room}
 use Rattle.object_programs.specs.Run.{Run, give, fail, atom, and_then}
 use Rattle.object_programs.specs.declared.fault.Fault.{Fault}
 use Rattle.object_programs.specs.declared.fault.Fault.TheVariants as fault
-
--- the user's right on a body, by what its segment and the user's profile have
-abbrev pub right_by_found : Option Contents → Option Contents → ℕ → Body → Right
-right_by_found segment profile user (Segment rights) = right_on_segment rights user
-right_by_found segment profile user _ = right_by
-    (option_and_then (λ object. rights_of object.body) segment) user
-    (option_and_then (λ object. groups_of object.body) profile)
-
--- the error of an access
-abbrev pub access_fault : Access → ℕ → Fault
-access_fault a_read name = fault.NoReadRight name
-access_fault a_write name = fault.NoWriteRight name
 
 module _ {B : Type 0} where
   -- one of two programs
@@ -42,45 +31,69 @@ module _ {B : Type 0} where
   check fault true = give tt
   check fault false = fail fault
 
-  -- the user's right on an object: its segment and the user's profile are touched
-  abbrev pub right_to : Contents → Run B Right
-  right_to object =
-      and_then (atom (Look object.segment)) (λ segment.
-      and_then (atom Who) (λ user.
-      and_then (atom (Look user)) (λ profile.
-      give (right_by_found segment profile user object.body))))
+  -- A read, and a write: what the object of this name holds, or E10, E11. An ordinary object that
+  -- is written is among the written ones from then on, as it is. Reduced-conflict objects are read
+  -- and written by the same programs; nothing but their updates is noted.
+  abbrev pub read : ℕ → Run B Contents
+  read name = atom (Ask a_read name)
 
-  -- an object that is there, where the user's right on it is enough for the access
-  abbrev pub asked_for : Access → ℕ → Option Contents → Run B Contents
-  asked_for access name None = fail (access_fault access name)
-  asked_for access name (Some object) =
-      and_then (right_to object) (λ right.
-      and_then (check (access_fault access name) (allows access right)) (λ done.
-      give object))
-
-  -- what the object of this name holds, where the user may read or write it
-  abbrev pub ask : Access → ℕ → Run B Contents
-  ask access name = and_then (atom (Look name)) (asked_for access name)
-
-  -- A read, and a write: an ordinary object is among the written ones from then on, as it is.
-  -- Reduced-conflict objects are read by the same program; nothing but their updates is noted.
-  unfoldable pub read : ℕ → Run B Contents
-  read name = ask a_read name
-
-  unfoldable pub write : ℕ → Run B Contents
-  write name = and_then (ask a_write name) (λ object.
-      and_then (atom (Hold name)) (λ held. give object))
+  abbrev pub write : ℕ → Run B Contents
+  write name = atom (Ask a_write name)
 
   -- the fixed part of the object of this name, without a touch, or the error
   abbrev pub known : Fault → ℕ → Run B Fixed
   known fault name = and_then (atom (Kind name)) (need fault)
 
-  -- a new object; its name
-  abbrev pub make_object : Contents → Run B ℕ
-  make_object object = atom (Make object)
+  -- The classes from this one up to the last superclass, each by its name and its fixed part,
+  -- without a touch. What isn't a class ends them, and no more are gone through than there are
+  -- names.
+  abbrev pub rest_above : Option ℕ → (ℕ → Run B (List (ℕ × ClassPart)))
+      → Run B (List (ℕ × ClassPart))
+  rest_above None above = give []
+  rest_above (Some superclass) above = above superclass
 
-  -- An update of a reduced-conflict object that the user may write; the error where it is refused.
-  unfoldable pub update : Fault → ℕ → Update → Run B Contents
-  update fault name change = and_then (write name) (λ object.
+  abbrev pub line_of : ℕ → Option ClassPart → (ℕ → Run B (List (ℕ × ClassPart)))
+      → Run B (List (ℕ × ClassPart))
+  line_of name None above = give []
+  line_of name (Some part) above =
+      and_then (rest_above part.superclass above) (λ rest. give ((name, part) ∷ rest))
+
+  abbrev pub part_of : Option Fixed → Option ClassPart
+  part_of None = None
+  part_of (Some fixed) = fixed.as_class
+
+  abbrev pub classes_within : ℕ → ℕ → Run B (List (ℕ × ClassPart))
+  classes_within zero name = give []
+  classes_within (suc more) name =
+      and_then (atom (Kind name)) (λ found. line_of name (part_of found) (classes_within more))
+
+  unfoldable pub classes_above : ℕ → Run B (List (ℕ × ClassPart))
+  classes_above name = classes_within chain_limit name
+
+  -- a new object, which may tell its own name; the name
+  abbrev pub make_object : (ℕ → Contents) → Run B ℕ
+  make_object object_at = atom (Make (λ name. object_at name ∷ []))
+
+  -- new objects, which may tell one another's names: the first gets this name, and each of the
+  -- others the one after that of the object before it
+  abbrev pub make_objects : (ℕ → List Contents) → Run B ℕ
+  make_objects objects_at = atom (Make objects_at)
+
+  -- A body is put in place of that of an object that was written: the error where the object would
+  -- be too large (E17), or where there isn't the space by which it grows (E15).
+  unfoldable pub replace_body : (growth : ℕ) → ℕ → Contents → Body → Run B (Unit {0})
+  replace_body growth name object body =
+      and_then (check fault.ObjectTooLarge (is_within_limits (with_body body object))) (λ small.
+      and_then (atom (Room growth)) (λ room.
+      atom (Put name body)))
+
+  -- An update of a reduced-conflict object that was written: the error where the update is
+  -- refused, where the object is above the limits before it or after it (E17), or where there
+  -- isn't the space by which it grows (E15).
+  unfoldable pub update : Fault → (growth : ℕ) → ℕ → Contents → Update → Run B (Unit {0})
+  update fault growth name object change =
       and_then (need fault (updated change object.body)) (λ body.
-      and_then (atom (Note name change)) (λ noted. give object)))
+      and_then (check fault.ObjectTooLarge
+          (is_within_limits object && is_within_limits (with_body body object))) (λ small.
+      and_then (atom (Room growth)) (λ room.
+      atom (Note name change))))

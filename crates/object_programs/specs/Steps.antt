@@ -7,9 +7,9 @@ use Rattle.gem_image.specs.Image.{Contents}
 use Rattle.gem_world.specs.World.{Setting, World}
 use Rattle.object_programs.specs.Budget.{Budget}
 use Rattle.object_programs.specs.Local.{nothing}
-use Rattle.object_programs.specs.Atom.{Put, Move, Tick, Room, Show}
+use Rattle.object_programs.specs.Atom.{Own, Made, Move, Names, Tick, Room, Show}
 use Rattle.object_programs.specs.Run.{Run, give, atom, and_then, Outcome, perform}
-use Rattle.object_programs.specs.Programs.{read, write, known, make_object, update}
+use Rattle.object_programs.specs.Programs.{read, write, known, make_objects, replace_body, update}
 use Rattle.object_programs.specs.declared.fault.Fault.TheVariants as fault
 
 -- A command.
@@ -17,15 +17,21 @@ pub data Step : Type 0 where
   -- the object of this name is read, or written
   reading : ℕ → Step
   writing : ℕ → Step
+  -- the user's profile is looked at
+  looking : Step
   -- its fixed part is asked for
   knowing : ℕ → Step
+  -- it is asked whether it was made in the transaction
+  asking : ℕ → Step
   -- it gets this body, or lies in this segment
-  putting : ℕ → Body → Step
+  putting : (growth name : ℕ) → Body → Step
   moving : (name segment : ℕ) → Step
   -- it is updated
-  updating : ℕ → Update → Step
-  -- this object is made
-  making : Contents → Step
+  updating : (growth name : ℕ) → Update → Step
+  -- so many names are to be had
+  naming : ℕ → Step
+  -- these objects are made
+  making : (ℕ → List Contents) → Step
   -- a unit is spent, and so much space
   spending : Step
   taking : ℕ → Step
@@ -41,11 +47,16 @@ module _ {B : Type 0} where
   abbrev pub step_program : Step → Run B (Unit {0})
   step_program (reading name) = only (read name)
   step_program (writing name) = only (write name)
+  step_program looking = only (atom Own)
   step_program (knowing name) = only (known fault.ArgumentKind name)
-  step_program (putting name body) = and_then (write name) (λ object. atom (Put name body))
+  step_program (asking name) = only (atom (Made name))
+  step_program (putting growth name body) =
+      and_then (write name) (λ object. replace_body growth name object body)
   step_program (moving name segment) = and_then (write name) (λ object. atom (Move name segment))
-  step_program (updating name change) = only (update fault.KeyAbsent name change)
-  step_program (making object) = only (make_object object)
+  step_program (updating growth name change) =
+      and_then (write name) (λ object. update fault.KeyAbsent growth name object change)
+  step_program (naming count) = atom (Names count)
+  step_program (making objects_at) = only (make_objects objects_at)
   step_program spending = atom Tick
   step_program (taking slots) = atom (Room slots)
   step_program (showing text) = atom (Show text)

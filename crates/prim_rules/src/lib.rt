@@ -1,0 +1,7 @@
+//! Room: meaning. Gives the rules of the primitives, as programs over objects. Knows nothing of
+//! trees, of look-up and of how anything is computed fast.
+#![tactic(auto)]
+
+mod answer;
+
+pub use answer::PrimitiveAnswer;
