@@ -24,7 +24,7 @@ pub record Frame : Type 0 where
   pub home : ℕ
   -- the class that holds the method, and whether the method is one of its class side
   pub holder : ℕ
-  pub on_class_side : Bool
+  pub class_side : Bool
 
 -- A block that was made: its tree, where it stands, and what the activation knew that made it.
 pub record MadeBlock : Type 0 where

@@ -2,6 +2,12 @@
 //! of look-up and of how a tree is run.
 #![tactic(auto)]
 
+mod form;
+mod name;
+mod operand;
 mod place;
 
+pub use form::Form;
+pub use name::{Singleton, Where};
+pub use operand::{Pair, Truth};
 pub use place::Mark;
