@@ -1,0 +1,9 @@
+pub mod Place
+pub mod Names
+pub mod Forms
+pub mod Operands
+pub mod Scopes
+pub mod Loops
+pub mod Meaning
+pub mod Bodies
+pub mod Calls
