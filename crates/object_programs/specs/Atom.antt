@@ -1,5 +1,5 @@
 -- The atoms of programs: all that a program can do to objects and to its budget.
-use Rattle.std.specs.Prelude.{ℕ, zero, suc, ◌-◌, ◌+◌, Bool, true, false, ◌&&◌, ◌||◌, not, cond, nat_lt, nat_le, length, List, [], ◌∷◌, ◌++◌, Option, None, Some, is_some, option_map, fold, sum_by}
+use Rattle.std.specs.Prelude.{ℕ, zero, suc, ◌-◌, ◌+◌, Bool, true, false, ◌&&◌, cond, nat_le, length, List, [], ◌∷◌, ◌++◌, Option, None, Some, is_some, fold, sum_by}
 use Rattle.std.specs.List.{list_all, flat_map}
 use Rattle.std.specs.FinMap.{get}
 use Rattle.texts.specs.Bytes.{Bytes as Text}

@@ -1,5 +1,5 @@
 -- What laws of all programs speak of.
-use Rattle.std.specs.Prelude.{◌≡◌, ◌⊎◌, ℕ, ◌+◌, ◌^◌, ◌≤◌, ◌<◌, Bool, true, false, Option, None, Some, is_some, option_map}
+use Rattle.std.specs.Prelude.{◌≡◌, ◌⊎◌, ℕ, ◌+◌, ◌^◌, ◌≤◌, ◌<◌, true, None, Some, is_some, option_map}
 use Rattle.std.specs.FinMap.{get}
 use Rattle.gem_image.specs.Image.{Image, Contents, Objects, objects_in}
 use Rattle.gem_world.specs.World.{Setting, World, name_of, before_changes, shown, is_drawn}

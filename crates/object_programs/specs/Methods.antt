@@ -1,7 +1,7 @@
 -- Which methods a class may have, as a test: I2 of sound images.
-use Rattle.std.specs.Prelude.{ℕ, ◌^◌, Bool, true, false, ◌&&◌, nat_lt, length, List, Option, None, Some, Result, Ok, Err}
+use Rattle.std.specs.Prelude.{ℕ, ◌^◌, Bool, true, false, ◌&&◌, nat_lt, bytes_eq, length, Option, None, Some, Result, Ok, Err}
 use Rattle.std.specs.List.{list_all}
-use Rattle.texts.specs.Bytes.{Bytes as Text, bytes_eq}
+use Rattle.texts.specs.Bytes.{Bytes as Text}
 use Rattle.st_tree.specs.Trees.{Program}
 use Rattle.st_grammar.specs.Grammar.{method}
 use Rattle.st_grammar_laws.specs.TreeOf.{tree_of}

@@ -1,19 +1,23 @@
 -- Programs for accesses, for changes with what they cost, and for what comes beside them.
-use Rattle.std.specs.Prelude.{ℕ, zero, suc, ◌+◌, Bool, true, false, ◌&&◌, ◌||◌, nat_eq, List, [], ◌∷◌, ◌++◌, Option, None, Some, option_map}
-use Rattle.texts.specs.Bytes.{Bytes as Text}
+use Rattle.std.specs.Prelude.{ℕ, zero, suc, Bool, true, false, ◌&&◌, List, [], ◌∷◌, Option, None, Some}
 use Rattle.gem_object.specs.declared.body.Body.{Body}
 use Rattle.gem_update.specs.Update.{updated}
 use Rattle.gem_update.specs.declared.update.Update.{Update}
 use Rattle.gem_image.specs.Image.{Contents}
-use Rattle.gem_world.specs.Access.{Access, a_read, a_write}
+use Rattle.gem_world.specs.Access.{a_read, a_write}
 use Rattle.gem_world.specs.Changes.{with_body}
 use Rattle.object_programs.specs.Budget.{is_within_limits}
 use Rattle.object_programs.specs.Fixed.{Fixed, ClassPart}
 use Rattle.object_programs.specs.Guard.{chain_limit}
-use Rattle.object_programs.specs.Atom.{Ask, Own, Kind, Made, Who, Put, Move, Note, Names, Make, Room}
+use Rattle.object_programs.specs.Atom.{Ask, Kind, Put, Note, Make, Room}
 use Rattle.object_programs.specs.Run.{Run, give, fail, atom, and_then}
 use Rattle.object_programs.specs.declared.fault.Fault.{Fault}
 use Rattle.object_programs.specs.declared.fault.Fault.TheVariants as fault
+
+-- what of a class is fixed, where the object is there and is one
+abbrev pub part_of : Option Fixed → Option ClassPart
+part_of None = None
+part_of (Some fixed) = fixed.as_class
 
 module _ {B : Type 0} where
   -- one of two programs
@@ -58,10 +62,6 @@ module _ {B : Type 0} where
   line_of name (Some part) above =
       and_then (rest_above part.superclass above) (λ rest. give ((name, part) ∷ rest))
 
-  abbrev pub part_of : Option Fixed → Option ClassPart
-  part_of None = None
-  part_of (Some fixed) = fixed.as_class
-
   abbrev pub classes_within : ℕ → ℕ → Run B (List (ℕ × ClassPart))
   classes_within zero name = give []
   classes_within (suc more) name =
@@ -91,9 +91,9 @@ module _ {B : Type 0} where
   -- refused, where the object is above the limits before it or after it (E17), or where there
   -- isn't the space by which it grows (E15).
   unfoldable pub update : Fault → (growth : ℕ) → ℕ → Contents → Update → Run B (Unit {0})
-  update fault growth name object change =
-      and_then (need fault (updated change object.body)) (λ body.
+  update refusal growth name object change =
+      and_then (need refusal (updated change object.body)) (λ body.
       and_then (check fault.ObjectTooLarge
-          (is_within_limits object && is_within_limits (with_body body object))) (λ small.
+      (is_within_limits object && is_within_limits (with_body body object))) (λ small.
       and_then (atom (Room growth)) (λ room.
       atom (Note name change))))

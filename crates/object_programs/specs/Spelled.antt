@@ -1,7 +1,8 @@
 -- Which bodies can be stored, as tests: a body passes its test exactly where it has a spelling.
-use Rattle.std.specs.Prelude.{ℕ, ◌^◌, Bool, true, false, ◌&&◌, not, nat_lt, nat_le, length, List, [], ◌∷◌, map, Option, None, Some, Ordering, is_lt}
+use Rattle.std.specs.Prelude.{ℕ, ◌^◌, Bool, true, false, ◌&&◌, not, nat_lt, nat_le, length, List, [], ◌∷◌, map, Option, None, Some}
 use Rattle.std.specs.List.{list_all, list_any}
-use Rattle.std.specs.Ordering.{nat_cmp}
+use Rattle.std.specs.Ordering.{nat_cmp, is_lt}
+use Rattle.std.specs.declared.cmp.Ordering.{Ordering}
 use Rattle.std.specs.Cmp.Lexicographic.{slice_cmp}
 use Rattle.texts.specs.Bytes.{Bytes as Text}
 use Rattle.profile.specs.SmallInteger.{is_small_integer}

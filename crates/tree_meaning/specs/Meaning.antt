@@ -132,9 +132,9 @@ head_and_messages (Some when) to_super head condition messages cascade place fra
 -- statements one after the other: the answer is that of the last one, and nil where there is none
 abbrev pub statements_from : (Place → Frame → ValueRun) → List (Place → Frame → ValueRun) → Place
     → Frame → ValueRun
-statements_from statement [] place frame = statement place frame
-statements_from statement (next ∷ rest) place frame =
-    and_then (statement place frame) (λ answer. statements_from next rest place frame)
+statements_from first [] place frame = first place frame
+statements_from first (next ∷ rest) place frame =
+    and_then (first place frame) (λ answer. statements_from next rest place frame)
 
 abbrev pub statements_in_turn : List (Place → Frame → ValueRun) → Place → Frame → ValueRun
 statements_in_turn [] place frame = give value.Nil

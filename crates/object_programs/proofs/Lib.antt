@@ -1,0 +1,10 @@
+pub mod Kept
+pub mod Falling
+pub mod Guards
+pub mod Bases
+pub mod Frame
+pub mod Sames
+pub mod Objects
+pub mod Reach
+pub mod Orders
+pub mod Rules
