@@ -1,0 +1,10 @@
+pub mod KernelNames
+pub mod LookUp
+pub mod OutOfScope
+pub mod Literals
+pub mod RuleOf
+pub mod PrintText
+pub mod Sends
+pub mod Install
+pub mod Commands
+pub mod Transaction

@@ -1,0 +1,59 @@
+//! What follows from the definitions alone. Each law is the contract of a function that does
+//! nothing.
+ghost use Rattle.std.specs.Prelude.{◌≡◌, ◌≤◌, ◌+◌, ◌*◌, ◌++◌, ℕ, List, length};
+ghost use Rattle.gem_image.specs.Image.{Image};
+ghost use Rattle.gem_world.specs.World.{Setting, World};
+ghost use Rattle.gem_world.specs.Access.{IsTouched};
+ghost use Rattle.object_programs.specs.Budget.{whole_budget};
+ghost use Rattle.object_programs.specs.Fixed.{fixed_by};
+ghost use Rattle.object_programs.specs.Laws.{rebased, Stays, AgreeOnTouched, Falls, KeepsParts, AreFree, IsInReach, AreSound};
+ghost use Rattle.gem_language.specs.Commands.{Command};
+ghost use Rattle.gem_language.specs.Transaction.{command_outcome, transaction, after_both};
+
+use object_programs::SPACE_LIMIT;
+
+/// Commands say the same and leave the same at two places that have the same at each name that was
+/// touched, where every object of the one is in the other with the same fixed part.
+pub fn frame()
+    ensures { (commands : List Command) (setting : Setting) (world : World) (other : Image)
+        → Stays setting.place other
+        → AgreeOnTouched setting.place other (transaction commands setting world).world
+        → transaction commands (rebased other setting) world ≡ transaction commands setting world }
+{}
+
+/// Whatever the commands are, sound objects stay sound, every fixed part stays, what is written,
+/// made or updated is in reach, and what was touched stays touched. Names are drawn one after the
+/// other, at most 4,000,000 in a command.
+pub fn keeps()
+    ensures sound { (commands : List Command) (setting : Setting) (world : World)
+        → AreSound setting world → AreSound setting (transaction commands setting world).world }
+    ensures fixed_parts { (commands : List Command) (setting : Setting) (world : World)
+        → AreFree setting world → KeepsParts (fixed_by setting world)
+        (fixed_by setting (transaction commands setting world).world) }
+    ensures reach { (commands : List Command) (setting : Setting) (world : World)
+        → IsInReach setting world
+        → IsInReach setting (transaction commands setting world).world }
+    ensures touches { (commands : List Command) (setting : Setting) (world : World) (name : ℕ)
+        → IsTouched name world → IsTouched name (transaction commands setting world).world }
+    ensures next { (commands : List Command) (setting : Setting) (world : World)
+        → world.next ≤ (transaction commands setting world).world.next }
+    ensures drawn { (commands : List Command) (setting : Setting) (world : World)
+        → (transaction commands setting world).world.next
+        ≤ world.next + SPACE_LIMIT * length commands }
+{}
+
+/// No command uses more than a whole budget: units and space only fall from there.
+pub fn budgets_fall()
+    ensures { (command : Command) (setting : Setting) (world : World)
+        → let after = (command_outcome command setting world).state in
+        Falls world whole_budget after.world after.budget }
+{}
+
+/// Commands go on where those before them ended: what a session's commands say and leave doesn't
+/// depend on how many are looked at together.
+pub fn goes_on()
+    ensures { (first rest : List Command) (setting : Setting) (world : World)
+        → transaction (first ++ rest) setting world
+        ≡ after_both (transaction first setting world)
+        (transaction rest setting (transaction first setting world).world) }
+{}
