@@ -1,1 +1,4 @@
 pub mod Lists
+pub mod Ends
+mod LookUps
+mod OneFound

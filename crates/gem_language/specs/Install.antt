@@ -15,7 +15,7 @@ use Rattle.object_programs.specs.Run.{Run, give, and_then}
 use Rattle.object_programs.specs.Programs.{need, check, read, write, known, replace_body}
 use Rattle.object_programs.specs.declared.fault.Fault.TheVariants as fault
 use Rattle.tree_meaning.specs.Place.{MadeBlock}
-use Rattle.prim_rules.specs.Parts.{class_in}
+use Rattle.gem_sound.specs.Parts.{class_of}
 use Rattle.gem_language.specs.OutOfScope.{global_value}
 
 -- The methods of a class, which ascend by selector, with this one: it takes the place of one with
@@ -47,7 +47,7 @@ abbrev pub put_method : (class_side : Bool) → Method → (source : Text) → (
 put_method class_side new source name =
     and_then (read name) (λ seen.
     and_then (write name) (λ object.
-    and_then (need fault.ArgumentKind (class_in object.body)) (λ class.
+    and_then (need fault.ArgumentKind (class_of object.body)) (λ class.
     and_then (check fault.ObjectTooLarge (nat_le (length new.selector) SYMBOL_LIMIT)) (λ short.
     replace_body (bytes_cost (length source)) name object
         (body.Class (class_with class_side new class))))))

@@ -8,3 +8,5 @@ pub mod Sends
 pub mod Install
 pub mod Commands
 pub mod Transaction
+pub mod Comes
+pub mod Finds

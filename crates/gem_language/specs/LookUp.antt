@@ -17,7 +17,8 @@ use Rattle.object_programs.specs.Run.{Run, give, fail, atom, and_then}
 use Rattle.object_programs.specs.Programs.{read, part_of}
 use Rattle.object_programs.specs.declared.fault.Fault.TheVariants as fault
 use Rattle.tree_meaning.specs.Place.{Frame, MadeBlock}
-use Rattle.prim_rules.specs.Parts.{class_in, class_of_plain}
+use Rattle.gem_sound.specs.Parts.{class_of}
+use Rattle.prim_rules.specs.Parts.{class_of_plain}
 use Rattle.gem_language.specs.declared.found.Found.{Found}
 
 -- What a look-up comes to: the method, where there is one.
@@ -61,7 +62,7 @@ abbrev pub up_within : ℕ → (class_side : Bool) → Text → (past : FindingR
 up_within zero class_side selector past name = fail (fault.NotUnderstood selector)
 up_within (suc more) class_side selector past name =
     and_then (read name) (λ object.
-    found_from class_side selector name (class_in object.body)
+    found_from class_side selector name (class_of object.body)
         (up_within more class_side selector past) past)
 
 unfoldable pub up_classes : (class_side : Bool) → Text → (past : FindingRun) → (name : ℕ)

@@ -15,7 +15,8 @@ use Rattle.object_programs.specs.declared.fault.Fault.TheVariants as fault
 use Rattle.tree_meaning.specs.Place.{Frame, MadeBlock}
 use Rattle.tree_meaning.specs.Names.{index_of}
 use Rattle.tree_meaning.specs.Operands.{ValueRun}
-use Rattle.prim_rules.specs.Parts.{is_block, class_in, user_in}
+use Rattle.gem_sound.specs.Parts.{class_of, user_of}
+use Rattle.prim_rules.specs.Parts.{is_block}
 use Rattle.gem_language.specs.KernelNames.{globals}
 
 -- The names of the instance variables of a class, the inherited ones first. The classes from this
@@ -36,7 +37,7 @@ names_of_class (Some class) above =
 abbrev pub names_within : ℕ → (class : ℕ) → Run MadeBlock (List Text)
 names_within zero class = give []
 names_within (suc more) class =
-    and_then (read class) (λ object. names_of_class (class_in object.body) (names_within more))
+    and_then (read class) (λ object. names_of_class (class_of object.body) (names_within more))
 
 unfoldable pub instance_names : (class : ℕ) → Run MadeBlock (List Text)
 instance_names class = names_within chain_limit class
@@ -59,7 +60,7 @@ global_at name dictionary =
 -- the dictionary of the user's own globals, which the user's profile names
 abbrev pub own_globals : Option Contents → Option ℕ
 own_globals profile =
-    option_and_then (λ object. option_map (λ user. user.globals) (user_in object.body)) profile
+    option_and_then (λ object. option_map (λ user. user.globals) (user_of object.body)) profile
 
 abbrev pub own_global : Text → Option ℕ → Run MadeBlock (Option Value)
 own_global name None = give None

@@ -1,15 +1,23 @@
 //! What follows from the definitions alone. Each law is the contract of a function that does
 //! nothing.
-ghost use Rattle.std.specs.Prelude.{◌≡◌, ◌≤◌, ◌+◌, ◌*◌, ◌++◌, ℕ, List, length};
-ghost use Rattle.gem_image.specs.Image.{Image};
-ghost use Rattle.gem_world.specs.World.{Setting, World};
+ghost use Rattle.std.specs.Prelude.{◌≡◌, ◌≤◌, ◌+◌, ◌*◌, ◌++◌, ℕ, Bool, List, length, Option};
+ghost use Rattle.texts.specs.Bytes.{Bytes as Text};
+ghost use Rattle.gem_object.specs.declared.value.Value.{Value};
+ghost use Rattle.gem_image.specs.Image.{Image, Objects};
+ghost use Rattle.gem_world.specs.World.{Setting, World, shown_objects};
 ghost use Rattle.gem_world.specs.Access.{IsTouched};
 ghost use Rattle.object_programs.specs.Budget.{whole_budget};
 ghost use Rattle.object_programs.specs.Fixed.{fixed_by};
 ghost use Rattle.object_programs.specs.Laws.{rebased, Stays, AgreeOnTouched, Falls, KeepsParts, AreFree, IsInReach, AreSound};
+ghost use Rattle.object_programs.specs.Run.{State, gives};
+ghost use Rattle.tree_meaning.specs.Place.{Frame, MadeBlock};
+ghost use Rattle.gem_language.specs.LookUp.{find_method};
+ghost use Rattle.gem_language.specs.Comes.{Comes, OnlyTouched};
+ghost use Rattle.gem_language.specs.Finds.{FindsFor};
 ghost use Rattle.gem_language.specs.Commands.{Command};
 ghost use Rattle.gem_language.specs.Transaction.{command_outcome, transaction, after_both};
 
+use crate::found::Found;
 use object_programs::SPACE_LIMIT;
 
 /// Commands say the same and leave the same at two places that have the same at each name that was
@@ -56,4 +64,23 @@ pub fn goes_on()
         → transaction (first ++ rest) setting world
         ≡ after_both (transaction first setting world)
         (transaction rest setting (transaction first setting world).world) }
+{}
+
+/// A look-up that gives an answer gives what the relation `FindsFor` says of the objects that are
+/// seen, and changes nothing but what was touched. There is at most one such answer.
+pub fn look_up_finds()
+    ensures found { (to_super : Bool) (frame : Frame) (receiver : Value) (selector : Text)
+        (setting : Setting) (state : State MadeBlock) (found : Option Found)
+        (after : State MadeBlock)
+        → Comes (find_method to_super frame receiver selector) setting state (gives found) after
+        → FindsFor (shown_objects setting state.world) frame to_super receiver selector found }
+    ensures touches { (to_super : Bool) (frame : Frame) (receiver : Value) (selector : Text)
+        (setting : Setting) (state : State MadeBlock) (found : Option Found)
+        (after : State MadeBlock)
+        → Comes (find_method to_super frame receiver selector) setting state (gives found) after
+        → OnlyTouched state after }
+    ensures one { (objects : Objects) (frame : Frame) (to_super : Bool) (receiver : Value)
+        (selector : Text) (found other : Option Found)
+        → FindsFor objects frame to_super receiver selector found
+        → FindsFor objects frame to_super receiver selector other → found ≡ other }
 {}
