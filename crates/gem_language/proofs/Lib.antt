@@ -2,3 +2,4 @@ pub mod Lists
 pub mod Ends
 mod LookUps
 mod OneFound
+mod Readings

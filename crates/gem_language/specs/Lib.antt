@@ -10,3 +10,4 @@ pub mod Commands
 pub mod Transaction
 pub mod Comes
 pub mod Finds
+pub mod Reading

@@ -35,7 +35,7 @@ names_of_class (Some class) above =
 
 -- the same, where at most so many classes are gone through: more than there are names never are
 abbrev pub names_within : ℕ → (class : ℕ) → Run MadeBlock (List Text)
-names_within zero class = give []
+names_within zero class = fail fault.ArgumentKind
 names_within (suc more) class =
     and_then (read class) (λ object. names_of_class (class_of object.body) (names_within more))
 

@@ -9,11 +9,12 @@ ghost use Rattle.gem_world.specs.Access.{IsTouched};
 ghost use Rattle.object_programs.specs.Budget.{whole_budget};
 ghost use Rattle.object_programs.specs.Fixed.{fixed_by};
 ghost use Rattle.object_programs.specs.Laws.{rebased, Stays, AgreeOnTouched, Falls, KeepsParts, AreFree, IsInReach, AreSound};
-ghost use Rattle.object_programs.specs.Run.{State, gives};
+ghost use Rattle.object_programs.specs.Run.{State, Ending, gives, perform};
 ghost use Rattle.tree_meaning.specs.Place.{Frame, MadeBlock};
 ghost use Rattle.gem_language.specs.LookUp.{find_method};
 ghost use Rattle.gem_language.specs.Comes.{Comes, OnlyTouched};
 ghost use Rattle.gem_language.specs.Finds.{FindsFor};
+ghost use Rattle.gem_language.specs.Reading.{Sent, SendComes, send_program};
 ghost use Rattle.gem_language.specs.Commands.{Command};
 ghost use Rattle.gem_language.specs.Transaction.{command_outcome, transaction, after_both};
 
@@ -83,4 +84,16 @@ pub fn look_up_finds()
         (selector : Text) (found other : Option Found)
         → FindsFor objects frame to_super receiver selector found
         → FindsFor objects frame to_super receiver selector other → found ≡ other }
+{}
+
+/// A send comes to what the relation `SendComes` says, and to nothing else: by cases on the unit, on
+/// what the look-up finds, and on what the method is.
+pub fn reading_is_meaning()
+    ensures comes { (depth : ℕ) (setting : Setting) (message : Sent) (state : State MadeBlock)
+        → let outcome = perform (send_program depth message) setting state in
+        SendComes depth setting message state outcome.end outcome.state }
+    ensures only { (depth : ℕ) (setting : Setting) (message : Sent) (state : State MadeBlock)
+        (end : Ending Value) (after : State MadeBlock)
+        → SendComes depth setting message state end after
+        → Comes (send_program depth message) setting state end after }
 {}
