@@ -55,6 +55,13 @@ module _ (setting : Setting) where
       let before = perform first setting state in
       both_by first second state before.end before.state answer after refl is
 
+  -- a program whose first part gives an answer goes on with the second
+  pub then_comes : {A C : Type 0} (first : Run MadeBlock C) (second : C → Run MadeBlock A) (state : State MadeBlock)
+      (middle : C) (between : State MadeBlock) → Comes first setting state (gives middle) between
+      → perform (and_then first second) setting state ≡ perform (second middle) setting between
+  then_comes first second state middle between is = ap (λ (o : Outcome MadeBlock _).
+      onward o.end o.state (λ answer after. perform (second answer) setting after)) is
+
   -- a read that gives something gives what is seen
   pub read_gives : (name : ℕ) (state : State MadeBlock) (object : Contents) (after : State MadeBlock)
       → Comes (read name) setting state (gives object) after → shown name setting state.world ≡ Some object

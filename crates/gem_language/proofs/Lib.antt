@@ -3,3 +3,4 @@ pub mod Ends
 mod LookUps
 mod OneFound
 mod Readings
+mod NameReadings

@@ -11,3 +11,4 @@ pub mod Transaction
 pub mod Comes
 pub mod Finds
 pub mod Reading
+pub mod ReadingNames

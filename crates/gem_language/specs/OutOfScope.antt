@@ -91,16 +91,20 @@ instance_value receiver slot =
     and_then (read name) (λ object.
     need fault.Index (slot_at slot object.body)))
 
--- An instance variable gets a value: the receiver is written, and then a block is E12. The answer
--- is the value.
+-- An object that was written gets a value in a slot; a block is E12. The answer is the value.
+abbrev pub put_in_slot : (name : ℕ) → Contents → (slot : ℕ) → Value → ValueRun
+put_in_slot name object slot value =
+    and_then (check fault.BlockStored (not (is_block value))) (λ storable.
+    and_then (check fault.Index (nat_lt slot (plain_slots object.body))) (λ there.
+    and_then (replace_body 0 name object (with_slot slot value object.body)) (λ replaced.
+    give value)))
+
+-- an instance variable gets a value: the receiver is written
 abbrev pub set_instance_value : (receiver : Value) → (slot : ℕ) → Value → ValueRun
 set_instance_value receiver slot value =
     and_then (need fault.ArgumentKind (reference_of receiver)) (λ name.
     and_then (write name) (λ object.
-    and_then (check fault.BlockStored (not (is_block value))) (λ storable.
-    and_then (check fault.Index (nat_lt slot (plain_slots object.body))) (λ there.
-    and_then (replace_body 0 name object (with_slot slot value object.body)) (λ replaced.
-    give value)))))
+    put_in_slot name object slot value))
 
 -- the value of a name that is no variable in scope: an instance variable, where it has a slot, and
 -- else a global

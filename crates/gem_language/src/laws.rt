@@ -1,25 +1,29 @@
 //! What follows from the definitions alone. Each law is the contract of a function that does
 //! nothing.
-ghost use Rattle.std.specs.Prelude.{◌≡◌, ◌≤◌, ◌+◌, ◌*◌, ◌++◌, ℕ, Bool, List, length, Option};
+ghost use Rattle.std.specs.Prelude.{◌≡◌, ◌≤◌, ◌+◌, ◌*◌, ◌++◌, ℕ, Bool, List, length, Option, Some, None};
 ghost use Rattle.texts.specs.Bytes.{Bytes as Text};
 ghost use Rattle.gem_object.specs.declared.value.Value.{Value};
-ghost use Rattle.gem_image.specs.Image.{Image, Objects};
+ghost use Rattle.gem_object.specs.declared.value.Value.TheVariants.{Ref, Block};
+ghost use Rattle.gem_object.specs.declared.value.BlockRef.{BlockRef};
+ghost use Rattle.gem_image.specs.Image.{Image, Contents, Objects};
 ghost use Rattle.gem_world.specs.World.{Setting, World, shown_objects};
 ghost use Rattle.gem_world.specs.Access.{IsTouched};
 ghost use Rattle.object_programs.specs.Budget.{whole_budget};
 ghost use Rattle.object_programs.specs.Fixed.{fixed_by};
 ghost use Rattle.object_programs.specs.Laws.{rebased, Stays, AgreeOnTouched, Falls, KeepsParts, AreFree, IsInReach, AreSound};
-ghost use Rattle.object_programs.specs.Run.{State, Ending, gives, perform};
+ghost use Rattle.object_programs.specs.Run.{State, Ending, gives, fails, perform};
 ghost use Rattle.tree_meaning.specs.Place.{Frame, MadeBlock};
 ghost use Rattle.gem_language.specs.LookUp.{find_method};
+ghost use Rattle.gem_language.specs.OutOfScope.{instance_names, slot_of, find_global, read_out_of_scope, write_out_of_scope};
 ghost use Rattle.gem_language.specs.Comes.{Comes, OnlyTouched};
 ghost use Rattle.gem_language.specs.Finds.{FindsFor};
 ghost use Rattle.gem_language.specs.Reading.{Sent, SendComes, send_program};
+ghost use Rattle.gem_language.specs.ReadingNames.{HasGlobal, HasValue, Assigns, Writes};
 ghost use Rattle.gem_language.specs.Commands.{Command};
 ghost use Rattle.gem_language.specs.Transaction.{command_outcome, transaction, after_both};
 
 use crate::found::Found;
-use object_programs::SPACE_LIMIT;
+use object_programs::{Fault, SPACE_LIMIT};
 
 /// Commands say the same and leave the same at two places that have the same at each name that was
 /// touched, where every object of the one is in the other with the same fixed part.
@@ -96,4 +100,48 @@ pub fn reading_is_meaning()
         (end : Ending Value) (after : State MadeBlock)
         → SendComes depth setting message state end after
         → Comes (send_program depth message) setting state end after }
+{}
+
+/// A name that is no variable in scope stands for what the relations say: a global for what
+/// `HasGlobal` says, in both directions, and a value of a name for what `HasValue` says. Without a
+/// slot and a global of this name the answer is E2. An assignment that gives an answer assigns, as
+/// `Assigns` says, and answers the value; without a slot it is E2, with no further access, and that
+/// of a block is E12 after the write of the receiver.
+pub fn names_are_read()
+    ensures global { (setting : Setting) (name : Text) (state : State MadeBlock)
+        (found : Option Value) (after : State MadeBlock)
+        → Comes (find_global name) setting state (gives found) after
+        → HasGlobal setting name state found after }
+    ensures only_global { (setting : Setting) (name : Text) (state : State MadeBlock)
+        (found : Option Value) (after : State MadeBlock)
+        → HasGlobal setting name state found after
+        → Comes (find_global name) setting state (gives found) after }
+    ensures value { (setting : Setting) (name : Text) (frame : Frame) (state : State MadeBlock)
+        (answer : Value) (after : State MadeBlock)
+        → Comes (read_out_of_scope name frame) setting state (gives answer) after
+        → HasValue setting name frame state answer after }
+    ensures unknown { (setting : Setting) (name : Text) (frame : Frame) (names : List Text)
+        (state between after : State MadeBlock)
+        → Comes (instance_names frame.holder) setting state (gives names) between
+        → slot_of frame.class_side name names ≡ None → HasGlobal setting name between None after
+        → Comes (read_out_of_scope name frame) setting state
+        (fails (Fault.UndefinedVariable name)) after }
+    ensures assigned { (setting : Setting) (name : Text) (frame : Frame) (answer other : Value)
+        (state after : State MadeBlock)
+        → Comes (write_out_of_scope name frame answer) setting state (gives other) after
+        → Assigns setting name frame answer state after × (other ≡ answer) }
+    ensures not_assigned { (setting : Setting) (name : Text) (frame : Frame) (answer : Value)
+        (names : List Text) (state between : State MadeBlock)
+        → Comes (instance_names frame.holder) setting state (gives names) between
+        → slot_of frame.class_side name names ≡ None
+        → Comes (write_out_of_scope name frame answer) setting state
+        (fails (Fault.UndefinedVariable name)) between }
+    ensures block { (setting : Setting) (name : Text) (frame : Frame) (block : BlockRef)
+        (names : List Text) (slot receiver : ℕ) (object : Contents)
+        (state between after : State MadeBlock)
+        → Comes (instance_names frame.holder) setting state (gives names) between
+        → slot_of frame.class_side name names ≡ Some slot → frame.receiver ≡ Ref receiver
+        → Writes setting receiver between object after
+        → Comes (write_out_of_scope name frame (Block block)) setting state
+        (fails Fault.BlockStored) after }
 {}
