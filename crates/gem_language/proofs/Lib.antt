@@ -4,3 +4,4 @@ mod LookUps
 mod OneFound
 mod Readings
 mod NameReadings
+mod LiteralReadings

@@ -36,7 +36,7 @@ same_some one other is = ap (some_of one) is
 
 module _ (setting : Setting) where
   -- what is given, and where, in place of what is the same
-  given : {A : Type 0} (R : A → State MadeBlock → Type 0) (one : A) (state : State MadeBlock) (other : A)
+  pub given : {A : Type 0} (R : A → State MadeBlock → Type 0) (one : A) (state : State MadeBlock) (other : A)
       (after : State MadeBlock) → R one state → Comes (give one) setting state (gives other) after → R other after
   given R one state other after here is =
       subst (λ (s : State MadeBlock). R other s) (ap (λ (o : Outcome MadeBlock _). o.state) is)

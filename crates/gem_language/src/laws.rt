@@ -1,7 +1,8 @@
 //! What follows from the definitions alone. Each law is the contract of a function that does
 //! nothing.
-ghost use Rattle.std.specs.Prelude.{◌≡◌, ◌≤◌, ◌+◌, ◌*◌, ◌++◌, ℕ, Bool, List, length, Option, Some, None};
+ghost use Rattle.std.specs.Prelude.{◌≡◌, ◌≤◌, ◌+◌, ◌*◌, ◌++◌, ℕ, Bool, List, length, Option, Some, None, true, false};
 ghost use Rattle.texts.specs.Bytes.{Bytes as Text};
+ghost use Rattle.st_tree.specs.Trees.{Constant};
 ghost use Rattle.gem_object.specs.declared.value.Value.{Value};
 ghost use Rattle.gem_object.specs.declared.value.Value.TheVariants.{Ref, Block};
 ghost use Rattle.gem_object.specs.declared.value.BlockRef.{BlockRef};
@@ -15,10 +16,12 @@ ghost use Rattle.object_programs.specs.Run.{State, Ending, gives, fails, perform
 ghost use Rattle.tree_meaning.specs.Place.{Frame, MadeBlock};
 ghost use Rattle.gem_language.specs.LookUp.{find_method};
 ghost use Rattle.gem_language.specs.OutOfScope.{instance_names, slot_of, find_global, read_out_of_scope, write_out_of_scope};
+ghost use Rattle.gem_language.specs.Literals.{has_symbols, literal_value};
 ghost use Rattle.gem_language.specs.Comes.{Comes, OnlyTouched};
 ghost use Rattle.gem_language.specs.Finds.{FindsFor};
 ghost use Rattle.gem_language.specs.Reading.{Sent, SendComes, send_program};
 ghost use Rattle.gem_language.specs.ReadingNames.{HasGlobal, HasValue, Assigns, Writes};
+ghost use Rattle.gem_language.specs.ReadingLiterals.{HasLiteral, HasLongSymbol};
 ghost use Rattle.gem_language.specs.Commands.{Command};
 ghost use Rattle.gem_language.specs.Transaction.{command_outcome, transaction, after_both};
 
@@ -144,4 +147,22 @@ pub fn names_are_read()
         → Writes setting receiver between object after
         → Comes (write_out_of_scope name frame (Block block)) setting state
         (fails Fault.BlockStored) after }
+{}
+
+/// A literal makes what the relation `HasLiteral` says: the objects of an array from left to right,
+/// and inner ones before outer ones. Where a symbol in it is too long the answer is E17, and nothing
+/// is made.
+pub fn literals_are_read()
+    ensures value { (setting : Setting) (tree : Constant) (state : State MadeBlock)
+        (answer : Value) (after : State MadeBlock)
+        → Comes (literal_value tree) setting state (gives answer) after
+        → HasLiteral setting tree state answer after }
+    ensures only { (setting : Setting) (tree : Constant) (state : State MadeBlock)
+        (answer : Value) (after : State MadeBlock) → has_symbols tree ≡ true
+        → HasLiteral setting tree state answer after
+        → Comes (literal_value tree) setting state (gives answer) after }
+    ensures long { (setting : Setting) (tree : Constant) (state : State MadeBlock)
+        → HasLongSymbol tree
+        → Comes (literal_value tree) setting state (fails Fault.ObjectTooLarge) state }
+    ensures short { (tree : Constant) → has_symbols tree ≡ false → HasLongSymbol tree }
 {}
