@@ -9,7 +9,7 @@ use Rattle.object_programs.specs.declared.fault.Fault.{Fault}
 use Rattle.object_programs.specs.declared.fault.Fault.TheVariants as fault
 use Rattle.tree_meaning.specs.Place.{MadeBlock}
 use Rattle.gem_language.specs.Sends.{chunk_value}
-use Rattle.gem_language.specs.PrintText.{print_text}
+use Rattle.prim_rules.specs.Printing.{print_text}
 use Rattle.gem_language.specs.Install.{install}
 
 -- A command on objects.

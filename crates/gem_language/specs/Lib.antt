@@ -3,7 +3,6 @@ pub mod LookUp
 pub mod OutOfScope
 pub mod Literals
 pub mod RuleOf
-pub mod PrintText
 pub mod Sends
 pub mod Install
 pub mod Commands

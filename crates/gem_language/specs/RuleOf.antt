@@ -1,13 +1,15 @@
--- The rule of each primitive, by its number. This file stands in for the rules until all of them are
--- there.
-use Rattle.std.specs.Prelude.{ℕ, List}
+-- The rule of each primitive, by its number.
+use Rattle.std.specs.Prelude.{ℕ, nat_lt, List}
 use Rattle.gem_object.specs.declared.value.Value.{Value}
-use Rattle.object_programs.specs.Run.{Run, fail}
-use Rattle.object_programs.specs.declared.fault.Fault.TheVariants as fault
+use Rattle.object_programs.specs.Run.{Run}
+use Rattle.object_programs.specs.Programs.{choose}
 use Rattle.prim_rules.specs.declared.answer.PrimitiveAnswer.{PrimitiveAnswer}
+use Rattle.prim_rules.specs.FirstRules.{first_rule}
+use Rattle.prim_rules.specs.LaterRules.{later_rule}
 
 module _ {B : Type 0} where
   -- what the primitive of this number does for a receiver and its arguments, the first one first
   unfoldable pub rule_of : (number : ℕ) → (receiver : Value) → (arguments : List Value)
       → Run B PrimitiveAnswer
-  rule_of number receiver arguments = fail fault.ArgumentKind
+  rule_of number receiver arguments = choose (nat_lt number 54)
+      (first_rule number receiver arguments) (later_rule number receiver arguments)

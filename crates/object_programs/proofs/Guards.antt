@@ -61,7 +61,7 @@ class_more name (Some part) above higher names stays is =
     (names_above name part.superclass higher) names (above_more name part.superclass above higher stays) is
 
 module _ (parts later : Parts) (keeps : KeepsParts parts later) where
-  found_more : (name : ℕ) (found : Option Fixed) (above higher : ℕ → Option (List Text)) (names : List Text)
+  pub found_more : (name : ℕ) (found : Option Fixed) (above higher : ℕ → Option (List Text)) (names : List Text)
       → parts name ≡ found
       → ((other : ℕ) (some : List Text) → above other ≡ Some some → higher other ≡ Some some)
       → names_of_part name found above ≡ Some names → names_of_part name (later name) higher ≡ Some names

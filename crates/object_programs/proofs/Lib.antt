@@ -8,3 +8,8 @@ pub mod Objects
 pub mod Reach
 pub mod Orders
 pub mod Rules
+pub mod Spells
+pub mod MethodRules
+pub mod Admits
+pub mod Told
+pub mod Exact

@@ -12,19 +12,21 @@ use Rattle.gem_object.specs.declared.body.ClassBody.{ClassBody}
 use Rattle.gem_object.specs.declared.body.Body.{Body}
 use Rattle.gem_object.specs.declared.body.Body.TheVariants.{Plain, Bytes, Dict, Class, Segment, User, Counter, Bag, RcDict, Queue}
 use Rattle.gem_image.specs.Image.{Contents, Objects}
-use Rattle.gem_world.specs.World.{Setting, World, shown}
+use Rattle.gem_world.specs.World.{Setting, World, name_of, shown}
 use Rattle.gem_sound.specs.Parts.{class_of, user_of, dictionary_of, class_at}
 use Rattle.gem_image.specs.Rights.{rights_of, rights_at}
 use Rattle.gem_sound.specs.Kernel.{KernelClass, kernel_class, KernelBody, kernel_body}
 use Rattle.gem_sound.specs.Inherited.{HasNames, at_the_end, under}
-use Rattle.gem_sound.specs.Sound.{HasPlace, HasPlaceByRow, HasInheritedKind, FitsClass, by_kind, class_object, transcript, NamesFit, HasKernelBody, has_named_slots, KeepsRule, i1, i3, i4, i5}
+use Rattle.gem_sound.specs.Sound.{HasPlace, HasPlaceByRow, HasInheritedKind, FitsClass, by_kind, class_object, transcript, NamesFit, HasKernelBody, has_named_slots, ImageRule, KeepsRule, i1, i2, i3, i4, i5, KeepsRuleAt, IsSoundFor}
 use Rattle.object_programs.specs.Fixed.{body_kind, ClassPart, class_part, Fixed, fixed_of, fixed_by, same_kind, same_number}
 use Rattle.object_programs.specs.Guard.{Parts, holds_of, is_there, is_segment, is_user, is_dictionary, is_known, is_segment_at, names_above, names_of_class, names_of_part, names_within, chain_limit, names_at, has_slots, is_class_object, is_transcript, accepts_by, accepts, named_fit, kernel_fits_by, kernel_fits, kind_is_inherited, has_none, row_fits, are_few, place_fits, fits}
 use Rattle.object_programs.specs.Methods.{methods_fit}
 use Rattle.object_programs.specs.Spelled.{is_spelled}
-use Rattle.object_programs.specs.Laws.{AreSound, Shows}
+use Rattle.object_programs.specs.Laws.{AreSound, HasSpelling, AreStored, Shows}
 use Rattle.object_programs.proofs.Bases.{some_there}
 use Rattle.object_programs.proofs.Sames.{kind_is, number_is}
+use Rattle.object_programs.proofs.Spells.{tells_spelled}
+use Rattle.object_programs.proofs.MethodRules.{tells_methods_fit}
 
 -- what a test holds of is there
 held_of : {X : Type 0} (test : X → Bool) (found : Option X) → holds_of test found ≡ true
@@ -32,7 +34,7 @@ held_of : {X : Type 0} (test : X → Bool) (found : Option X) → holds_of test 
 held_of test None holds = absurd (false≢true holds)
 held_of test (Some x) holds = (x, refl, holds)
 
-abbrev part_of : ClassBody → ClassPart
+abbrev pub part_of : ClassBody → ClassPart
 part_of class = record { superclass = class.superclass; kind = class.kind; names = class.names }
 
 class_body : (body : Body) (part : ClassPart) → class_part body ≡ Some part
@@ -367,6 +369,23 @@ module _ (objects : Objects) (setting : Setting) (world : World) (shows : Shows 
     keeps_references =
         record { no_zero = ltb-true 0 number passed.0; there = all_there (names_in object) passed.1 }
 
+    pub keeps_methods : KeepsRule objects i2 number object
+    keeps_methods = (tells_methods_fit number object.body).to passed.7
+
+    pub keeps_spelling : AreSound setting world → HasSpelling object
+    keeps_spelling sound =
+        let known = and_parts (is_known parts object.class) _ passed.1 in
+        let more = and_parts (is_known parts object.segment) _ known.1 in
+        record {
+          class_name = sound.named object.class (seen_there object.class (known_there object.class known.0));
+          segment_name = sound.named object.segment
+              (seen_there object.segment (known_there object.segment more.0));
+          body = (tells_spelled object.body).to passed.8;
+        }
+      where
+        seen_there : (name : ℕ) → IsSome (objects name) → is_some (shown name setting world) ≡ true
+        seen_there name there = sym (ap is_some (shows name)) ∙ there
+
     pub keeps_places : KeepsRule objects i3 number object
     keeps_places = place_of number object.body
         (ap (option_and_then (λ (some : Contents). class_of some.body)) here) passed.6
@@ -392,3 +411,43 @@ module _ (objects : Objects) (setting : Setting) (world : World) (shows : Shows 
       by : (found : Option Fixed) → parts number ≡ found → is_some found ≡ true → IsSome (objects number)
       by None at some = absurd (false≢true some)
       by (Some fixed) at some = ap is_some (object_there number fixed at).1
+
+  keeps_each : (number : ℕ) (object : Contents) → AreSound setting world → objects number ≡ Some object
+      → (rule : ImageRule) → KeepsRule objects rule number object
+  keeps_each number object sound here i1 = keeps_references number object here (fits_here number object sound here)
+  keeps_each number object sound here i2 = keeps_methods number object here (fits_here number object sound here)
+  keeps_each number object sound here i3 = keeps_places number object here (fits_here number object sound here)
+  keeps_each number object sound here i4 = keeps_kernel number object here (fits_here number object sound here)
+  keeps_each number object sound here i5 = keeps_fitting number object here (fits_here number object sound here)
+
+  none_there : (row : Option KernelBody) → (IsSome row → false ≡ true) → HasKernelBody row None
+  none_there None needed = tt
+  none_there (Some kind) needed = absurd (false≢true (needed refl))
+
+  keeps_at : (number : ℕ) (found : Option Contents) → AreSound setting world → objects number ≡ found
+      → (rule : ImageRule) → KeepsRuleAt objects rule number found
+  keeps_at number (Some object) sound here rule = keeps_each number object sound here rule
+  keeps_at number None sound here i1 = tt
+  keeps_at number None sound here i2 = tt
+  keeps_at number None sound here i3 = tt
+  keeps_at number None sound here i4 = none_there (kernel_body number)
+      (λ needed. sym (ap is_some here) ∙ kernel_here number sound needed)
+  keeps_at number None sound here i5 = tt
+
+  -- sound by the tests is sound by the rules, for the user and the names to be drawn
+  pub sound_for : AreSound setting world → IsSoundFor objects setting.user setting.serial world.next
+  sound_for sound = record {
+    sound = λ number rule. keeps_at number (objects number) sound refl rule;
+    user_there = kind_there (λ fixed. is_user fixed.kind) user_of setting.user (λ object. user_body object.body)
+        sound.user;
+    serial_bound = sound.serial_bound;
+    some_name = sound.some_name;
+    next_bound = sound.next_bound;
+    free = λ counter from below. shows (name_of setting counter) ∙ sound.free counter from below;
+  }
+
+  pub stored : AreSound setting world → AreStored objects
+  stored sound = record {
+    named = λ name there. sound.named name (sym (ap is_some (shows name)) ∙ there);
+    spelled = λ name object here. (keeps_spelling name object here (fits_here name object sound here) sound).body;
+  }

@@ -1,8 +1,11 @@
 //! The errors by which a chunk ends.
-ghost use Rattle.std.specs.Prelude.{◌≡◌};
-ghost use Rattle.object_programs.specs.Fault.{fault_number};
+ghost use Rattle.std.specs.Prelude.{◌≡◌, Some, MatchResult};
+ghost use Rattle.std.specs.Str.{IsUtf8};
+ghost use Rattle.object_programs.specs.Fault.{fault_number, fault_text};
 
 use gem_value::Oid;
+use std::error::Error;
+use std::{fmt, str};
 use texts::Text;
 
 /// An error that ends a chunk.
@@ -79,3 +82,53 @@ impl Fault {
         }
     }
 }
+
+/// The text as characters, to be printed. The error comes only for bytes that aren't UTF-8; what a
+/// chunk names or raises has bytes below 128.
+fn printed(text: &Text) -> Result<&str, fmt::Error>
+    ensures { MatchResult result (λ told. told.now ≡ text.now) (λ _. ¬ (IsUtf8 text.now)) }
+{
+    str::from_utf8(text.bytes()).map_err(|_| fmt::Error)
+}
+
+/// What is printed after `error Ek `. Where a text that the fault holds isn't UTF-8 it isn't printed,
+/// and the answer is an error; so is any refusal of the writer.
+impl fmt::Display for Fault {
+    ghost output = { λ fault. Some (fault_text fault) };
+
+    fn fmt<W: fmt::Write>(&self, f: &mut fmt::Formatter<W>) -> fmt::Result {
+        match self {
+            Fault::NotUnderstood(selector) => {
+                let selector = printed(selector)?;
+                write!(f, "not understood: {selector}")
+            }
+            Fault::UndefinedVariable(name) => {
+                let name = printed(name)?;
+                write!(f, "undefined variable: {name}")
+            }
+            Fault::NotBoolean => f.write_str("not a Boolean"),
+            Fault::Index => f.write_str("index"),
+            Fault::ArgumentKind => f.write_str("argument kind"),
+            Fault::IntegerRange => f.write_str("integer range"),
+            Fault::ZeroDivisor => f.write_str("zero divisor"),
+            Fault::DeadHome => f.write_str("dead home"),
+            Fault::BlockArgumentCount => f.write_str("block argument count"),
+            Fault::NoReadRight(name) => write!(f, "no read right: {name}"),
+            Fault::NoWriteRight(name) => write!(f, "no write right: {name}"),
+            Fault::BlockStored => f.write_str("block stored"),
+            Fault::SendBudget => f.write_str("send budget"),
+            Fault::Depth => f.write_str("depth"),
+            Fault::Space => f.write_str("space"),
+            Fault::NamesUsedUp => f.write_str("names used up"),
+            Fault::ObjectTooLarge => f.write_str("object too large"),
+            Fault::KeyAbsent => f.write_str("key absent"),
+            Fault::SegmentChange => f.write_str("segment change refused"),
+            Fault::Raised(text) => {
+                let text = printed(text)?;
+                write!(f, "error: {text}")
+            }
+        }
+    }
+}
+
+impl Error for Fault {}

@@ -21,3 +21,13 @@ pub const COUNTER_LIMIT: u64 = 1 << 24;
 
 /// How many names of instance variables a class has at most, with those that it inherits.
 pub const NAMES_LIMIT: u64 = 200;
+
+/// How many activations live at once at most: the chunk's own, and one for each method with source
+/// and each block that runs.
+pub const DEPTH_LIMIT: u64 = 2_000;
+
+/// How many groups a segment names at most, and in how many a user is at most.
+pub const GROUPS_LIMIT: u64 = 100;
+
+/// How many bytes the printed text of a value has at most.
+pub const PRINT_LIMIT: u64 = 65_536;

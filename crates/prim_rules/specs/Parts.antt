@@ -1,8 +1,7 @@
 -- What the rules of primitives share: what an argument is, what a body holds, and new objects.
-use Rattle.std.specs.Prelude.{ℕ, ℤ, Bool, true, false, ◌+◌, nat_eq, nat_le, length, sum_by, List, [], ◌∷◌, Option, None, Some, option_map}
+use Rattle.std.specs.Prelude.{ℕ, ℤ, Bool, true, false, nat_eq, length, sum_by, List, [], ◌∷◌, Option, None, Some}
 use Rattle.std.specs.List.{list_any}
 use Rattle.texts.specs.Bytes.{Bytes as Text}
-use Rattle.profile.specs.SmallInteger.{is_small_integer}
 use Rattle.seg_rights.specs.declared.rights.Rights.{Rights}
 use Rattle.gem_object.specs.declared.value.Value.{Value}
 use Rattle.gem_object.specs.declared.value.Value.TheVariants.{Nil, False, True, Int, Char, Sym, Ref, Block}
@@ -11,14 +10,12 @@ use Rattle.gem_object.specs.declared.body.ClassBody.{ClassBody}
 use Rattle.gem_object.specs.declared.body.UserBody.{UserBody}
 use Rattle.gem_object.specs.declared.body.Body.{Body}
 use Rattle.gem_object.specs.declared.body.Body.TheVariants as body
-use Rattle.gem_image.specs.Image.{Contents}
-use Rattle.object_programs.specs.Fixed.{Fixed, ClassPart}
 use Rattle.object_programs.specs.Atom.{Who}
-use Rattle.object_programs.specs.Run.{Run, give, fail, atom, and_then}
+use Rattle.object_programs.specs.Run.{Run, give, atom, and_then}
 use Rattle.object_programs.specs.Programs.{need, check, read, known, classes_above, make_object}
 use Rattle.object_programs.specs.declared.fault.Fault.TheVariants as fault
 use Rattle.prim_rules.specs.declared.answer.PrimitiveAnswer.{PrimitiveAnswer}
-use Rattle.prim_rules.specs.declared.answer.PrimitiveAnswer.TheVariants.{Gives, Evaluates}
+use Rattle.prim_rules.specs.declared.answer.PrimitiveAnswer.TheVariants.{Gives}
 
 -- what a value is, where it is of this kind
 abbrev pub int_in : Value → Option ℤ
@@ -74,7 +71,7 @@ abbrev pub user_in : Body → Option UserBody
 user_in (body.User user) = Some user
 user_in _ = None
 
--- the one argument, the two, and the three
+-- the one argument, the two, and the three; whether there is none
 abbrev pub one_of : List Value → Option Value
 one_of (value ∷ []) = Some value
 one_of _ = None
@@ -86,6 +83,10 @@ two_of _ = None
 abbrev pub three_of : List Value → Option (Value × (Value × Value))
 three_of (first ∷ second ∷ third ∷ []) = Some (first, (second, third))
 three_of _ = None
+
+abbrev pub is_empty : List Value → Bool
+is_empty [] = true
+is_empty (first ∷ rest) = false
 
 -- the class of a value that isn't a reference, by its name
 abbrev pub class_of_plain : Value → Option ℕ
@@ -99,6 +100,10 @@ class_of_plain (Block _) = Some 10
 class_of_plain (Ref _) = None
 
 module _ {B : Type 0} where
+  -- E5, unless there are no arguments
+  abbrev pub no_arguments : List Value → Run B (Unit {0})
+  no_arguments arguments = check fault.ArgumentKind (is_empty arguments)
+
   -- the class of a value, by its fixed part: without a touch
   abbrev pub class_of_reference : ℕ → Run B ℕ
   class_of_reference name =
@@ -135,12 +140,15 @@ module _ {B : Type 0} where
       and_then (need (fault.NoReadRight user) (user_in profile.body)) (λ found.
       give found.default_segment)))
 
-  -- a new object of this class and body in that segment; a reference to it
-  unfoldable pub new_object : (class : ℕ) → Body → Run B Value
-  new_object class body =
-      and_then default_segment (λ segment.
+  -- a new object of this class and body in a segment; a reference to it
+  unfoldable pub new_object_in : (segment class : ℕ) → Body → Run B Value
+  new_object_in segment class body =
       and_then (make_object (λ name. record { class = class; segment = segment; body = body }))
-          (λ name. give (Ref name)))
+      (λ name. give (Ref name))
+
+  -- the same in the user's default segment
+  unfoldable pub new_object : (class : ℕ) → Body → Run B Value
+  new_object class body = and_then default_segment (λ segment. new_object_in segment class body)
 
   -- a program that ends with a value as the answer of a primitive
   abbrev pub answers : Run B Value → Run B PrimitiveAnswer

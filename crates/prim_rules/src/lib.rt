@@ -3,5 +3,7 @@
 #![tactic(auto)]
 
 mod answer;
+pub mod later_laws;
+pub mod laws;
 
 pub use answer::PrimitiveAnswer;

@@ -1,0 +1,4 @@
+pub mod Deeds
+pub mod Cascades
+pub mod Turns
+pub mod SpecialForms

@@ -1,6 +1,5 @@
 -- What a method, a chunk and a made block mean, once their variables stand in the innermost scope.
-use Rattle.std.specs.Prelude.{ℕ, Bool, true, false, List, [], ◌∷◌, ◌++◌, length}
-use Rattle.texts.specs.Bytes.{Bytes as Text}
+use Rattle.std.specs.Prelude.{ℕ, true, false, [], ◌∷◌, ◌++◌, length}
 use Rattle.st_tree.specs.Trees.{Closure, closure, Statements, Program}
 use Rattle.object_programs.specs.Run.{return_to, and_then}
 use Rattle.tree_meaning.specs.Place.{Place, Frame}
@@ -31,16 +30,17 @@ module _ (outside : Outside) where
   unfoldable pub method_body : Program → Frame → ValueRun
   method_body tree frame =
       and_then (statements_in_turn (statement_runs outside tree.body) (method_place tree) frame)
-          (λ answer. return_to frame.receiver frame.home)
+      (λ answer. return_to frame.receiver frame.home)
 
   -- A chunk answers its last statement's value, as if `^` stood before that, and nil where it is
   -- empty.
   unfoldable pub chunk_body : Program → Frame → ValueRun
   chunk_body tree frame =
       and_then (statements_in_turn (statement_runs outside tree.body) (method_place tree) frame)
-          (λ answer. return_to answer frame.home)
+      (λ answer. return_to answer frame.home)
 
   -- A block answers its last statement's value, and nil where it is empty.
   unfoldable pub block_body : Closure → Place → Frame → ValueRun
   block_body tree place frame =
-      statements_in_turn (statement_runs outside (statements_of tree)) (block_place tree place) frame
+      statements_in_turn (statement_runs outside (statements_of tree)) (block_place tree place)
+          frame

@@ -32,8 +32,8 @@ activation body temps holder class_side receiver arguments = seeing (λ budget l
     ending (body (method_frame holder class_side receiver local)) (λ end.
     leave_method (mark local) end)))
 
--- The evaluation of a made block: a scope with its arguments and its temporaries inside the scopes in
--- which it was made, the body, and the end.
+-- The evaluation of a made block: a scope with its arguments and its temporaries inside the scopes
+-- in which it was made, the body, and the end.
 unfoldable pub evaluation : (body : Frame → ValueRun) → (temps : ℕ) → Frame
     → (arguments : List Value) → ValueRun
 evaluation body temps frame arguments = seeing (λ budget local.
@@ -48,7 +48,7 @@ abbrev pub call_block : (MadeBlock → List Value → ValueRun) → Option MadeB
 call_block call None arguments = fail fault.ArgumentKind
 call_block call (Some made) arguments =
     and_then (check fault.BlockArgumentCount
-        (nat_eq (length arguments) (params_count made.tree))) (λ checked.
+    (nat_eq (length arguments) (params_count made.tree))) (λ checked.
     call made arguments)
 
 unfoldable pub call_block_at : (MadeBlock → List Value → ValueRun) → (number : ℕ)
@@ -60,6 +60,6 @@ call_block_at call number arguments =
 unfoldable pub make_block : Closure → Place → Frame → ValueRun
 make_block tree place frame = seeing (λ budget local.
     and_then (become (record local {
-        blocks = local.blocks ++ record { tree = tree; place = place; frame = frame } ∷ [];
+      blocks = local.blocks ++ record { tree = tree; place = place; frame = frame } ∷ [];
     })) (λ made.
     give (value.Block (record { number = length local.blocks; params = params_count tree }))))

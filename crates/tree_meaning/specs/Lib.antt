@@ -7,3 +7,5 @@ pub mod Loops
 pub mod Meaning
 pub mod Bodies
 pub mod Calls
+pub mod Replies
+pub mod Reading

@@ -1,5 +1,5 @@
--- Loops. A loop ends at the latest when no unit is left: so it is told by recursion on how many turns
--- there can be, which is one more than the units that are left.
+-- Loops. A loop ends at the latest when no unit is left: so it is told by recursion on how many
+-- turns there can be, which is one more than the units that are left.
 use Rattle.std.specs.Prelude.{ℕ, zero, suc, Bool, ℤ, pos, ◌+ℤ◌, int_le}
 use Rattle.gem_object.specs.declared.value.Value.{Value}
 use Rattle.gem_object.specs.declared.value.Value.TheVariants.{Nil, Int}
@@ -19,9 +19,9 @@ while_turns_up_to zero when condition body = fail fault.SendBudget
 while_turns_up_to (suc turns) when condition body =
     and_then condition (λ test.
     by_truth (truth_of test) when
-        (and_then (atom Tick) (λ ticked.
-         and_then body (λ answer. while_turns_up_to turns when condition body)))
-        (give Nil))
+    (and_then (atom Tick) (λ ticked.
+    and_then body (λ answer. while_turns_up_to turns when condition body)))
+    (give Nil))
 
 unfoldable pub while_turns : (when : Bool) → (condition body : ValueRun) → ValueRun
 while_turns when condition body =
@@ -33,19 +33,19 @@ while_loop when condition body =
     and_then (atom Tick) (λ ticked. while_turns when condition body)
 
 -- The turns of a counting loop from a number to a limit: where the number isn't above the limit, a
--- unit, the body with the number, and the turns from the next one on, where there is a next integer.
--- The answer is that of the loop.
+-- unit, the body with the number, and the turns from the next one on, where there is a next
+-- integer. The answer is that of the loop.
 abbrev pub count_turns_up_to : ℕ → (number limit : ℤ) → (Value → ValueRun) → (answer : Value)
     → ValueRun
 count_turns_up_to zero number limit body answer = fail fault.SendBudget
 count_turns_up_to (suc turns) number limit body answer =
     choose (int_le number limit)
-        (and_then (atom Tick) (λ ticked.
-         and_then (body (Int number)) (λ ended.
-         choose (int_le LARGEST_INTEGER number)
-             (give answer)
-             (count_turns_up_to turns (number +ℤ pos 1) limit body answer))))
-        (give answer)
+    (and_then (atom Tick) (λ ticked.
+    and_then (body (Int number)) (λ ended.
+    choose (int_le LARGEST_INTEGER number)
+    (give answer)
+    (count_turns_up_to turns (number +ℤ pos 1) limit body answer))))
+    (give answer)
 
 unfoldable pub count_turns : (number limit : ℤ) → (Value → ValueRun) → (answer : Value) → ValueRun
 count_turns number limit body answer =

@@ -1,16 +1,16 @@
--- What a tree means: a program for each of its parts. What stands outside a tree, as sends and names
--- that are no variables, is one record of programs. All that decides, as special forms, cascades and
--- loops, is a function over small records of programs, and looks at no tree.
-use Rattle.std.specs.Prelude.{ℕ, pos, Bool, true, false, List, [], ◌∷◌, ◌++◌, length, Option, None, Some}
+-- What a tree means: a program for each of its parts. What stands outside a tree, as sends and
+-- names that are no variables, is one record of programs. All that decides, as special forms,
+-- cascades and loops, is a function over small records of programs, and looks at no tree.
+use Rattle.std.specs.Prelude.{pos, Bool, true, false, List, [], ◌∷◌, ◌++◌, length, Option, None, Some}
 use Rattle.texts.specs.Bytes.{Bytes as Text}
 use Rattle.st_tree.specs.Trees.{Constant, int, char, str, sym, nothing, yes, no, array, Head, name, constant, block, paren, Closure, closure, Expression, expression, Expressions, no_expressions, an_expression, Send, send, Sends, no_sends, a_send, Statement, statement, Statements, no_statements, a_statement}
 use Rattle.gem_object.specs.declared.value.Value.{Value}
 use Rattle.gem_object.specs.declared.value.Value.TheVariants as value
 use Rattle.object_programs.specs.Atom.{Tick}
-use Rattle.object_programs.specs.Run.{Run, give, fail, return_to, atom, seeing, and_then}
+use Rattle.object_programs.specs.Run.{give, fail, return_to, atom, seeing, and_then}
 use Rattle.object_programs.specs.Programs.{choose}
 use Rattle.object_programs.specs.declared.fault.Fault.TheVariants as fault
-use Rattle.tree_meaning.specs.Place.{Place, Frame, MadeBlock}
+use Rattle.tree_meaning.specs.Place.{Place, Frame}
 use Rattle.tree_meaning.specs.Names.{where_is, is_super, singleton_value}
 use Rattle.tree_meaning.specs.Forms.{form_under, first_loop}
 use Rattle.tree_meaning.specs.Operands.{ValueRun, truth_of, by_truth, int_pair}
@@ -23,8 +23,8 @@ use Rattle.tree_meaning.specs.declared.form.Form.TheVariants.{Plain, OneArm, Two
 
 -- What stands outside a tree.
 pub record Outside : Type 1 where
-  -- A message with this selector to a receiver, with its arguments, the LAST one first. It begins by
-  -- spending its unit.
+  -- A message with this selector to a receiver, with its arguments, the LAST one first. It begins
+  -- by spending its unit.
   pub send_message : (to_super : Bool) → Text → Frame → (receiver : Value)
       → (arguments : List Value) → ValueRun
   -- the value of a name that is no variable in scope, and an assignment to it, which answers the
@@ -36,14 +36,14 @@ pub record Outside : Type 1 where
   -- a new block, where it stands at this place
   pub make_block : Closure → Place → Frame → ValueRun
 
--- What an argument of a message means: its value; and as a block that is evaluated in its place, with
--- what its parameter is handed.
+-- What an argument of a message means: its value; and as a block that is evaluated in its place,
+-- with what its parameter is handed.
 pub record Argument : Type 1 where
   pub value : Place → Frame → ValueRun
   pub in_place : Place → Option Value → Frame → ValueRun
 
--- What a message means to a receiver: as one that is sent, and by its special form, where it has one;
--- and its argument as the body of a while loop.
+-- What a message means to a receiver: as one that is sent, and by its special form, where it has
+-- one; and its argument as the body of a while loop.
 pub record Message : Type 1 where
   pub as_sent : (to_super : Bool) → (receiver : Value) → Place → Frame → ValueRun
   pub by_form : (to_super : Bool) → (receiver : Value) → Place → Frame → ValueRun
@@ -106,8 +106,8 @@ cascade_in_turn message (next ∷ rest) to_super receiver place frame =
     and_then (message.as_sent to_super receiver place frame) (λ answer.
     cascade_in_turn next rest to_super receiver place frame)
 
--- Messages one after the other, each to the answer of the one before it; the last of them begins the
--- cascade, where there is one. Only the first of them is sent to `super`.
+-- Messages one after the other, each to the answer of the one before it; the last of them begins
+-- the cascade, where there is one. Only the first of them is sent to `super`.
 abbrev pub messages_in_turn : (messages cascade : List Message) → (to_super : Bool)
     → (receiver : Value) → Place → Frame → ValueRun
 messages_in_turn [] cascade to_super receiver place frame = give receiver
@@ -127,7 +127,7 @@ head_and_messages None to_super head condition messages cascade place frame =
     messages_in_turn messages cascade to_super receiver place frame)
 head_and_messages (Some when) to_super head condition messages cascade place frame =
     and_then (while_loop when (condition place None frame) (first_body messages place frame))
-        (λ answer. messages_in_turn (rest_messages messages) cascade false answer place frame)
+    (λ answer. messages_in_turn (rest_messages messages) cascade false answer place frame)
 
 -- statements one after the other: the answer is that of the last one, and nil where there is none
 abbrev pub statements_from : (Place → Frame → ValueRun) → List (Place → Frame → ValueRun) → Place
@@ -140,8 +140,8 @@ abbrev pub statements_in_turn : List (Place → Frame → ValueRun) → Place �
 statements_in_turn [] place frame = give value.Nil
 statements_in_turn (first ∷ rest) place frame = statements_from first rest place frame
 
--- An answer by `^`. A method that runs is still there; the one in which a block stands may have ended:
--- then E8.
+-- An answer by `^`. A method that runs is still there; the one in which a block stands may have
+-- ended: then E8.
 abbrev pub return_value : (in_block : Bool) → Frame → Value → ValueRun
 return_value false frame answer = return_to answer frame.home
 return_value true frame answer = seeing (λ budget local.
@@ -197,24 +197,24 @@ module _ (outside : Outside) where
   message (OneArm when otherwise) selector arguments to_super receiver place frame =
       and_then (atom Tick) (λ ticked.
       by_truth (truth_of receiver) when
-          ((first_argument arguments).in_place place None frame)
-          (give (singleton_value otherwise)))
+      ((first_argument arguments).in_place place None frame)
+      (give (singleton_value otherwise)))
   message (TwoArms when) selector arguments to_super receiver place frame =
       and_then (atom Tick) (λ ticked.
       by_truth (truth_of receiver) when
-          ((first_argument arguments).in_place place None frame)
-          ((first_argument (rest_arguments arguments)).in_place place None frame))
+      ((first_argument arguments).in_place place None frame)
+      ((first_argument (rest_arguments arguments)).in_place place None frame))
   message Counting selector arguments to_super receiver place frame =
       and_then ((first_argument arguments).value place frame) (λ limit.
       and_then (atom Tick) (λ ticked.
       count_between (int_pair receiver limit)
-          (λ number. (first_argument (rest_arguments arguments)).in_place place (Some number) frame)
-          receiver))
+      (λ number. (first_argument (rest_arguments arguments)).in_place place (Some number) frame)
+      receiver))
   message Repeating selector arguments to_super receiver place frame =
       and_then (atom Tick) (λ ticked.
       count_between (int_pair (value.Int (pos 1)) receiver)
-          (λ number. (first_argument arguments).in_place place None frame)
-          receiver)
+      (λ number. (first_argument arguments).in_place place None frame)
+      receiver)
 
   -- what each part of a tree means
   abbrev mutual
@@ -239,10 +239,10 @@ module _ (outside : Outside) where
     pub expression_value : Expression → Place → Frame → ValueRun
     expression_value (expression assigns head messages cascade) place frame =
         and_then
-            (head_and_messages (first_loop head messages cascade) (is_super_head head)
-                (head_value head) (head_in_place head) (messages_of messages)
-                (messages_of cascade) place frame)
-            (λ answer. assign_all assigns place frame answer)
+        (head_and_messages (first_loop head messages cascade) (is_super_head head)
+        (head_value head) (head_in_place head) (messages_of messages)
+        (messages_of cascade) place frame)
+        (λ answer. assign_all assigns place frame answer)
 
     pub expression_in_place : Expression → Place → Option Value → Frame → ValueRun
     expression_in_place (expression assigns head messages cascade) place handed frame =
@@ -258,7 +258,7 @@ module _ (outside : Outside) where
           message Plain selector (arguments_of arguments) to_super receiver place frame;
       by_form = λ to_super receiver place frame.
           message (form_under to_super selector arguments) selector (arguments_of arguments)
-              to_super receiver place frame;
+          to_super receiver place frame;
       body = λ place frame. (first_argument (arguments_of arguments)).in_place place None frame;
     }
 

@@ -1,5 +1,5 @@
 -- What the special forms ask of values.
-use Rattle.std.specs.Prelude.{Bool, true, false}
+use Rattle.std.specs.Prelude.{Bool}
 use Rattle.gem_object.specs.declared.value.Value.{Value}
 use Rattle.gem_object.specs.declared.value.Value.TheVariants as value
 use Rattle.object_programs.specs.Run.{Run, fail}

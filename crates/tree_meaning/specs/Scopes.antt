@@ -3,11 +3,11 @@
 -- Scopes and activations have numbers, in the order in which they came. Where one ends and no block
 -- was made since it began, it is given back with all that came after it: nothing can refer to it
 -- any more, and no script sees the difference. Where a block was made all of them stay.
-use Rattle.std.specs.Prelude.{ℕ, zero, suc, ◌+◌, Bool, true, false, nat_eq, List, [], ◌∷◌, ◌++◌, length, get_or, take, set, replicate}
+use Rattle.std.specs.Prelude.{ℕ, zero, suc, Bool, true, false, nat_eq, List, [], ◌∷◌, ◌++◌, length, get_or, take, set, replicate}
 use Rattle.gem_object.specs.declared.value.Value.{Value}
 use Rattle.gem_object.specs.declared.value.Value.TheVariants.{Nil}
 use Rattle.object_programs.specs.Local.{Local}
-use Rattle.object_programs.specs.Run.{Run, give, fail, return_to, seeing, become, and_then, Ending, gives, returns, fails}
+use Rattle.object_programs.specs.Run.{give, fail, return_to, seeing, become, and_then, Ending, gives, returns, fails}
 use Rattle.object_programs.specs.Programs.{choose}
 use Rattle.tree_meaning.specs.Place.{Frame, MadeBlock}
 use Rattle.tree_meaning.specs.Operands.{ValueRun}
@@ -113,8 +113,8 @@ same_ending (gives value) = give value
 same_ending (returns value number) = return_to value number
 same_ending (fails fault) = fail fault
 
--- A method's end: its activation lives no more, and what came since it began is given back, where no
--- block was made.
+-- A method's end: its activation lives no more, and what came since it began is given back, where
+-- no block was made.
 abbrev pub leave_method : Mark → Ending Value → ValueRun
 leave_method mark end = seeing (λ budget local.
     and_then (become (give_back mark (end_living mark.living local))) (λ left.

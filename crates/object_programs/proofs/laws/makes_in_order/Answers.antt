@@ -1,4 +1,4 @@
-use Rattle.std.proofs.Common.{true}
+use Rattle.std.proofs.Common.{true, false}
 use Rattle.object_programs.proofs.Orders.{large, used_up, too_little, made}
 use Rattle.object_programs.proofs.laws.makes_in_order.Goals as goal
 
@@ -14,3 +14,7 @@ returns-clause-too_little c = too_little
 pub returns-clause-made : goal.returns-clause-made
 returns-clause-made c objects_at setting world budget may within below enough =
     made objects_at setting world budget true may within below enough
+
+pub returns-clause-unfit : goal.returns-clause-unfit
+returns-clause-unfit c objects_at setting world budget unfit within below enough =
+    made objects_at setting world budget false unfit within below enough

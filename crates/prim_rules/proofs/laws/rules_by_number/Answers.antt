@@ -1,0 +1,7 @@
+use Rattle.std.specs.Prelude.{refl}
+use Rattle.op_table.specs.Prims.{primitives}
+use Rattle.prim_rules.proofs.laws.rules_by_number.Goals as goal
+
+pub returns : goal.returns
+unfolding primitives
+returns c = refl

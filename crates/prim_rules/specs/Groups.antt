@@ -1,0 +1,32 @@
+-- Groups of segments and of users. They stand in the order of their bytes, each once.
+use Rattle.std.specs.Prelude.{ℕ, Bool, nat_le, bytes_eq, length, List}
+use Rattle.std.specs.Ordering.{nat_cmp}
+use Rattle.std.specs.Cmp.Lexicographic.{slice_cmp}
+use Rattle.std.specs.BTreeMap.{insert_entry}
+use Rattle.std.specs.BTreeSet.{insert_key}
+use Rattle.std.specs.Map.{remove_entry}
+use Rattle.std.specs.Set.{remove_key}
+use Rattle.texts.specs.Bytes.{Bytes as Text}
+use Rattle.seg_rights.specs.declared.right.Right.{Right}
+use Rattle.seg_rights.specs.declared.right.Right.TheVariants.{None as NoRight, Read, Write}
+
+-- how many groups a segment or a user has at most
+abbrev pub groups_limit : ℕ
+groups_limit = 100
+
+abbrev pub are_few_groups : {X : Type 0} → List X → Bool
+are_few_groups groups = nat_le (length groups) groups_limit
+
+-- the groups of a user with this one, and without it
+abbrev pub with_group : Text → List Text → List Text
+with_group group groups = insert_key (slice_cmp nat_cmp) groups group
+
+abbrev pub without_group : Text → List Text → List Text
+without_group group groups = remove_key (bytes_eq group) groups
+
+-- The groups of a segment where this one has that right: a group without a right isn't among them,
+-- and one that was there gets the right in place of the one that it had.
+abbrev pub with_right : Text → Right → List (Text × Right) → List (Text × Right)
+with_right group NoRight groups = remove_entry (bytes_eq group) groups
+with_right group Read groups = insert_entry (slice_cmp nat_cmp) groups group Read
+with_right group Write groups = insert_entry (slice_cmp nat_cmp) groups group Write
