@@ -1,5 +1,5 @@
 -- What is told of the parts of a program by what the whole answers.
-use Rattle.std.proofs.Common.{◌≡◌, ◌∙◌, refl, sym, ap, subst, ℕ, Bool, true, false, cond, Option, Some, None, List}
+use Rattle.std.proofs.Common.{◌≡◌, ◌∙◌, refl, sym, ap, ℕ, Bool, true, false, cond, Option, Some, None}
 use Rattle.gem_object.specs.declared.value.Value.{Value}
 use Rattle.gem_image.specs.Image.{Contents}
 use Rattle.gem_world.specs.World.{Setting, World, shown, touch}
@@ -68,11 +68,11 @@ module _ (setting : Setting) where
   read_gives name state object after is = gives_by (is_allowed a_read name setting state.world)
       (shown name setting state.world) (ap (λ (o : Outcome MadeBlock _). o.end) is)
     where
-    gives_by : (allowed : Bool) (found : Option Contents)
-        → end_of (access_answer allowed a_read name found) ≡ gives object → found ≡ Some object
-    gives_by true (Some other) is = ap (λ (o : Contents). Some o) (same_answer other object is)
-    gives_by true None is = absurd (fails_gives _ object is)
-    gives_by false found is = absurd (fails_gives _ object is)
+      gives_by : (allowed : Bool) (found : Option Contents)
+          → end_of (access_answer allowed a_read name found) ≡ gives object → found ≡ Some object
+      gives_by true (Some other) is = ap (λ (o : Contents). Some o) (same_answer other object is)
+      gives_by true None is = absurd (fails_gives _ object is)
+      gives_by false found is = absurd (fails_gives _ object is)
 
   touched_by : (allowed : Bool) (name : ℕ) (found seen : Option Contents) (world : World)
       → cond allowed (after_allowed a_read name seen (touches_of name found setting world))

@@ -5,3 +5,4 @@ mod OneFound
 mod Readings
 mod NameReadings
 mod LiteralReadings
+mod CommandReadings

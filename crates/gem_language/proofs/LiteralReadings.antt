@@ -1,7 +1,6 @@
 -- Literals make what the relation says.
-use Rattle.std.proofs.Common.{arith, ◌≡◌, ◌∙◌, refl, ap, ℕ, Bool, true, false, ◌&&◌, ◌<◌, ◌≤◌, nat_le, length, Option, Some, None, List, [], ◌∷◌}
+use Rattle.std.proofs.Common.{arith, ◌≡◌, ◌∙◌, refl, ap, ℕ, Bool, true, false, ◌&&◌, ◌<◌, nat_le, length, Option, Some, None, List, [], ◌∷◌}
 use Rattle.std.proofs.lemmas.Bool.{leb-true}
-use Rattle.texts.specs.Bytes.{Bytes as Text}
 use Rattle.profile.specs.declared.limits.TheConstants.{SYMBOL_LIMIT}
 use Rattle.st_tree.specs.Trees.{Constant, int, char, str, sym as symbol, nothing, yes, no, array, Constants, no_constants, a_constant}
 use Rattle.gem_object.specs.declared.value.Value.{Value}

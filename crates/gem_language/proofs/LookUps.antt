@@ -10,18 +10,18 @@ use Rattle.gem_object.specs.declared.body.Body.TheVariants as body
 use Rattle.gem_image.specs.Image.{Contents, Objects}
 use Rattle.gem_sound.specs.Kernel.{class_class}
 use Rattle.gem_sound.specs.Parts.{class_of, class_at}
-use Rattle.gem_world.specs.World.{Setting, shown_objects, shown}
-use Rattle.object_programs.specs.Fixed.{fixed_of, fixed_by}
+use Rattle.gem_world.specs.World.{Setting, shown_objects}
+use Rattle.object_programs.specs.Fixed.{fixed_of}
 use Rattle.object_programs.specs.Guard.{chain_limit}
-use Rattle.object_programs.specs.Atom.{Kind, touch_missing}
-use Rattle.object_programs.specs.Run.{Run, give, atom, and_then, gives, State, Outcome, perform}
+use Rattle.object_programs.specs.Atom.{touch_missing}
+use Rattle.object_programs.specs.Run.{Run, give, gives, State, Outcome}
 use Rattle.object_programs.specs.Programs.{read}
 use Rattle.tree_meaning.specs.Place.{Frame, MadeBlock}
 use Rattle.gem_language.specs.declared.found.Found.{Found}
 use Rattle.gem_language.specs.LookUp.{FindingRun, methods_on, code_of, found_or, from_superclass, found_from, up_within, up_classes, past_last, Start, found_at, start_of_object, start_of_receiver, superclass_of, start_above, start_of, find_method}
 use Rattle.gem_language.specs.Comes.{Comes, OnlyTouched}
 use Rattle.gem_language.specs.Finds.{Finds, in_class, above, no_class, past_class_sides, past_all, superclass_at, BeginsAt, at_class_side, at_class, at_kernel_class, at_superclass, FindsFor}
-use Rattle.gem_language.proofs.Ends.{fails_gives, same_answer, Both, both, read_gives, read_touches, touched_along}
+use Rattle.gem_language.proofs.Ends.{fails_gives, same_answer, both, read_gives, read_touches, touched_along}
 
 module _ (setting : Setting) where
   -- what is seen in a state
@@ -206,8 +206,8 @@ module _ (setting : Setting) where
           class = superclass_at now frame.holder;
           class_side = frame.class_side;
         } = sym (same_answer _ start (ap (λ (o : Outcome MadeBlock Start). o.end) is))
-            ∙ ap (λ (class : Option ℕ). record { class = class; class_side = frame.class_side })
-            (super_is (now frame.holder)) in (
+        ∙ ap (λ (class : Option ℕ). record { class = class; class_side = frame.class_side })
+        (super_is (now frame.holder)) in (
           subst (λ (other : Start). BeginsAt now frame true receiver other.class_side other.class) (sym same)
               (at_superclass receiver),
           record { touched = _; same = sym (ap (λ (o : Outcome MadeBlock Start). o.state) is) },

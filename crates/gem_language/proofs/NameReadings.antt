@@ -14,17 +14,17 @@ use Rattle.gem_world.specs.Access.{Access, a_read, a_write, is_allowed, accessed
 use Rattle.object_programs.specs.declared.fault.Fault.{Fault}
 use Rattle.object_programs.specs.declared.fault.Fault.TheVariants as fault
 use Rattle.object_programs.specs.Guard.{chain_limit}
-use Rattle.object_programs.specs.Atom.{Ask, Own, access_answer}
-use Rattle.object_programs.specs.Run.{Run, give, fail, atom, and_then, Ending, gives, fails, State, Outcome, end_of, perform}
+use Rattle.object_programs.specs.Atom.{Ask, access_answer}
+use Rattle.object_programs.specs.Run.{Run, give, atom, and_then, gives, fails, State, Outcome, end_of, perform}
 use Rattle.object_programs.specs.Programs.{need, check, read, write, replace_body}
 use Rattle.tree_meaning.specs.Place.{Frame, MadeBlock}
 use Rattle.tree_meaning.specs.Names.{index_of}
 use Rattle.prim_rules.specs.Parts.{is_block}
 use Rattle.gem_language.specs.KernelNames.{globals}
-use Rattle.gem_language.specs.OutOfScope.{inherited_names, names_of_class, names_within, instance_names, slot_of, global_in, global_at, own_globals, own_global, or_in_globals, find_global, global_value, instance_value, put_in_slot, set_instance_value, value_of_name, read_out_of_scope, assign_name, write_out_of_scope}
+use Rattle.gem_language.specs.OutOfScope.{inherited_names, names_of_class, names_within, instance_names, slot_of, global_in, global_at, own_global, or_in_globals, find_global, global_value, instance_value, put_in_slot, set_instance_value, value_of_name, read_out_of_scope, assign_name, write_out_of_scope}
 use Rattle.gem_language.specs.Comes.{Comes}
 use Rattle.gem_language.specs.ReadingNames.{Accesses, Reads, Writes, HasInstanceNames, at_the_end, under, no_class, with_profile, own_dictionary, HasGlobal, own, shared, no_profile, HasValue, of_instance, of_global, of_class_side, Assigns}
-use Rattle.gem_language.proofs.Ends.{fails_gives, same_answer, Both, both, then_comes}
+use Rattle.gem_language.proofs.Ends.{fails_gives, same_answer, both, then_comes}
 
 some_of : {A : Type 0} → A → Option A → A
 some_of other None = other

@@ -1,5 +1,5 @@
 -- What the relations of the reading say is what programs do.
-use Rattle.std.proofs.Common.{◌≡◌, ◌∙◌, refl, sym, ap, subst, ℕ, zero, suc, Bool, true, false, nat_eq, length, Option, Some, None, List, reverse, slice_get, Result, Ok, Err}
+use Rattle.std.proofs.Common.{◌≡◌, ◌∙◌, refl, sym, ap, subst, ℕ, zero, suc, Bool, true, false, nat_eq, length, Option, Some, None, List, slice_get, Result, Ok, Err}
 use Rattle.std.proofs.lemmas.List.{reverse-reverse}
 use Rattle.texts.specs.Bytes.{Bytes as Text}
 use Rattle.st_tree.specs.Trees.{Program}
@@ -11,7 +11,7 @@ use Rattle.gem_object.specs.declared.body.MethodCode.TheVariants.{Source, Primit
 use Rattle.gem_world.specs.World.{Setting}
 use Rattle.object_programs.specs.declared.fault.Fault.TheVariants as fault
 use Rattle.object_programs.specs.Atom.{Tick}
-use Rattle.object_programs.specs.Run.{Run, atom, and_then, Ending, gives, returns, fails, State, Outcome, onward, perform}
+use Rattle.object_programs.specs.Run.{atom, and_then, Ending, gives, returns, fails, State, Outcome, onward, perform}
 use Rattle.object_programs.specs.Programs.{check}
 use Rattle.tree_meaning.specs.Place.{MadeBlock}
 use Rattle.tree_meaning.specs.Operands.{ValueRun}
@@ -21,7 +21,7 @@ use Rattle.prim_rules.specs.declared.answer.PrimitiveAnswer.{PrimitiveAnswer}
 use Rattle.prim_rules.specs.declared.answer.PrimitiveAnswer.TheVariants.{Gives, Evaluates}
 use Rattle.gem_language.specs.declared.found.Found.{Found}
 use Rattle.gem_language.specs.RuleOf.{rule_of}
-use Rattle.gem_language.specs.Sends.{Callee, callee, outside, send_by, call_found, call_code, call_source, primitive_value}
+use Rattle.gem_language.specs.Sends.{callee, outside, send_by, call_found, call_code, call_source, primitive_value}
 use Rattle.gem_language.specs.Comes.{Comes}
 use Rattle.gem_language.specs.Reading.{Sent, look_up, stop_of, with_units, BlockComes, no_block, other_count, too_deep, evaluated, CallComes, primitive_stops, primitive_gives, primitive_evaluates, no_tree, method_too_deep, activated, SendComes, no_unit, look_up_stops, not_understood, called, send_program}
 

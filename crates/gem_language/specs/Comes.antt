@@ -1,7 +1,7 @@
 -- How programs end, as relations of states.
 use Rattle.std.specs.Prelude.{◌≡◌, ℕ, List}
 use Rattle.gem_world.specs.World.{Setting}
-use Rattle.object_programs.specs.Run.{Run, Ending, State, Outcome, perform}
+use Rattle.object_programs.specs.Run.{Run, Ending, State, perform}
 use Rattle.tree_meaning.specs.Place.{MadeBlock}
 
 -- from this state the program ends so, and leaves that state

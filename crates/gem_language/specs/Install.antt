@@ -50,7 +50,7 @@ put_method class_side new source name =
     and_then (need fault.ArgumentKind (class_of object.body)) (λ class.
     and_then (check fault.ObjectTooLarge (nat_le (length new.selector) SYMBOL_LIMIT)) (λ short.
     replace_body (bytes_cost (length source)) name object
-        (body.Class (class_with class_side new class))))))
+    (body.Class (class_with class_side new class))))))
 
 -- The source of a method with this selector is put into the class that a global names; E2 where
 -- there is no such global.

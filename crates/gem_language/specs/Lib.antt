@@ -12,3 +12,4 @@ pub mod Finds
 pub mod Reading
 pub mod ReadingNames
 pub mod ReadingLiterals
+pub mod ReadingCommands

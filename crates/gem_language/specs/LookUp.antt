@@ -54,7 +54,7 @@ abbrev pub found_from : (class_side : Bool) → Text → (name : ℕ) → Option
 found_from class_side selector name None above past = past
 found_from class_side selector name (Some class) above past =
     found_or name class_side (code_of selector (methods_on class_side class))
-        (from_superclass class.superclass above past)
+    (from_superclass class.superclass above past)
 
 -- The classes from this one up, on one side: each is read. More classes than there are names are
 -- never gone through.
@@ -63,7 +63,7 @@ up_within zero class_side selector past name = fail (fault.NotUnderstood selecto
 up_within (suc more) class_side selector past name =
     and_then (read name) (λ object.
     found_from class_side selector name (class_of object.body)
-        (up_within more class_side selector past) past)
+    (up_within more class_side selector past) past)
 
 unfoldable pub up_classes : (class_side : Bool) → Text → (past : FindingRun) → (name : ℕ)
     → FindingRun

@@ -64,7 +64,7 @@ pub data BlockComes (depth : ℕ) (setting : Setting) (number : ℕ) (values : L
       → slice_get state.local.blocks number ≡ Some made
       → nat_eq (length values) (params_count made.tree) ≡ true → depth ≡ suc below
       → Comes (evaluation (block_body (outside below) made.tree made.place)
-          (temps_count made.tree) made.frame values) setting state end after
+      (temps_count made.tree) made.frame values) setting state end after
       → BlockComes depth setting number values state end after
 
 -- A method that was found is called.
@@ -100,7 +100,7 @@ pub data CallComes (depth : ℕ) (setting : Setting) (message : Sent) (found : F
       (after : State MadeBlock) → found.code ≡ Source source
       → tree_of method source ≡ Ok tree → depth ≡ suc below
       → Comes (activation (method_body (outside below) tree) (length tree.temps) found.holder
-          found.class_side message.receiver message.arguments) setting state end after
+      found.class_side message.receiver message.arguments) setting state end after
       → CallComes depth setting message found state end after
 
 -- A send: a unit, then the look-up, then the method.

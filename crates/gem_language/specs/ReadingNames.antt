@@ -1,5 +1,5 @@
 -- What a name that is no variable in scope stands for, by cases.
-use Rattle.std.specs.Prelude.{◌≡◌, ℕ, Bool, true, false, List, [], ◌++◌, Option, None, Some}
+use Rattle.std.specs.Prelude.{◌≡◌, ℕ, true, false, List, [], ◌++◌, Option, None, Some}
 use Rattle.texts.specs.Bytes.{Bytes as Text}
 use Rattle.gem_object.specs.Edits.{slot_at, with_slot}
 use Rattle.gem_object.specs.declared.value.Value.{Value}

@@ -1,5 +1,5 @@
 -- Sends, and with them all that stands outside a tree: what the whole language means.
-use Rattle.std.specs.Prelude.{ℕ, zero, suc, Bool, false, List, [], length, reverse, Option, None, Some, Result, Ok, Err}
+use Rattle.std.specs.Prelude.{ℕ, zero, suc, Bool, false, List, [], length, reverse, Option, None, Some, Result, Ok, Err, ◌-◌}
 use Rattle.texts.specs.Bytes.{Bytes as Text}
 use Rattle.st_tree.specs.Trees.{Program}
 use Rattle.st_grammar.specs.Grammar.{method}
@@ -10,6 +10,7 @@ use Rattle.gem_object.specs.declared.body.MethodCode.{MethodCode}
 use Rattle.gem_object.specs.declared.body.MethodCode.TheVariants.{Source, Primitive}
 use Rattle.object_programs.specs.Atom.{Tick}
 use Rattle.object_programs.specs.Run.{give, fail, atom, and_then}
+use Rattle.object_programs.specs.declared.limits.TheConstants.{DEPTH_LIMIT}
 use Rattle.object_programs.specs.declared.fault.Fault.TheVariants as fault
 use Rattle.tree_meaning.specs.Place.{Frame, MadeBlock}
 use Rattle.tree_meaning.specs.Operands.{ValueRun}
@@ -91,10 +92,10 @@ callee zero = record {
 callee (suc depth) = record {
   method = λ tree holder class_side receiver arguments.
       activation (method_body (outside_by (callee depth)) tree) (length tree.temps) holder class_side
-          receiver arguments;
+      receiver arguments;
   block = λ made arguments.
       evaluation (block_body (outside_by (callee depth)) made.tree made.place)
-          (temps_count made.tree) made.frame arguments;
+      (temps_count made.tree) made.frame arguments;
 }
 
 -- what stands outside a tree in an activation in which so many more may begin
@@ -103,7 +104,7 @@ outside depth = outside_by (callee depth)
 
 -- At most 2,000 activations live at once, and the chunk is the first of them.
 abbrev pub calls_of_chunk : ℕ
-calls_of_chunk = 1999
+calls_of_chunk = DEPTH_LIMIT - 1
 
 -- The value of a chunk: it is a method of the class of nil, with nil as its receiver.
 unfoldable pub chunk_value : Program → ValueRun

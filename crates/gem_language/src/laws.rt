@@ -11,7 +11,7 @@ ghost use Rattle.gem_world.specs.World.{Setting, World, shown_objects};
 ghost use Rattle.gem_world.specs.Access.{IsTouched};
 ghost use Rattle.object_programs.specs.Budget.{whole_budget};
 ghost use Rattle.object_programs.specs.Fixed.{fixed_by};
-ghost use Rattle.object_programs.specs.Laws.{rebased, Stays, AgreeOnTouched, Falls, KeepsParts, AreFree, IsInReach, AreSound};
+ghost use Rattle.object_programs.specs.Laws.{rebased, Stays, AgreeOnTouched, Falls, KeepsParts, AreFree, IsInReach, UpdatesTell, AreSound};
 ghost use Rattle.object_programs.specs.Run.{State, Ending, gives, fails, perform};
 ghost use Rattle.tree_meaning.specs.Place.{Frame, MadeBlock};
 ghost use Rattle.gem_language.specs.LookUp.{find_method};
@@ -22,8 +22,10 @@ ghost use Rattle.gem_language.specs.Finds.{FindsFor};
 ghost use Rattle.gem_language.specs.Reading.{Sent, SendComes, send_program};
 ghost use Rattle.gem_language.specs.ReadingNames.{HasGlobal, HasValue, Assigns, Writes};
 ghost use Rattle.gem_language.specs.ReadingLiterals.{HasLiteral, HasLongSymbol};
-ghost use Rattle.gem_language.specs.Commands.{Command};
-ghost use Rattle.gem_language.specs.Transaction.{command_outcome, transaction, after_both};
+ghost use Rattle.gem_language.specs.Commands.{Command, Reply, command_reply};
+ghost use Rattle.gem_language.specs.Install.{install};
+ghost use Rattle.gem_language.specs.ReadingCommands.{CommandComes, MethodSource, InstallComes};
+ghost use Rattle.gem_language.specs.Transaction.{begin_command, command_outcome, transaction, after_both};
 
 use crate::found::Found;
 use object_programs::{Fault, SPACE_LIMIT};
@@ -38,8 +40,8 @@ pub fn frame()
 {}
 
 /// Whatever the commands are, sound objects stay sound, every fixed part stays, what is written,
-/// made or updated is in reach, and what was touched stays touched. Names are drawn one after the
-/// other, at most 4,000,000 in a command.
+/// made or updated is in reach, what was touched stays touched, and the updates tell what has become
+/// of reduced-conflict objects. Names are drawn one after the other, at most 4,000,000 in a command.
 pub fn keeps()
     ensures sound { (commands : List Command) (setting : Setting) (world : World)
         → AreSound setting world → AreSound setting (transaction commands setting world).world }
@@ -51,6 +53,9 @@ pub fn keeps()
         → IsInReach setting (transaction commands setting world).world }
     ensures touches { (commands : List Command) (setting : Setting) (world : World) (name : ℕ)
         → IsTouched name world → IsTouched name (transaction commands setting world).world }
+    ensures updates { (commands : List Command) (setting : Setting) (world : World)
+        → UpdatesTell setting world
+        → UpdatesTell setting (transaction commands setting world).world }
     ensures next { (commands : List Command) (setting : Setting) (world : World)
         → world.next ≤ (transaction commands setting world).world.next }
     ensures drawn { (commands : List Command) (setting : Setting) (world : World)
@@ -165,4 +170,25 @@ pub fn literals_are_read()
         → HasLongSymbol tree
         → Comes (literal_value tree) setting state (fails Fault.ObjectTooLarge) state }
     ensures short { (tree : Constant) → has_symbols tree ≡ false → HasLongSymbol tree }
+{}
+
+/// A command comes to what the relation `CommandComes` says, and to nothing else: by cases on the
+/// tree of its text, and on how its program ends.
+pub fn commands_are_read()
+    ensures comes { (command : Command) (setting : Setting) (world : World)
+        → let outcome = command_outcome command setting world in
+        CommandComes setting world command outcome.end outcome.state }
+    ensures only { (command : Command) (setting : Setting) (world : World) (end : Ending Reply)
+        (after : State MadeBlock) → CommandComes setting world command end after
+        → Comes (command_reply command) setting (begin_command world) end after }
+{}
+
+/// The source of a method is put into a class as the relation `InstallComes` says, with its errors in
+/// their order.
+pub fn installs_are_read()
+    ensures { (setting : Setting) (method : MethodSource) (state : State MadeBlock)
+        (end : Ending (Unit {0})) (after : State MadeBlock)
+        → InstallComes setting method state end after
+        → Comes (install method.class_side method.class method.selector method.source) setting
+        state end after }
 {}

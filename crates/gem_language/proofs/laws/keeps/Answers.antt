@@ -1,6 +1,7 @@
 use Rattle.object_programs.proofs.Falling.{GrowTouches, touches_stay}
 use Rattle.object_programs.proofs.Objects.{StaysFixed, StaysSound, parts_stay, soundness_stays}
 use Rattle.object_programs.proofs.Reach.{StaysInReach, reach_stays}
+use Rattle.object_programs.proofs.Told.{StaysTold, told_stays}
 use Rattle.gem_language.proofs.Lists.{listed, next_grows, few_drawn}
 use Rattle.gem_language.proofs.laws.keeps.Goals as goal
 
@@ -24,3 +25,7 @@ returns-clause-next c commands setting world = next_grows commands setting world
 
 pub returns-clause-drawn : goal.returns-clause-drawn
 returns-clause-drawn c commands setting world = few_drawn commands setting world
+
+pub returns-clause-updates : goal.returns-clause-updates
+returns-clause-updates c commands setting world tells =
+    listed setting (StaysTold setting) (told_stays setting) commands world tells
