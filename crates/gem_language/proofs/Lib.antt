@@ -6,3 +6,4 @@ mod Readings
 mod NameReadings
 mod LiteralReadings
 mod CommandReadings
+mod MethodLists

@@ -1,11 +1,13 @@
 //! What follows from the definitions alone. Each law is the contract of a function that does
 //! nothing.
-ghost use Rattle.std.specs.Prelude.{◌≡◌, ◌≤◌, ◌+◌, ◌*◌, ◌++◌, ℕ, Bool, List, length, Option, Some, None, true, false};
+ghost use Rattle.std.specs.Prelude.{◌≡◌, ◌≤◌, ◌+◌, ◌*◌, ◌++◌, [], ℕ, Bool, List, length, Option, Some, None, true, false, map, bytes_eq};
 ghost use Rattle.texts.specs.Bytes.{Bytes as Text};
-ghost use Rattle.st_tree.specs.Trees.{Constant};
+ghost use Rattle.st_tree.specs.Trees.{Constant, Program};
 ghost use Rattle.gem_object.specs.declared.value.Value.{Value};
-ghost use Rattle.gem_object.specs.declared.value.Value.TheVariants.{Ref, Block};
+ghost use Rattle.gem_object.specs.declared.value.Value.TheVariants.{Nil, Ref, Block};
 ghost use Rattle.gem_object.specs.declared.value.BlockRef.{BlockRef};
+ghost use Rattle.gem_object.specs.declared.body.Method.{Method};
+ghost use Rattle.object_programs.specs.Spelled.{texts_ascend};
 ghost use Rattle.gem_image.specs.Image.{Image, Contents, Objects};
 ghost use Rattle.gem_world.specs.World.{Setting, World, shown_objects};
 ghost use Rattle.gem_world.specs.Access.{IsTouched};
@@ -14,16 +16,19 @@ ghost use Rattle.object_programs.specs.Fixed.{fixed_by};
 ghost use Rattle.object_programs.specs.Laws.{rebased, Stays, AgreeOnTouched, Falls, KeepsParts, AreFree, IsInReach, UpdatesTell, AreSound};
 ghost use Rattle.object_programs.specs.Run.{State, Ending, gives, fails, perform};
 ghost use Rattle.tree_meaning.specs.Place.{Frame, MadeBlock};
-ghost use Rattle.gem_language.specs.LookUp.{find_method};
+ghost use Rattle.gem_language.specs.LookUp.{code_of, find_method};
 ghost use Rattle.gem_language.specs.OutOfScope.{instance_names, slot_of, find_global, read_out_of_scope, write_out_of_scope};
 ghost use Rattle.gem_language.specs.Literals.{has_symbols, literal_value};
+ghost use Rattle.tree_meaning.specs.Bodies.{chunk_body};
+ghost use Rattle.tree_meaning.specs.Calls.{activation};
+ghost use Rattle.gem_language.specs.Sends.{outside, chunk_value};
 ghost use Rattle.gem_language.specs.Comes.{Comes, OnlyTouched};
 ghost use Rattle.gem_language.specs.Finds.{FindsFor};
 ghost use Rattle.gem_language.specs.Reading.{Sent, SendComes, send_program};
 ghost use Rattle.gem_language.specs.ReadingNames.{HasGlobal, HasValue, Assigns, Writes};
 ghost use Rattle.gem_language.specs.ReadingLiterals.{HasLiteral, HasLongSymbol};
 ghost use Rattle.gem_language.specs.Commands.{Command, Reply, command_reply};
-ghost use Rattle.gem_language.specs.Install.{install};
+ghost use Rattle.gem_language.specs.Install.{with_method, install};
 ghost use Rattle.gem_language.specs.ReadingCommands.{CommandComes, MethodSource, InstallComes};
 ghost use Rattle.gem_language.specs.Transaction.{begin_command, command_outcome, transaction, after_both};
 
@@ -99,7 +104,8 @@ pub fn look_up_finds()
 {}
 
 /// A send comes to what the relation `SendComes` says, and to nothing else: by cases on the unit, on
-/// what the look-up finds, and on what the method is.
+/// what the look-up finds, and on what the method is. A chunk is a method of the class of nil, the
+/// object 3, with nil as its receiver; 1,999 activations more may begin in it.
 pub fn reading_is_meaning()
     ensures comes { (depth : ℕ) (setting : Setting) (message : Sent) (state : State MadeBlock)
         → let outcome = perform (send_program depth message) setting state in
@@ -108,6 +114,10 @@ pub fn reading_is_meaning()
         (end : Ending Value) (after : State MadeBlock)
         → SendComes depth setting message state end after
         → Comes (send_program depth message) setting state end after }
+    ensures chunk { (tree : Program) (setting : Setting) (state : State MadeBlock)
+        → perform (chunk_value tree) setting state
+        ≡ perform (activation (chunk_body (outside 1999) tree) (length tree.temps) 3 false Nil [])
+        setting state }
 {}
 
 /// A name that is no variable in scope stands for what the relations say: a global for what
@@ -191,4 +201,17 @@ pub fn installs_are_read()
         → InstallComes setting method state end after
         → Comes (install method.class_side method.class method.selector method.source) setting
         state end after }
+{}
+
+/// A class's methods with a new one: the selector of the new one does what the new one does, every
+/// other selector does what it did, and methods that ascend by selector ascend still.
+pub fn methods_are_put()
+    ensures own { (new : Method) (methods : List Method)
+        → code_of new.selector (with_method new methods) ≡ Some new.code }
+    ensures others { (new : Method) (methods : List Method) (selector : Text)
+        → bytes_eq new.selector selector ≡ false
+        → code_of selector (with_method new methods) ≡ code_of selector methods }
+    ensures ascending { (new : Method) (methods : List Method)
+        → texts_ascend (map (λ method. method.selector) methods) ≡ true
+        → texts_ascend (map (λ method. method.selector) (with_method new methods)) ≡ true }
 {}
