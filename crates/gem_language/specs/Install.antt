@@ -32,7 +32,8 @@ abbrev pub class_with : (class_side : Bool) → Method → ClassBody → ClassBo
 class_with false new class = record class { methods = with_method new class.methods }
 class_with true new class = record class { class_methods = with_method new class.class_methods }
 
--- The class object to which a value refers, by its name; E5 for any other value. Nothing is touched.
+-- The class object to which a value refers, by its name; E5 for any other value. Nothing that is
+-- there is touched.
 abbrev pub class_named : Value → Run MadeBlock ℕ
 class_named value =
     and_then (need fault.ArgumentKind (reference_of value)) (λ name.

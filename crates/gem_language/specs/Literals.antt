@@ -1,4 +1,5 @@
--- Literals: a string or an array that is written out in the text is a new object in each evaluation.
+-- Literals: a string or an array that is written out in the text is a new object in each
+-- evaluation.
 use Rattle.std.specs.Prelude.{Bool, true, ◌&&◌, nat_le, length, List, [], ◌∷◌}
 use Rattle.profile.specs.declared.limits.TheConstants.{SYMBOL_LIMIT}
 use Rattle.st_tree.specs.Trees.{Constant, int, char, str, sym, nothing, yes, no, array, Constants, no_constants, a_constant}

@@ -58,7 +58,8 @@ found_from class_side selector name (Some class) above past =
 
 -- The classes from this one up, on one side: each is read. More classes than there are names are
 -- never gone through.
-abbrev pub up_within : ℕ → (class_side : Bool) → Text → (past : FindingRun) → (name : ℕ) → FindingRun
+abbrev pub up_within : ℕ → (class_side : Bool) → Text → (past : FindingRun) → (name : ℕ)
+    → FindingRun
 up_within zero class_side selector past name = fail (fault.NotUnderstood selector)
 up_within (suc more) class_side selector past name =
     and_then (read name) (λ object.

@@ -71,8 +71,8 @@ abbrev pub or_in_globals : Text → Option Value → Run MadeBlock (Option Value
 or_in_globals name (Some value) = give (Some value)
 or_in_globals name None = global_at name globals
 
--- The global of this name, for the user: among the user's own globals, and then in Globals, which is
--- read where the first lacks it. The profile is touched without a right.
+-- The global of this name, for the user: among the user's own globals, and then in Globals, which
+-- is read where the first lacks it. The profile is touched without a right.
 unfoldable pub find_global : Text → Run MadeBlock (Option Value)
 find_global name =
     and_then (atom Own) (λ profile.
@@ -117,7 +117,8 @@ read_out_of_scope name frame =
     and_then (instance_names frame.holder) (λ names.
     value_of_name name frame (slot_of frame.class_side name names))
 
--- An assignment to such a name: to an instance variable, and else E2, without a read of the globals.
+-- An assignment to such a name: to an instance variable, and else E2, without a read of the
+-- globals.
 abbrev pub assign_name : Text → Frame → (slot : Option ℕ) → Value → ValueRun
 assign_name name frame (Some slot) value = set_instance_value frame.receiver slot value
 assign_name name frame None value = fail (fault.UndefinedVariable name)

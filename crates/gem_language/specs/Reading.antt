@@ -90,7 +90,8 @@ pub data CallComes (depth : ℕ) (setting : Setting) (message : Sent) (found : F
   -- its source has no tree: E1; no sound image has such a source
   no_tree : (source : Text) (wrong : TextFault) → found.code ≡ Source source
       → tree_of method source ≡ Err wrong
-      → CallComes depth setting message found state (fails (fault.NotUnderstood message.selector)) state
+      → CallComes depth setting message found state
+      (fails (fault.NotUnderstood message.selector)) state
   -- no activation may begin: E14
   method_too_deep : (source : Text) (tree : Program) → found.code ≡ Source source
       → tree_of method source ≡ Ok tree → depth ≡ 0

@@ -91,8 +91,8 @@ callee zero = record {
 }
 callee (suc depth) = record {
   method = λ tree holder class_side receiver arguments.
-      activation (method_body (outside_by (callee depth)) tree) (length tree.temps) holder class_side
-      receiver arguments;
+      activation (method_body (outside_by (callee depth)) tree) (length tree.temps) holder
+      class_side receiver arguments;
   block = λ made arguments.
       evaluation (block_body (outside_by (callee depth)) made.tree made.place)
       (temps_count made.tree) made.frame arguments;

@@ -45,8 +45,9 @@ pub fn frame()
 {}
 
 /// Whatever the commands are, sound objects stay sound, every fixed part stays, what is written,
-/// made or updated is in reach, what was touched stays touched, and the updates tell what has become
-/// of reduced-conflict objects. Names are drawn one after the other, at most 4,000,000 in a command.
+/// made or updated is in reach, what was touched stays touched, and the updates tell what has
+/// become of reduced-conflict objects. Names are drawn one after the other, at most 4,000,000 in a
+/// command.
 pub fn keeps()
     ensures sound { (commands : List Command) (setting : Setting) (world : World)
         → AreSound setting world → AreSound setting (transaction commands setting world).world }
@@ -103,9 +104,9 @@ pub fn look_up_finds()
         → FindsFor objects frame to_super receiver selector other → found ≡ other }
 {}
 
-/// A send comes to what the relation `SendComes` says, and to nothing else: by cases on the unit, on
-/// what the look-up finds, and on what the method is. A chunk is a method of the class of nil, the
-/// object 3, with nil as its receiver; 1,999 activations more may begin in it.
+/// A send comes to what the relation `SendComes` says, and to nothing else: by cases on the unit,
+/// on what the look-up finds, and on what the method is. A chunk is a method of the class of nil,
+/// the object 3, with nil as its receiver; 1,999 activations more may begin in it.
 pub fn reading_is_meaning()
     ensures comes { (depth : ℕ) (setting : Setting) (message : Sent) (state : State MadeBlock)
         → let outcome = perform (send_program depth message) setting state in
@@ -165,8 +166,8 @@ pub fn names_are_read()
 {}
 
 /// A literal makes what the relation `HasLiteral` says: the objects of an array from left to right,
-/// and inner ones before outer ones. Where a symbol in it is too long the answer is E17, and nothing
-/// is made.
+/// and inner ones before outer ones. Where a symbol in it is too long the answer is E17, and
+/// nothing is made.
 pub fn literals_are_read()
     ensures value { (setting : Setting) (tree : Constant) (state : State MadeBlock)
         (answer : Value) (after : State MadeBlock)
@@ -193,8 +194,8 @@ pub fn commands_are_read()
         → Comes (command_reply command) setting (begin_command world) end after }
 {}
 
-/// The source of a method is put into a class as the relation `InstallComes` says, with its errors in
-/// their order.
+/// The source of a method is put into a class as the relation `InstallComes` says, with its errors
+/// in their order.
 pub fn installs_are_read()
     ensures { (setting : Setting) (method : MethodSource) (state : State MadeBlock)
         (end : Ending (Unit {0})) (after : State MadeBlock)
