@@ -7,3 +7,4 @@ mod NameReadings
 mod LiteralReadings
 mod CommandReadings
 mod MethodLists
+mod Trees

@@ -4,5 +4,6 @@
 
 mod found;
 pub mod laws;
+pub mod tree_laws;
 
 pub use found::Found;
