@@ -1,5 +1,5 @@
 -- Objects and effects that are spelled in front of the same bytes are the same.
-use Rattle.std.proofs.Common.{◌≡◌, ℕ, ℤ, ◌+◌, ◌^◌, ◌<◌, List, [], ◌∷◌, ◌++◌, Option, Some, None, length, All, refl, sym, ap, ap₂, ◌∙◌, arith}
+use Rattle.std.proofs.Common.{◌≡◌, ℕ, ℤ, ◌^◌, ◌<◌, List, [], ◌∷◌, ◌++◌, Option, Some, None, length, refl, sym, ap, ap₂, ◌∙◌, arith}
 use Rattle.std.specs.Option.{IfSome}
 use Rattle.texts.specs.Bytes.{Bytes as Text}
 use Rattle.seg_rights.specs.declared.right.Right.{Right}
@@ -11,7 +11,7 @@ use Rattle.gem_object.specs.Order.{tag_of}
 use Rattle.gem_object.specs.Kinds.{kind_number}
 use Rattle.gem_object.specs.declared.kind.Kind.{Kind}
 use Rattle.gem_object.specs.declared.kind.Kind.TheVariants as kind
-use Rattle.gem_object.specs.Spelling.{IsOid, IsText, IsStorable, AreStorable, IsStorablePair, IsCode, IsMethod, AreMethods, IsClass, IsSegment, IsUser, IsItems, IsSpelledBody, IsSpelled}
+use Rattle.gem_object.specs.Spelling.{IsOid, IsText, IsStorable, AreStorable, IsStorablePair, IsCode, IsMethod, AreMethods, IsClass, IsSegment, IsUser, IsItems, IsSpelledBody}
 use Rattle.gem_object.specs.declared.value.Value.{Value}
 use Rattle.gem_object.specs.declared.value.Value.TheVariants.{Nil, False, True, Int, Char, Sym, Ref, Block}
 use Rattle.gem_object.specs.declared.body.MethodCode.{MethodCode}
@@ -24,7 +24,7 @@ use Rattle.gem_object.specs.declared.body.Body.TheVariants.{Plain, Bytes, Dict, 
 use Rattle.gem_object.specs.declared.object.Object.{Object}
 use Rattle.rc_counter_bag.specs.declared.counter.Counter.{Counter as CounterOf}
 use Rattle.gem_record.specs.declared.effect.Effect.{Effect}
-use Rattle.body_codec.specs.Spelled.{two_bytes, four_bytes, eight_bytes, integer_bytes, spelled_text, spelled_content, spelled_value, spelled_pair, spelled_occurrences, spelled_grant, spelled_code, spelled_method, short_list, long_list, spelled_superclass, spelled_members, spelled_class, spelled_segment, spelled_user, spelled_queue, body_tag, spelled_fields, spelled_body, spelled_object, spelled_changed, spelled_effect}
+use Rattle.body_codec.specs.Spelled.{two_bytes, four_bytes, eight_bytes, spelled_text, spelled_content, spelled_value, spelled_pair, spelled_occurrences, spelled_grant, spelled_code, spelled_method, short_list, long_list, spelled_superclass, spelled_members, spelled_class, spelled_segment, spelled_user, body_tag, spelled_fields, spelled_body, spelled_object, spelled_changed, spelled_effect}
 use Rattle.body_codec.specs.Stored.{TellsApart, IsStored, IsStoredAt, IsStoredEffect}
 use Rattle.body_codec.proofs.Fields.{heads, first_part, IsBelow, two_apart, four_apart, eight_apart, integer_apart, counted, AreShort, AreLong, short_apart, long_apart}
 
@@ -40,7 +40,7 @@ bytes_apart : TellsApart (λ (bytes : List ℕ). length bytes < 2 ^ 32)
     (λ (bytes : List ℕ). four_bytes (length bytes) ++ bytes)
 bytes_apart a b rest more p q e = counted (2 ^ 32) four_bytes four_apart a b rest more p q e
 
-tagged : (value : Value) (rest : List ℕ) → IsStorable value
+pub tagged : (value : Value) (rest : List ℕ) → IsStorable value
     → spelled_value value ++ rest ≡ tag_of value ∷ (spelled_content value ++ rest)
 tagged Nil rest stored = refl
 tagged False rest stored = refl

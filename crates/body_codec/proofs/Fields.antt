@@ -1,5 +1,5 @@
 -- Numbers, bytes and lists: where two are spelled in front of the same bytes, they are the same.
-use Rattle.std.proofs.Common.{◌≡◌, ℕ, ℤ, ◌+◌, ◌^◌, ◌%◌, ◌<◌, List, [], ◌∷◌, ◌++◌, length, All, IsTrue, refl, sym, ap, ap₂, subst, ◌∙◌, append_assoc, mod-eq_of_lt, arith}
+use Rattle.std.proofs.Common.{◌≡◌, ℕ, ℤ, ◌^◌, ◌%◌, ◌<◌, List, [], ◌∷◌, ◌++◌, length, All, IsTrue, refl, sym, ap, ap₂, ◌∙◌, append_assoc, mod-eq_of_lt, arith}
 use Rattle.std.specs.List.{flat_map, AllByRecursion}
 use Rattle.std.specs.Int.{w16, w32, w64, from_le_bytes, cast_signed, cast_unsigned}
 use Rattle.std.specs.Prelude.{FitsSigned}
@@ -35,17 +35,17 @@ first_part P f apart x y a b rest more p q e = apart x y (a ++ rest) (b ++ more)
 abbrev pub IsBelow : ℕ → ℕ → Type 0
 IsBelow limit number = number < limit
 
-two_back : (n : ℕ) → n < 2 ^ 16 → from_le_bytes w16 (two_bytes n) ≡ n
+pub two_back : (n : ℕ) → n < 2 ^ 16 → from_le_bytes w16 (two_bytes n) ≡ n
 unfolding two_bytes
 two_back n below = from_le_bytes-to_le_bytes_2 (n % 2 ^ 16) (rw (mod-eq_of_lt below) below)
     ∙ mod-eq_of_lt below
 
-four_back : (n : ℕ) → n < 2 ^ 32 → from_le_bytes w32 (four_bytes n) ≡ n
+pub four_back : (n : ℕ) → n < 2 ^ 32 → from_le_bytes w32 (four_bytes n) ≡ n
 unfolding four_bytes
 four_back n below = from_le_bytes-to_le_bytes_4 (n % 2 ^ 32) (rw (mod-eq_of_lt below) below)
     ∙ mod-eq_of_lt below
 
-eight_back : (n : ℕ) → n < 2 ^ 64 → from_le_bytes w64 (eight_bytes n) ≡ n
+pub eight_back : (n : ℕ) → n < 2 ^ 64 → from_le_bytes w64 (eight_bytes n) ≡ n
 unfolding eight_bytes
 eight_back n below = from_le_bytes-to_le_bytes_8 n below
 
@@ -67,7 +67,7 @@ eight_apart m n rest more p q e =
 abbrev pub IsSmall : ℤ → Type 0
 IsSmall z = IsTrue (is_small_integer z)
 
-small_fits : (z : ℤ) → IsSmall z → FitsSigned w64 z
+pub small_fits : (z : ℤ) → IsSmall z → FitsSigned w64 z
 small_fits z small = grind arith
 
 pub integer_apart : TellsApart IsSmall integer_bytes

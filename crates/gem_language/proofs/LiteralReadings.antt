@@ -13,12 +13,12 @@ use Rattle.object_programs.specs.Programs.{check}
 use Rattle.tree_meaning.specs.Place.{MadeBlock}
 use Rattle.tree_meaning.specs.Meaning.{plain_constant}
 use Rattle.prim_rules.specs.Parts.{new_object}
-use Rattle.gem_language.specs.KernelNames.{array_class}
 use Rattle.gem_language.specs.Literals.{has_symbols, have_symbols, constant_value, constant_values, literal_value}
 use Rattle.gem_language.specs.Comes.{Comes}
 use Rattle.gem_language.specs.ReadingLiterals.{HasLiteral, plain, a_string, an_array, HaveLiterals, no_elements, an_element, HasLongSymbol, long, within, HaveLongSymbol, in_first, in_rest}
 use Rattle.gem_language.proofs.Ends.{fails_gives, both, then_comes}
 use Rattle.gem_language.proofs.NameReadings.{given}
+use Rattle.gem_sound.specs.declared.names.TheConstants.{ARRAY_CLASS}
 
 module _ (setting : Setting) where
   given_plain : (tree : Constant) (one : Value) (state : State MadeBlock) (answer : Value) (after : State MadeBlock)
@@ -44,7 +44,7 @@ module _ (setting : Setting) where
         given_plain no value.False state answer after (plain no state value.False refl) comes
     made (str bytes) state answer after comes = a_string bytes state after answer comes
     made (array items) state answer after comes =
-        let parts = both setting (constant_values items) (λ values. new_object array_class (body.Plain values)) state
+        let parts = both setting (constant_values items) (λ values. new_object ARRAY_CLASS (body.Plain values)) state
         answer after comes in
         an_array items parts.middle state parts.between after answer
         (all_made items state parts.middle parts.between parts.before) parts.then
@@ -95,7 +95,7 @@ module _ (setting : Setting) where
     only_made (plain tree state answer is) = plain_only tree state answer is
     only_made (a_string bytes state after answer comes) = comes
     only_made (an_array items values state between after answer have comes) =
-        then_comes setting (constant_values items) (λ values. new_object array_class (body.Plain values)) state values
+        then_comes setting (constant_values items) (λ values. new_object ARRAY_CLASS (body.Plain values)) state values
         between (only_all have) ∙ comes
 
     only_all : {items : Constants} {state : State MadeBlock} {values : List Value} {after : State MadeBlock}

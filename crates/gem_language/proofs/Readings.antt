@@ -20,7 +20,7 @@ use Rattle.tree_meaning.specs.Calls.{call_block, call_block_at}
 use Rattle.prim_rules.specs.declared.answer.PrimitiveAnswer.{PrimitiveAnswer}
 use Rattle.prim_rules.specs.declared.answer.PrimitiveAnswer.TheVariants.{Gives, Evaluates}
 use Rattle.gem_language.specs.declared.found.Found.{Found}
-use Rattle.gem_language.specs.RuleOf.{rule_of}
+use Rattle.prim_rules.specs.Rules.{rule_of}
 use Rattle.gem_language.specs.Sends.{callee, outside, send_by, call_found, call_code, call_source, primitive_value}
 use Rattle.gem_language.specs.Comes.{Comes}
 use Rattle.gem_language.specs.Reading.{Sent, look_up, stop_of, with_units, BlockComes, no_block, other_count, too_deep, evaluated, CallComes, primitive_stops, primitive_gives, primitive_evaluates, no_tree, method_too_deep, activated, SendComes, no_unit, look_up_stops, not_understood, called, send_program}

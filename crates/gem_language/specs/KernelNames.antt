@@ -1,17 +1,7 @@
--- The kernel's objects that the language itself names, by their numbers.
+-- The kernel's dictionary that the language itself names.
 use Rattle.std.specs.Prelude.{ℕ}
-
--- the class of nil, of which a chunk is a method
-abbrev pub undefined_object : ℕ
-undefined_object = 3
-
--- the classes of literal arrays and of literal strings
-abbrev pub array_class : ℕ
-array_class = 13
-
-abbrev pub string_class : ℕ
-string_class = 15
+use Rattle.profile.specs.declared.kernel.TheConstants.{GLOBALS_COUNTER}
 
 -- the dictionary of the globals of all users
 abbrev pub globals : ℕ
-globals = 27
+globals = GLOBALS_COUNTER

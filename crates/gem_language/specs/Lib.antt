@@ -2,7 +2,6 @@ pub mod KernelNames
 pub mod LookUp
 pub mod OutOfScope
 pub mod Literals
-pub mod RuleOf
 pub mod Sends
 pub mod Install
 pub mod Commands

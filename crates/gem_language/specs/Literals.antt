@@ -12,7 +12,7 @@ use Rattle.object_programs.specs.declared.fault.Fault.TheVariants as fault
 use Rattle.tree_meaning.specs.Place.{MadeBlock}
 use Rattle.tree_meaning.specs.Operands.{ValueRun}
 use Rattle.prim_rules.specs.Parts.{new_object}
-use Rattle.gem_language.specs.KernelNames.{array_class, string_class}
+use Rattle.gem_sound.specs.declared.names.TheConstants.{ARRAY_CLASS, STRING_CLASS}
 
 -- Whether each symbol in a literal has at most 1,000 bytes, at any depth. In an array identifiers
 -- and keywords stand for symbols, and may be longer; a symbol that is written with `#` is not.
@@ -37,13 +37,13 @@ abbrev mutual
   pub constant_value : Constant → ValueRun
   constant_value (int number) = give (value.Int number)
   constant_value (char code) = give (value.Char code)
-  constant_value (str bytes) = new_object string_class (body.Bytes bytes)
+  constant_value (str bytes) = new_object STRING_CLASS (body.Bytes bytes)
   constant_value (sym bytes) = give (value.Sym bytes)
   constant_value nothing = give value.Nil
   constant_value yes = give value.True
   constant_value no = give value.False
   constant_value (array items) =
-      and_then (constant_values items) (λ values. new_object array_class (body.Plain values))
+      and_then (constant_values items) (λ values. new_object ARRAY_CLASS (body.Plain values))
 
   pub constant_values : Constants → Run MadeBlock (List Value)
   constant_values no_constants = give []

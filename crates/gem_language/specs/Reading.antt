@@ -19,7 +19,7 @@ use Rattle.prim_rules.specs.declared.answer.PrimitiveAnswer.{PrimitiveAnswer}
 use Rattle.prim_rules.specs.declared.answer.PrimitiveAnswer.TheVariants.{Gives, Evaluates}
 use Rattle.gem_language.specs.declared.found.Found.{Found}
 use Rattle.gem_language.specs.LookUp.{FindingRun, find_method}
-use Rattle.gem_language.specs.RuleOf.{rule_of}
+use Rattle.prim_rules.specs.Rules.{rule_of}
 use Rattle.gem_language.specs.Sends.{outside}
 use Rattle.gem_language.specs.Comes.{Comes}
 

@@ -10,8 +10,8 @@ use Rattle.object_programs.specs.Run.{State, gives}
 use Rattle.tree_meaning.specs.Place.{MadeBlock}
 use Rattle.tree_meaning.specs.Meaning.{plain_constant}
 use Rattle.prim_rules.specs.Parts.{new_object}
-use Rattle.gem_language.specs.KernelNames.{array_class, string_class}
 use Rattle.gem_language.specs.Comes.{Comes}
+use Rattle.gem_sound.specs.declared.names.TheConstants.{ARRAY_CLASS, STRING_CLASS}
 
 mutual
   -- A literal has this value.
@@ -22,12 +22,12 @@ mutual
         → plain_constant tree ≡ Some answer → HasLiteral setting tree state answer state
     -- a string: a new String
     a_string : (bytes : Text) (state after : State MadeBlock) (answer : Value)
-        → Comes (new_object string_class (body.Bytes bytes)) setting state (gives answer) after
+        → Comes (new_object STRING_CLASS (body.Bytes bytes)) setting state (gives answer) after
         → HasLiteral setting (str bytes) state answer after
     -- an array: its elements first, and then a new Array of them
     an_array : (items : Constants) (values : List Value) (state between after : State MadeBlock)
         (answer : Value) → HaveLiterals setting items state values between
-        → Comes (new_object array_class (body.Plain values)) setting between (gives answer) after
+        → Comes (new_object ARRAY_CLASS (body.Plain values)) setting between (gives answer) after
         → HasLiteral setting (array items) state answer after
 
   -- The elements of an array have these values, made from left to right.

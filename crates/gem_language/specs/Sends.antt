@@ -19,12 +19,12 @@ use Rattle.tree_meaning.specs.Bodies.{method_body, block_body, chunk_body, temps
 use Rattle.tree_meaning.specs.Calls.{activation, evaluation, call_block_at, make_block}
 use Rattle.prim_rules.specs.declared.answer.PrimitiveAnswer.{PrimitiveAnswer}
 use Rattle.prim_rules.specs.declared.answer.PrimitiveAnswer.TheVariants.{Gives, Evaluates}
-use Rattle.gem_language.specs.KernelNames.{undefined_object}
 use Rattle.gem_language.specs.LookUp.{find_method}
 use Rattle.gem_language.specs.OutOfScope.{read_out_of_scope, write_out_of_scope}
 use Rattle.gem_language.specs.Literals.{literal_value}
-use Rattle.gem_language.specs.RuleOf.{rule_of}
+use Rattle.prim_rules.specs.Rules.{rule_of}
 use Rattle.gem_language.specs.declared.found.Found.{Found}
+use Rattle.gem_sound.specs.declared.names.TheConstants.{UNDEFINED_OBJECT_CLASS}
 
 -- What a send may come to beside a primitive: a method with a tree, by the class that holds it and
 -- the side on which it stands there; and a made block. Arguments stand here the first one first.
@@ -109,4 +109,4 @@ calls_of_chunk = DEPTH_LIMIT - 1
 -- The value of a chunk: it is a method of the class of nil, with nil as its receiver.
 unfoldable pub chunk_value : Program → ValueRun
 chunk_value tree = activation (chunk_body (outside calls_of_chunk) tree) (length tree.temps)
-    undefined_object false Nil []
+    UNDEFINED_OBJECT_CLASS false Nil []

@@ -5,8 +5,9 @@ use Rattle.std.specs.List.{All, AllByRecursion, list_all, list_any, IsDistinct}
 use Rattle.std.specs.Option.{IfSome, IsSome, option_and_then, option_or}
 use Rattle.std.specs.Ordering.{nat_cmp}
 use Rattle.std.specs.FinMap.{get, get-empty}
-use Rattle.std.proofs.lemmas.Bool.{false≢true, and_from, or_left, or_right, or_cases, cond_both, eqb-true, eq-eqb, lt-ltb, le-leb, cases_lt}
+use Rattle.std.proofs.lemmas.Bool.{false≢true, and_from, or_left, or_right, or_cases, cond_both, eqb-true, eq-eqb, lt-ltb, le-leb, cases_lt, false_from_ne_true}
 use Rattle.std.proofs.lemmas.List.Elements.{All-head, All-tail}
+use Rattle.std.proofs.lemmas.Option.{same_Some}
 use Rattle.std.proofs.lemmas.Map.Steps.{length-le_from_distinct_below}
 use Rattle.texts.specs.Bytes.{Bytes as Text}
 use Rattle.gem_object.specs.Kinds as kinds
@@ -33,9 +34,6 @@ use Rattle.object_programs.proofs.Rules.{part_of}
 use Rattle.object_programs.proofs.Spells.{tells_spelled}
 use Rattle.object_programs.proofs.MethodRules.{tells_methods_fit}
 
-some_is : {X : Type 0} (one other : X) → Some one ≡ Some other → one ≡ other
-some_is one other same = cc
-
 -- ---- how deep a class stands under Object
 
 module _ (objects : Objects) where
@@ -57,7 +55,7 @@ module _ (objects : Objects) where
   one_class : (name other : ℕ) (class another : ClassBody) → class_at objects name ≡ Some class
       → class_at objects other ≡ Some another → name ≡ other → class ≡ another
   one_class name other class another here there same =
-      some_is class another (sym here ∙ (ap (class_at objects) same ∙ there))
+      same_Some class another (sym here ∙ (ap (class_at objects) same ∙ there))
 
   -- two lines of one class are as deep
   same_depth : (name other : ℕ) (names others : List Text) (has : HasNames objects name names)
@@ -75,22 +73,15 @@ module _ (objects : Objects) where
   same_depth name other names others (under number superclass class inherited here is rest)
       (under another_number another_superclass another more there also others_rest) same =
       let alike = one_class number another_number class another here there same in
-      let above = some_is superclass another_superclass
+      let above = same_Some superclass another_superclass
       (sym is ∙ (ap (λ (some : ClassBody). some.superclass) alike ∙ also)) in
       ap suc (same_depth superclass another_superclass inherited more rest others_rest above)
 
   -- no deeper class stands on a line
   apart : (name other : ℕ) (names others : List Text) (has : HasNames objects name names)
       (also : HasNames objects other others) → depth also < depth has → nat_eq name other ≡ false
-  apart name other names others has also below = by (nat_eq name other) refl
-    where
-      by : (same : Bool) → nat_eq name other ≡ same → nat_eq name other ≡ false
-      by true same = absurd (omega (
-        arith,
-        below,
-        same_depth name other names others has also (eqb-true name other same),
-      ))
-      by false same = same
+  apart name other names others has also below = false_from_ne_true (nat_eq name other)
+      (λ same. omega (arith, below, same_depth name other names others has also (eqb-true name other same)))
 
   all_apart : (name other : ℕ) (names others : List Text) (has : HasNames objects name names)
       (also : HasNames objects other others) → depth also < depth has
@@ -150,7 +141,7 @@ module _ (objects : Objects) where
 
 class_body_part : (body : Body) (class : ClassBody) → class_of body ≡ Some class
     → class_part body ≡ Some (part_of class)
-class_body_part (Class own) class is = ap (λ (some : ClassBody). Some (part_of some)) (some_is own class is)
+class_body_part (Class own) class is = ap (λ (some : ClassBody). Some (part_of some)) (same_Some own class is)
 class_body_part (Plain values) class is = absurd (false≢true (ap is_some is))
 class_body_part (Bytes bytes) class is = absurd (false≢true (ap is_some is))
 class_body_part (Dict pairs) class is = absurd (false≢true (ap is_some is))
@@ -493,7 +484,7 @@ module _ (image : Image) (user serial first : ℕ) where
           → option_map contents_of found ≡ Some object → IsSpelledBody object.body
       by name object None at given = absurd (false≢true (ap is_some given))
       by name object (Some own) at given =
-          subst (λ (some : Contents). IsSpelledBody some.body) (some_is (contents_of own) object given)
+          subst (λ (some : Contents). IsSpelledBody some.body) (same_Some (contents_of own) object given)
           (is.spelled name own at).body
 
   pub admits_image : IsImage image → IsSoundFor (objects_in image) user serial first

@@ -2,7 +2,7 @@
 use Rattle.std.proofs.Common.{◌≡◌, ◌∙◌, refl, ap, ℕ, zero, suc, ◌+◌, ◌-◌, ◌<◌, ◌≤◌, Bool, true, false, ◌&&◌, cond, nat_eq, nat_le, Option, Some, None, [], ◌∷◌, ◌++◌, length, option_map, arith}
 use Rattle.std.proofs.Math.Path.{fun_ext}
 use Rattle.std.specs.FinMap.{get}
-use Rattle.std.proofs.lemmas.Bool.{and_from, and_left, and_right, or_left, or_right, or_from, not_from_true, not_from_false, le-leb, lt-leb}
+use Rattle.std.proofs.lemmas.Bool.{and_from, and_left, and_right, or_left, or_right, not_from_false, le-leb, lt-leb}
 use Rattle.texts.specs.Bytes.{Bytes as Text}
 use Rattle.gem_object.specs.Kinds.{is_shared}
 use Rattle.gem_object.specs.declared.body.Body.{Body}
@@ -11,7 +11,7 @@ use Rattle.gem_update.specs.declared.update.Update.{Update}
 use Rattle.gem_image.specs.Image.{Contents}
 use Rattle.gem_world.specs.World.{Setting, World, shown, is_made, with_name, touch}
 use Rattle.gem_world.specs.Changes.{with_body, put, note}
-use Rattle.gem_world.specs.Access.{a_read, a_write, is_allowed, touches_of, with_touches, accessed}
+use Rattle.gem_world.specs.Access.{a_read, a_write, is_allowed, with_touches, accessed}
 use Rattle.object_programs.specs.declared.limits.TheConstants.{COUNTER_LIMIT, TRANSCRIPT_LIMIT}
 use Rattle.object_programs.specs.declared.fault.Fault.TheVariants as fault
 use Rattle.object_programs.specs.Budget.{Budget, bytes_cost}
@@ -19,7 +19,7 @@ use Rattle.object_programs.specs.Fixed.{fixed_of, same_fixed}
 use Rattle.object_programs.specs.Guard.{Parts, fits, may_change, may_replace}
 use Rattle.object_programs.specs.Atom.{Ask, Kind, Names, Tick, Room, Show, done, refused, replaced_where, edited_at, edited, updated_by, updated_at, updated_where, after_update, named_where, ticked, spent_where, shown_where, touch_missing}
 use Rattle.object_programs.specs.Laws.{answered, lacking}
-use Rattle.object_programs.proofs.Kept.{shown_asked}
+use Rattle.object_programs.proofs.Worlds.{shown_asked, made_asked, may_not_change}
 
 -- ---- accesses
 
@@ -89,10 +89,6 @@ module _ (name : ℕ) (old : Contents) (setting : Setting) (world : World) where
   unfolding may_change
   may_ordinary ordinary = or_right _ _ (not_from_false _ ordinary)
 
-  may_not : is_made name setting world ≡ false → is_shared old.body ≡ true → may_change name old setting world ≡ false
-  unfolding may_change
-  may_not unmade shared = or_from _ _ unmade (not_from_true _ shared)
-
   edited_by : (may : Bool) (edit : Contents → Contents) → get world.changes name ≡ Some old
       → (may_change name old setting world && may_replace name old (edit old) setting world) ≡ may
       → edited name edit setting world ≡ replaced_where may name None (edit old) setting world
@@ -113,7 +109,7 @@ module _ (name : ℕ) (old : Contents) (setting : Setting) (world : World) where
   pub edited_shared : (edit : Contents → Contents) → get world.changes name ≡ Some old
       → is_made name setting world ≡ false → is_shared old.body ≡ true
       → edited name edit setting world ≡ lacking name (edit old) setting world
-  edited_shared edit there unmade shared = edited_by false edit there (and_left _ _ (may_not unmade shared))
+  edited_shared edit there unmade shared = edited_by false edit there (and_left _ _ (may_not_change setting name old world unmade shared))
 
   pub edited_unfit : (edit : Contents → Contents) → get world.changes name ≡ Some old
       → may_replace name old (edit old) setting world ≡ false
@@ -126,17 +122,6 @@ unfolding edited
 edited_apart name edit setting world none = ap (λ found. edited_at name edit found setting world) none
 
 -- ---- updates
-
-made_among : (other name : ℕ) (found : Option Contents) (setting : Setting) (world : World)
-    → is_made other setting (touches_of name found setting world) ≡ is_made other setting world
-unfolding touch is_made
-made_among other name None setting world = refl
-made_among other name (Some object) setting world = refl
-
-made_asked : (other name : ℕ) (setting : Setting) (world : World)
-    → is_made other setting (with_touches name setting world) ≡ is_made other setting world
-unfolding with_touches
-made_asked other name setting world = made_among other name (shown name setting world) setting world
 
 may_asked : (other name : ℕ) (old new : Contents) (setting : Setting) (world : World)
     → may_replace name old new setting (with_touches other setting world) ≡ may_replace name old new setting world
@@ -201,14 +186,14 @@ module _ (name : ℕ) (update : Update) (setting : Setting) (world : World) wher
       → after_update name update setting world
       ≡ put name (with_body body old) (record now { updates = now.updates ++ (name, update) ∷ [] })
   update_noted old body allowed there is fit unmade = update_by true old body allowed there is fit
-      ∙ ap (put name (with_body body old)) (note_old (made_asked name name setting world ∙ unmade))
+      ∙ ap (put name (with_body body old)) (note_old (made_asked setting name name world ∙ unmade))
 
   pub update_made : (old : Contents) (body : Body) → is_allowed a_write name setting world ≡ true
       → shown name setting world ≡ Some old → updated update old.body ≡ Some body
       → may_replace name old (with_body body old) setting world ≡ true → is_made name setting world ≡ true
       → after_update name update setting world ≡ put name (with_body body old) now
   update_made old body allowed there is fit made = update_by true old body allowed there is fit
-      ∙ ap (put name (with_body body old)) (note_made (made_asked name name setting world ∙ made))
+      ∙ ap (put name (with_body body old)) (note_made (made_asked setting name name world ∙ made))
 
 -- an atom that has nothing to say leaves its world
 pub leaves : (after world : World) (budget : Budget) → after ≡ world

@@ -19,6 +19,7 @@ use Rattle.object_programs.specs.Guard.{Parts, may_change, may_replace, may_make
 use Rattle.object_programs.specs.Atom.{Atom, Ask, Own, Kind, Made, Who, Put, Move, Note, Names, Make, Tick, Room, Show, done, MakeCheck, too_large, no_name, no_space, no_fault, make_check, objects_cost, with_new, made_where, made_by, named_where, ticked, spent_where, shown_where, with_missing, touch_missing, noted, replaced_where, edited_at, edited, updated_by, updated_at, updated_where, after_update}
 use Rattle.object_programs.specs.Laws.{Falls}
 use Rattle.object_programs.proofs.Kept.{Kept, KeptWorlds, of_worlds, each_new, no_fault_found}
+use Rattle.object_programs.proofs.Worlds.{touch_next, misses_next, put_next, note_next, make_next}
 
 -- touches
 abbrev pub GrowTouches : World → World → Type 0
@@ -114,24 +115,10 @@ costs_some (RcDict pairs) = omega arith
 costs_some (Queue queue) = omega arith
 
 module _ (setting : Setting) where
-  touch_next : (name : ℕ) (world : World) → (touch name setting world).next ≡ world.next
-  unfolding touch
-  touch_next name world = refl
-
-  misses_next : (parts : Parts) (names : List ℕ) (world : World)
-      → (touch_missing parts names world).next ≡ world.next
-  unfolding touch_missing
-  misses_next parts names world = refl
-
-  put_next : (name : ℕ) (object : Contents) (world : World) → (put name object world).next ≡ world.next
-  unfolding put
-  put_next name object world = refl
-
   noted_next : (name : ℕ) (update : Option Update) (world : World)
       → (noted name update setting world).next ≡ world.next
-  unfolding note
   noted_next name None world = refl
-  noted_next name (Some update) world = refl
+  noted_next name (Some update) world = note_next name update setting world
 
   replaced_next : (fits : Bool) (name : ℕ) (update : Option Update) (new : Contents) (world : World)
       → (replaced_where fits name update new setting world).next ≡ world.next
@@ -206,15 +193,11 @@ module _ (setting : Setting) where
   unfolding accessed
   accessed_next access name world = accessed_by_next (is_allowed access name setting world) access name world
 
-  made_next : (object : Contents) (world : World) → (make object setting world).next ≡ world.next + 1
-  unfolding make
-  made_next object world = refl
-
   pub new_next : (objects : List Contents) (world : World)
       → (with_new objects setting world).next ≡ world.next + length objects
   new_next [] world = omega arith
   new_next (object ∷ rest) world =
-      let first = made_next object world in
+      let first = make_next object setting world in
       let more = new_next rest (make object setting world) in
       omega (arith, first, more)
 
@@ -297,7 +280,7 @@ module _ (setting : Setting) where
   step_falls : {A : Type 0} (one : Atom A) (world : World) (budget : Budget)
       → Falls world budget (done one setting world budget).world (done one setting world budget).budget
   step_falls (Ask access name) world budget = falls_same world _ budget (accessed_next access name world)
-  step_falls Own world budget = falls_same world _ budget (touch_next setting.user world)
+  step_falls Own world budget = falls_same world _ budget (touch_next setting.user setting world)
   step_falls (Kind name) world budget = falls_same world _ budget (misses_next _ _ world)
   step_falls (Made name) world budget = falls_same world world budget refl
   step_falls Who world budget = falls_same world world budget refl

@@ -21,7 +21,8 @@ use Rattle.object_programs.specs.Atom.{Atom, Ask, Own, Kind, Made, Who, Put, Mov
 use Rattle.object_programs.specs.declared.fault.Fault.TheVariants as fault
 use Rattle.object_programs.specs.Run.{Run, give, fail, return_to, atom, seeing, become, and_then, ending, Ending, gives, returns, fails, State, outcome_of, onward, perform}
 use Rattle.object_programs.specs.Laws.{rebased, Stays, AgreeOnTouched, KeepsParts}
-use Rattle.object_programs.proofs.Kept.{kept, kept_onward, shown_asked, updated_kept_where}
+use Rattle.object_programs.proofs.Kept.{kept, kept_onward, updated_kept_where}
+use Rattle.object_programs.proofs.Worlds.{shown_asked}
 use Rattle.object_programs.proofs.Falling.{GrowTouches, still_folded, put_grows, touch_grows, touches_by_worlds, touches_stay}
 use Rattle.object_programs.proofs.Guards.{SameOn, fits_more, fits_same, asked_same, all_fit_more, all_fit_same, all_asked_same}
 use Rattle.object_programs.proofs.Bases.{fixed_stays, seen_same}

@@ -17,6 +17,7 @@ use Rattle.object_programs.specs.Budget.{Budget, is_within_limits}
 use Rattle.object_programs.specs.Guard.{Parts, may_change, may_replace, may_make}
 use Rattle.object_programs.specs.Atom.{Atom, Ask, Own, Kind, Made, Who, Put, Move, Note, Names, Make, Tick, Room, Show, done, MakeCheck, too_large, no_name, no_space, no_fault, make_check, objects_cost, with_new, made_where, made_by, named_where, ticked, spent_where, shown_where, touch_missing, replaced_where, edited_at, edited, updated_by, updated_at, updated_where, after_update}
 use Rattle.object_programs.specs.Run.{Run, give, fail, return_to, atom, seeing, become, and_then, ending, Ending, gives, returns, fails, State, Outcome, onward, perform}
+use Rattle.object_programs.proofs.Worlds.{make_next, shown_asked}
 
 -- a relation between what was and what is later, which each atom keeps
 pub record Kept (setting : Setting) (R : World → Budget → World → Budget → Type 0) : Type 1 where
@@ -97,11 +98,6 @@ pub record KeptWorlds (setting : Setting) (R : World → World → Type 0) : Typ
   pub makes : (objects : List Contents) (world : World) → world.next + length objects ≤ COUNTER_LIMIT
       → may_make objects setting world ≡ true → R world (with_new objects setting world)
 
-made_next : (object : Contents) (setting : Setting) (world : World)
-    → (make object setting world).next ≡ world.next + 1
-unfolding make
-made_next object setting world = refl
-
 -- what one object that is made keeps several keep
 pub each_new : (setting : Setting) (R : World → World → Type 0) → ((world : World) → R world world)
     → ((world between later : World) → R world between → R between later → R world later)
@@ -111,22 +107,9 @@ pub each_new : (setting : Setting) (R : World → World → Type 0) → ((world 
 each_new setting R same along one [] world below = same world
 each_new setting R same along one (object ∷ rest) world below =
     let made = make object setting world in
-    let is : made.next ≡ world.next + 1 = made_next object setting world in
+    let is : made.next ≡ world.next + 1 = make_next object setting world in
     along world made (with_new rest setting made) (one object world (omega (arith, below)))
     (each_new setting R same along one rest made (omega (arith, below, is)))
-
-module _ (by setting : Setting) where
-  shown_among : (name other : ℕ) (found : Option Contents) (world : World)
-      → shown other by (touches_of name found setting world) ≡ shown other by world
-  unfolding touch
-  shown_among name other None world = refl
-  shown_among name other (Some object) world = refl
-
-  -- touches leave what is seen
-  pub shown_asked : (name other : ℕ) (world : World)
-      → shown other by (with_touches name setting world) ≡ shown other by world
-  unfolding with_touches
-  shown_asked name other world = shown_among name other (shown name setting world) world
 
 module _ (setting : Setting) (R : World → World → Type 0) (law : KeptWorlds setting R) where
   touches_kept : (name : ℕ) (found : Option Contents) (world : World)

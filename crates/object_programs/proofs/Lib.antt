@@ -1,3 +1,4 @@
+pub mod Worlds
 pub mod Kept
 pub mod Falling
 pub mod Guards
@@ -6,10 +7,11 @@ pub mod Frame
 pub mod Sames
 pub mod Objects
 pub mod Reach
+pub mod Told
+pub mod Written
 pub mod Orders
-pub mod Rules
+pub mod Exact
 pub mod Spells
 pub mod MethodRules
+pub mod Rules
 pub mod Admits
-pub mod Told
-pub mod Exact

@@ -1,14 +1,13 @@
 -- Fixed parts stay, names stay free until they are drawn, and objects stay sound.
 use Rattle.std.proofs.Common.{◌≡◌, ◌≢◌, ◌∙◌, ◌⊎◌, inl, inr, refl, sym, ap, subst, ℕ, ◌+◌, ◌^◌, ◌≤◌, ◌<◌, Bool, true, false, cond, nat_eq, Option, Some, None, List, [], ◌∷◌, length, option_map, is_some, arith}
 use Rattle.std.proofs.Math.Path.{fun_ext}
-use Rattle.std.specs.FinMap.{get, insert}
-use Rattle.std.specs.Option.{option_or}
-use Rattle.std.proofs.lemmas.Bool.{false≢true, and_parts, eqb-true, eqb-false}
-use Rattle.radix_pages.proofs.Tables.{get-insert_same, get-insert_other}
+use Rattle.std.specs.FinMap.{get}
+use Rattle.std.proofs.lemmas.Bool.{false≢true, and_parts, eqb-true, ne_eqb}
+use Rattle.std.proofs.lemmas.Option.{same_Some}
 use Rattle.gem_object.specs.declared.body.Body.{Body}
 use Rattle.gem_update.specs.declared.update.Update.{Update}
 use Rattle.gem_image.specs.Image.{Contents, Objects}
-use Rattle.gem_world.specs.World.{Setting, World, name_of, before_changes, shown, touch}
+use Rattle.gem_world.specs.World.{Setting, World, name_of, shown, touch}
 use Rattle.gem_world.specs.Changes.{with_body, put, make, note}
 use Rattle.object_programs.specs.declared.limits.TheConstants.{COUNTER_LIMIT}
 use Rattle.object_programs.specs.Fixed.{Fixed, fixed_of, fixed_by}
@@ -16,12 +15,10 @@ use Rattle.object_programs.specs.Guard.{Parts, is_user, fits, parts_with, may_re
 use Rattle.object_programs.specs.Atom.{touch_missing, with_new}
 use Rattle.object_programs.specs.Laws.{KeepsParts, AreFree, AreSound}
 use Rattle.object_programs.proofs.Kept.{Kept, of_worlds, each_new}
+use Rattle.object_programs.proofs.Worlds.{put_next, note_next, changed_shown, put_shown, make_shown, put_noted_shown}
 use Rattle.object_programs.proofs.Falling.{new_next}
 use Rattle.object_programs.proofs.Guards.{fits_more, known_more}
 use Rattle.object_programs.proofs.Sames.{fixed_is}
-
-one_object : (object other : Contents) → Some object ≡ Some other → object ≡ other
-one_object object other same = cc
 
 some_more : (here later : Option Fixed) → ((fixed : Fixed) → here ≡ Some fixed → later ≡ Some fixed)
     → is_some here ≡ true → is_some later ≡ true
@@ -29,45 +26,10 @@ some_more None later keeps some = absurd (false≢true some)
 some_more (Some fixed) later keeps some = ap is_some (keeps fixed refl)
 
 module _ (setting : Setting) where
-  put_shown : (name : ℕ) (object : Contents) (world : World) (asked : ℕ)
-      → shown asked setting (put name object world)
-      ≡ cond (nat_eq asked name) (Some object) (shown asked setting world)
-  unfolding put
-  put_shown name object world asked = by (nat_eq asked name) refl
-    where
-      by : (same : Bool) → nat_eq asked name ≡ same
-          → option_or (get (insert world.changes name object) asked) (before_changes asked setting)
-          ≡ cond same (Some object) (shown asked setting world)
-      by true is = ap (λ found. option_or found (before_changes asked setting))
-          (get-insert_same world.changes name object asked (eqb-true asked name is))
-      by false is = ap (λ found. option_or found (before_changes asked setting))
-          (get-insert_other world.changes name object asked (eqb-false asked name is))
-
-  noted_shown : (name : ℕ) (update : Update) (world : World) (asked : ℕ)
-      → shown asked setting (note name update setting world) ≡ shown asked setting world
-  unfolding note
-  noted_shown name update world asked = refl
-
-  put_noted_shown : (name : ℕ) (update : Update) (new : Contents) (world : World) (asked : ℕ)
-      → shown asked setting (put name new (note name update setting world))
-      ≡ cond (nat_eq asked name) (Some new) (shown asked setting world)
-  put_noted_shown name update new world asked = put_shown name new (note name update setting world) asked
-      ∙ ap (cond (nat_eq asked name) (Some new)) (noted_shown name update world asked)
-
-  make_shown : (object : Contents) (world : World) (asked : ℕ)
-      → shown asked setting (make object setting world)
-      ≡ cond (nat_eq asked (name_of setting world.next)) (Some object) (shown asked setting world)
-  unfolding make put
-  make_shown object world asked = put_shown (name_of setting world.next) object world asked
-
   put_noted_next : (name : ℕ) (update : Update) (new : Contents) (world : World)
       → (put name new (note name update setting world)).next ≡ world.next
-  unfolding put note
-  put_noted_next name update new world = refl
-
-  changed_shown : (name : ℕ) (old : Contents) (world : World) → get world.changes name ≡ Some old
-      → shown name setting world ≡ Some old
-  changed_shown name old world there = ap (λ found. option_or found (before_changes name setting)) there
+  put_noted_next name update new world =
+      put_next name new (note name update setting world) ∙ note_next name update setting world
 
   replaced_fixed : (name : ℕ) (old new : Contents) (world : World) → may_replace name old new setting world ≡ true
       → fixed_of old ≡ fixed_of new
@@ -133,7 +95,7 @@ module _ (setting : Setting) where
         each_by : (asked : ℕ) (object : Contents) → shown asked setting later ≡ Some object → (same : Bool)
             → nat_eq asked name ≡ same → fits (fixed_by setting later) asked object ≡ true
         each_by asked object here true same =
-            let new_is = one_object new object (sym (at_name asked same) ∙ here) in
+            let new_is = same_Some new object (sym (at_name asked same) ∙ here) in
             subst (λ some. fits (fixed_by setting later) some object ≡ true) (sym (eqb-true asked name same))
             (subst (λ some. fits (fixed_by setting later) name some ≡ true) new_is
             (fits_more (parts_with name new setting world) (fixed_by setting later) new_parts name new fitting))
@@ -171,15 +133,8 @@ module _ (setting : Setting) where
   next_free object world free counter from below =
       let none = free counter (omega (arith, from)) below in
       let apart : name_of setting counter ≢ name_of setting world.next = λ same. omega (arith, same, from) in
-      elsewhere world (make object setting world) (name_of setting world.next) object (make_shown object world)
-      (name_of setting counter) (ne (name_of setting counter) (name_of setting world.next) apart) ∙ none
-    where
-      ne : (one other : ℕ) → one ≢ other → nat_eq one other ≡ false
-      ne one other apart = by (nat_eq one other) refl
-        where
-          by : (same : Bool) → nat_eq one other ≡ same → nat_eq one other ≡ false
-          by true same = absurd (apart (eqb-true one other same))
-          by false same = same
+      elsewhere world (make object setting world) (name_of setting world.next) object (make_shown setting object world)
+      (name_of setting counter) (ne_eqb (name_of setting counter) (name_of setting world.next) apart) ∙ none
 
   free_part : (object : Contents) (world : World) → world.next < COUNTER_LIMIT → AreFree setting world
       → (fixed : Fixed) → fixed_by setting world (name_of setting world.next) ≡ Some fixed → fixed_of object ≡ fixed
@@ -200,10 +155,6 @@ module _ (setting : Setting) where
   unfolding touch_missing
   misses_fixed parts names world free = (free, λ asked fixed here. here)
 
-  put_next : (name : ℕ) (object : Contents) (world : World) → (put name object world).next ≡ world.next
-  unfolding put
-  put_next name object world = refl
-
   replaced_stays : (name : ℕ) (old new : Contents) (world later : World)
       → ((asked : ℕ) → shown asked setting later ≡ cond (nat_eq asked name) (Some new) (shown asked setting world))
       → later.next ≡ world.next → shown name setting world ≡ Some old → fixed_of old ≡ fixed_of new
@@ -217,7 +168,7 @@ module _ (setting : Setting) where
       → StaysFixed world (make object setting world)
   make_fixed object world below free = (
     next_free object world free,
-    part_kept world (make object setting world) (name_of setting world.next) object (make_shown object world)
+    part_kept world (make object setting world) (name_of setting world.next) object (make_shown setting object world)
         (free_part object world below free),
   )
 
@@ -242,13 +193,13 @@ module _ (setting : Setting) where
     touches = touch_fixed;
     misses = misses_fixed;
     holds = λ name object world there _. replaced_stays name object object world (put name object world)
-        (put_shown name object world) (put_next name object world) there refl;
+        (put_shown setting name object world) (put_next name object world) there refl;
     edits = λ name old new world there _ may. replaced_stays name old new world (put name new world)
-        (put_shown name new world) (put_next name new world) (changed_shown name old world there)
+        (put_shown setting name new world) (put_next name new world) (changed_shown setting name old world there)
         (replaced_fixed name old new world may);
     updates = λ name update old body world there _ may. replaced_stays name old (with_body body old) world
         (put name (with_body body old) (note name update setting world))
-        (put_noted_shown name update (with_body body old) world)
+        (put_noted_shown setting name update (with_body body old) world)
         (put_noted_next name update (with_body body old) world) there
         (replaced_fixed name old (with_body body old) world may);
     makes = λ objects world below _. new_fixed objects world below;
@@ -305,14 +256,14 @@ module _ (setting : Setting) where
   hold_sound : (name : ℕ) (object : Contents) (world : World) → shown name setting world ≡ Some object
       → StaysSound world (put name object world)
   hold_sound name object world there sound = replaced_sound name object object world (put name object world)
-      (put_shown name object world) (put_next name object world) there refl
+      (put_shown setting name object world) (put_next name object world) there refl
       (fits_more (fixed_by setting world) (parts_with name object setting world)
       (own_parts name object world there) name object (sound.each name object there)) sound
 
   edit_sound : (name : ℕ) (old new : Contents) (world : World) → get world.changes name ≡ Some old
       → may_replace name old new setting world ≡ true → StaysSound world (put name new world)
   edit_sound name old new world there may = replaced_sound name old new world (put name new world)
-      (put_shown name new world) (put_next name new world) (changed_shown name old world there)
+      (put_shown setting name new world) (put_next name new world) (changed_shown setting name old world there)
       (replaced_fixed name old new world may) (replaced_fits name old new world may)
 
   update_sound : (name : ℕ) (update : Update) (old : Contents) (body : Body) (world : World)
@@ -321,7 +272,7 @@ module _ (setting : Setting) where
   update_sound name update old body world there may =
       let new = with_body body old in
       replaced_sound name old new world (put name new (note name update setting world))
-      (put_noted_shown name update new world) (put_noted_next name update new world) there
+      (put_noted_shown setting name update new world) (put_noted_next name update new world) there
       (replaced_fixed name old new world may) (replaced_fits name old new world may)
 
   -- What is seen after objects are made: the first of them has this name.
@@ -359,7 +310,7 @@ module _ (setting : Setting) where
       let next : name_of setting made.next ≡ name + 1 = next_after object world in
       new_shown rest made asked
       ∙ (ap (λ from. seen_new from rest (λ other. shown other setting made) asked) next
-      ∙ (ap (λ (seen : Objects). seen_new (name + 1) rest seen asked) (fun_ext (make_shown object world))
+      ∙ (ap (λ (seen : Objects). seen_new (name + 1) rest seen asked) (fun_ext (make_shown setting object world))
       ∙ seen_apart (name + 1) name rest object (λ other. shown other setting world) asked (omega arith)))
 
   seen_parts : (name : ℕ) (objects : List Contents) (seen : Objects) (asked : ℕ)
@@ -407,7 +358,7 @@ module _ (setting : Setting) where
           inr (
             omega (arith, at),
             subst (λ some. fits parts some object ≡ true) (sym at)
-                (subst (λ some. fits parts name some ≡ true) (one_object first object given) fit),
+                (subst (λ some. fits parts name some ≡ true) (same_Some first object given) fit),
           )
       by false own given fit next = next given
 

@@ -12,6 +12,7 @@ use Rattle.object_programs.specs.Guard.{Parts}
 use Rattle.object_programs.specs.Atom.{touch_missing}
 use Rattle.object_programs.specs.Laws.{IsInReach}
 use Rattle.object_programs.proofs.Kept.{Kept, of_worlds, each_new}
+use Rattle.object_programs.proofs.Worlds.{changed_shown, note_shown}
 
 module _ (setting : Setting) where
   abbrev pub StaysInReach : World → World → Type 0
@@ -52,11 +53,6 @@ module _ (setting : Setting) where
         | inr apart ↦ reach.own asked (sym (ap is_some (get-insert_other world.changes name new asked apart)) ∙ some)
       ]
 
-  noted_shown : (name : ℕ) (update : Update) (world : World)
-      → shown name setting (note name update setting world) ≡ shown name setting world
-  unfolding note
-  noted_shown name update world = refl
-
   drawn_now : (world : World) → setting.first ≤ world.next
       → (nat_le (name_of setting setting.first) (name_of setting world.next)
       && nat_lt (name_of setting world.next) (name_of setting (world.next + 1))) ≡ true
@@ -94,10 +90,6 @@ module _ (setting : Setting) where
             ]
       ]
 
-  changed_shown : (name : ℕ) (old : Contents) (world : World) → get world.changes name ≡ Some old
-      → shown name setting world ≡ Some old
-  changed_shown name old world there = ap (λ found. option_or found (before_changes name setting)) there
-
   pub reach_stays : Kept setting (λ world budget later left. StaysInReach world later)
   reach_stays = of_worlds setting StaysInReach record {
     same = λ world reach. reach;
@@ -105,10 +97,10 @@ module _ (setting : Setting) where
     touches = touch_reach;
     misses = misses_reach;
     holds = λ name object world there _. put_reach name object object world there;
-    edits = λ name old new world there _ _. put_reach name old new world (changed_shown name old world there);
+    edits = λ name old new world there _ _. put_reach name old new world (changed_shown setting name old world there);
     updates = λ name update old body world there _ _ reach.
         put_reach name old (with_body body old) (note name update setting world)
-        (noted_shown name update world ∙ there) (noted_reach name update world reach);
+        (note_shown setting name name update world ∙ there) (noted_reach name update world reach);
     makes = λ objects world below _. each_new setting StaysInReach (λ world reach. reach)
         (λ world between later first second reach. second (first reach))
         (λ object world _. make_reach object world) objects world below;

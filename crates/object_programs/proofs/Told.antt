@@ -1,9 +1,9 @@
 -- What has become of a reduced-conflict object that was there before is told by its updates.
-use Rattle.std.proofs.Common.{◌≡◌, ◌≢◌, ◌∙◌, refl, sym, ap, subst, ℕ, ◌+◌, ◌≤◌, Bool, true, false, ◌&&◌, ◌||◌, not, nat_eq, nat_le, nat_lt, cond, Option, Some, None, List, [], ◌∷◌, ◌++◌, append-nil, option_map, is_some, inl, inr, arith}
+use Rattle.std.proofs.Common.{◌≡◌, ◌≢◌, ◌∙◌, refl, sym, ap, subst, ℕ, ◌+◌, ◌≤◌, Bool, true, false, ◌&&◌, nat_eq, nat_le, nat_lt, cond, Option, Some, None, List, [], ◌∷◌, ◌++◌, append-nil, option_map, is_some, inl, inr, arith}
 use Rattle.std.specs.FinMap.{get, insert, get-empty}
 use Rattle.std.specs.Ordering.{nat_cmp}
 use Rattle.std.specs.Option.{option_or, option_and_then}
-use Rattle.std.proofs.lemmas.Bool.{false≢true, true≢false, and_from, cases_eq, eq-eqb, le-leb, lt-ltb, ltb-true, ne_eqb}
+use Rattle.std.proofs.lemmas.Bool.{false≢true, and_from, cases_eq, eq-eqb, le-leb, lt-ltb, ltb-true, ne_eqb}
 use Rattle.std.proofs.lemmas.List.Elements.{filter_map-append}
 use Rattle.radix_pages.proofs.Tables.{get-insert_same, get-insert_other}
 use Rattle.gem_object.specs.Kinds.{is_shared}
@@ -19,6 +19,7 @@ use Rattle.object_programs.specs.Guard.{Parts, may_change}
 use Rattle.object_programs.specs.Atom.{touch_missing}
 use Rattle.object_programs.specs.Laws.{updated_by_all, UpdatesTell}
 use Rattle.object_programs.proofs.Kept.{Kept, of_worlds, each_new}
+use Rattle.object_programs.proofs.Worlds.{put_next, note_next, make_next, changed_shown, put_here, put_elsewhere, note_shown, note_unmade, may_not_change}
 
 -- ---- updates of one body
 
@@ -136,24 +137,9 @@ module _ (setting : Setting) where
       ap (λ found. is_drawn asked setting world && is_some found)
       (sym (get-insert_other world.changes name new asked apart)) ∙ unmade
 
-  put_here : (name : ℕ) (new : Contents) (world : World) → shown name setting (put name new world) ≡ Some new
-  unfolding put
-  put_here name new world = ap (λ found. option_or found (before_changes name setting))
-      (get-insert_same world.changes name new name refl)
-
-  put_elsewhere : (asked name : ℕ) (new : Contents) (world : World) → asked ≢ name
-      → shown asked setting (put name new world) ≡ shown asked setting world
-  unfolding put
-  put_elsewhere asked name new world apart = ap (λ found. option_or found (before_changes asked setting))
-      (get-insert_other world.changes name new asked apart)
-
   put_updates : (name : ℕ) (new : Contents) (world : World) → (put name new world).updates ≡ world.updates
   unfolding put
   put_updates name new world = refl
-
-  put_next : (name : ℕ) (new : Contents) (world : World) → (put name new world).next ≡ world.next
-  unfolding put
-  put_next name new world = refl
 
   -- what is seen of such an object is a reduced-conflict one
   seen_shared : (name : ℕ) (old object : Contents) (world : World) → UpdatesTell setting world
@@ -186,7 +172,7 @@ module _ (setting : Setting) where
       | inr apart ↦ ap (λ updates. option_map (λ some. with_body some old)
           (updated_by_all (updates_on asked updates) old.body)) (put_updates name new world)
           ∙ (tells.told asked old before shared (unmade_elsewhere asked name new world apart unmade)
-          ∙ sym (put_elsewhere asked name new world apart))
+          ∙ sym (put_elsewhere setting asked name new world apart))
     ];
   }
 
@@ -196,44 +182,17 @@ module _ (setting : Setting) where
       (λ old tells before shared unmade. false≢true (sym ordinary
       ∙ seen_shared name old object world tells before shared unmade there))
 
-  changed_shown : (name : ℕ) (old : Contents) (world : World) → get world.changes name ≡ Some old
-      → shown name setting world ≡ Some old
-  changed_shown name old world there = ap (λ found. option_or found (before_changes name setting)) there
-
-  may_not : (name : ℕ) (old : Contents) (world : World) → may_change name old setting world ≡ true
-      → is_made name setting world ≡ false → is_shared old.body ≡ true → ⊥
-  unfolding may_change
-  may_not name old world may unmade shared = by (is_made name setting world) (is_shared old.body) may unmade shared
-    where
-      by : (made alike : Bool) → (made || not alike) ≡ true → made ≡ false → alike ≡ true → ⊥
-      by true alike given is also = true≢false is
-      by false true given is also = false≢true given
-      by false false given is also = false≢true also
-
   edit_told : (name : ℕ) (old new : Contents) (world : World) → get world.changes name ≡ Some old
       → may_change name old setting world ≡ true → StaysTold world (put name new world)
   edit_told name old new world there may = put_told name new world
-      (λ first tells before shared unmade. may_not name old world may unmade
-      (seen_shared name first old world tells before shared unmade (changed_shown name old world there)))
+      (λ first tells before shared unmade. false≢true (sym (may_not_change setting name old world unmade
+      (seen_shared name first old world tells before shared unmade (changed_shown setting name old world there)))
+      ∙ may))
 
   noted_drawn : (asked name : ℕ) (update : Update) (world : World)
       → is_drawn asked setting (note name update setting world) ≡ is_drawn asked setting world
   unfolding note
   noted_drawn asked name update world = refl
-
-  noted_made : (asked name : ℕ) (update : Update) (world : World)
-      → is_made asked setting (note name update setting world) ≡ is_made asked setting world
-  unfolding note is_made
-  noted_made asked name update world = refl
-
-  noted_shown : (asked name : ℕ) (update : Update) (world : World)
-      → shown asked setting (note name update setting world) ≡ shown asked setting world
-  unfolding note
-  noted_shown asked name update world = refl
-
-  noted_next : (name : ℕ) (update : Update) (world : World) → (note name update setting world).next ≡ world.next
-  unfolding note
-  noted_next name update world = refl
 
   -- the updated object itself
   told_here : (updates : List Update) (update : Update) (first old : Contents) (after : Body)
@@ -260,7 +219,7 @@ module _ (setting : Setting) where
       → shown name setting world ≡ Some old → updated update old.body ≡ Some after
       → StaysTold world (put name (with_body after old) (note name update setting world))
   update_told name update old after world there is tells = record {
-    begun = omega (arith, tells.begun, put_next name new noted, noted_next name update world);
+    begun = omega (arith, tells.begun, put_next name new noted, note_next name update setting world);
     told = λ asked first before shared unmade. elim (cases_eq asked name) [
       | inl same ↦
           let here = subst (λ some. before_changes some setting ≡ Some first) same before in
@@ -276,15 +235,15 @@ module _ (setting : Setting) where
           (noted_at name update world before_made)
           ∙ (told_here (updates_on name world.updates) update first old after
           (tells.told name first here shared before_made ∙ there) is
-          ∙ sym (put_here name new noted))))
+          ∙ sym (put_here setting name new noted))))
       | inr apart ↦
           let others = unmade_elsewhere asked name new noted apart unmade in
           ap (λ updates. option_map (λ one. with_body one first)
           (updated_by_all (updates_on asked updates) first.body)) (put_updates name new noted)
           ∙ (ap (λ updates. option_map (λ one. with_body one first) (updated_by_all updates first.body))
           (noted_elsewhere asked name update world (ne_eqb name asked (λ same. apart (sym same))))
-          ∙ (tells.told asked first before shared (sym (noted_made asked name update world) ∙ others)
-          ∙ (sym (noted_shown asked name update world) ∙ sym (put_elsewhere asked name new noted apart))))
+          ∙ (tells.told asked first before shared (sym (note_unmade setting asked name update world) ∙ others)
+          ∙ (sym (note_shown setting asked name update world) ∙ sym (put_elsewhere setting asked name new noted apart))))
     ];
   }
     where
@@ -296,20 +255,16 @@ module _ (setting : Setting) where
 
   -- ---- objects that are made
 
-  make_next : (object : Contents) (world : World) → (make object setting world).next ≡ world.next + 1
-  unfolding make
-  make_next object world = refl
-
   make_updates : (object : Contents) (world : World) → (make object setting world).updates ≡ world.updates
   unfolding make
   make_updates object world = refl
 
-  make_elsewhere : (asked : ℕ) (object : Contents) (world : World) → asked ≢ name_of setting world.next
+  pub make_elsewhere : (asked : ℕ) (object : Contents) (world : World) → asked ≢ name_of setting world.next
       → get (make object setting world).changes asked ≡ get world.changes asked
   unfolding make
   make_elsewhere asked object world apart = get-insert_other world.changes (name_of setting world.next) object asked apart
 
-  now_made : (object : Contents) (world : World) → setting.first ≤ world.next
+  pub now_made : (object : Contents) (world : World) → setting.first ≤ world.next
       → is_made (name_of setting world.next) setting (make object setting world) ≡ true
   unfolding make is_made
   now_made object world begun =
@@ -321,7 +276,7 @@ module _ (setting : Setting) where
       (ap is_some (get-insert_same world.changes name object name refl))
 
   -- a name that isn't made then wasn't made before
-  unmade_then : (asked : ℕ) (object : Contents) (world : World) → asked ≢ name_of setting world.next
+  pub unmade_then : (asked : ℕ) (object : Contents) (world : World) → asked ≢ name_of setting world.next
       → is_made asked setting (make object setting world) ≡ false → is_made asked setting world ≡ false
   unfolding make is_made
   unmade_then asked object world apart unmade =
@@ -340,7 +295,7 @@ module _ (setting : Setting) where
 
   make_told : (object : Contents) (world : World) → StaysTold world (make object setting world)
   make_told object world tells = record {
-    begun = omega (arith, tells.begun, make_next object world);
+    begun = omega (arith, tells.begun, make_next object setting world);
     told = λ asked old before shared unmade. elim (cases_eq asked (name_of setting world.next)) [
       | inl same ↦ absurd (false≢true
           (sym (subst (λ some. is_made some setting (make object setting world) ≡ false) same unmade)

@@ -1,5 +1,5 @@
 -- What laws of all programs speak of.
-use Rattle.std.specs.Prelude.{◌≡◌, ◌⊎◌, ℕ, ◌+◌, ◌^◌, ◌≤◌, ◌<◌, true, false, List, [], ◌∷◌, Option, None, Some, IsSome, is_some, option_map, option_and_then}
+use Rattle.std.specs.Prelude.{◌≡◌, ◌⊎◌, ℕ, ◌+◌, ◌^◌, ◌≤◌, ◌<◌, true, false, List, [], ◌∷◌, ◌++◌, Option, None, Some, IsSome, is_some, option_map, option_and_then}
 use Rattle.std.specs.FinMap.{get}
 use Rattle.gem_object.specs.Spelling.{IsOid, IsSpelledBody}
 use Rattle.gem_object.specs.Kinds.{is_shared}
@@ -9,12 +9,13 @@ use Rattle.gem_update.specs.declared.update.Update.{Update}
 use Rattle.gem_image.specs.Image.{Image, Contents, Objects, objects_in}
 use Rattle.gem_world.specs.World.{Setting, World, name_of, before_changes, shown, is_drawn, is_made}
 use Rattle.gem_world.specs.Changes.{with_body, updates_on}
-use Rattle.gem_world.specs.Access.{IsTouched}
+use Rattle.gem_world.specs.Access.{IsTouched, a_write, is_allowed}
 use Rattle.gem_sound.specs.Kernel.{kernel_body}
 use Rattle.object_programs.specs.Budget.{Budget}
 use Rattle.object_programs.specs.Fixed.{Fixed, fixed_of, fixed_by}
 use Rattle.object_programs.specs.Guard.{Parts, is_user_at, asked_names, fits, parts_with}
 use Rattle.object_programs.specs.Atom.{says, Done, touch_missing}
+use Rattle.object_programs.specs.Steps.{Step, after_steps}
 use Rattle.object_programs.specs.declared.limits.TheConstants.{COUNTER_LIMIT}
 
 -- the setting with another image at its place
@@ -56,6 +57,17 @@ pub record IsInReach (setting : Setting) (world : World) : Type 0 where
   pub own : (name : ℕ) → is_some (get world.changes name) ≡ true
       → (is_drawn name setting world ≡ true) ⊎ (is_some (before_changes name setting) ≡ true)
 
+-- Among the commands there is one at whose beginning, when those before it have been performed, the
+-- user might write the object of this name.
+pub record MightWrite (name : ℕ) (steps : List Step) (setting : Setting) (world : World)
+    (budget : Budget) : Type 0 where
+  pub before : List Step
+  pub step : Step
+  pub rest : List Step
+  pub are : steps ≡ before ++ step ∷ rest
+  pub allowed : is_allowed a_write name setting
+      (after_steps before setting world budget).state.world ≡ true
+
 -- a body after updates, one after the other; None where one of them is refused
 abbrev pub updated_by_all : List Update → Body → Option Body
 updated_by_all [] body = Some body
@@ -73,8 +85,8 @@ pub record UpdatesTell (setting : Setting) (world : World) : Type 0 where
       (updated_by_all (updates_on name world.updates) old.body)
       ≡ shown name setting world
 
--- The objects that are seen are sound: each of them fits and has a name of an object, the kernel and
--- the user are there, and the names that are still to be drawn are names of objects, and free.
+-- The objects that are seen are sound: each of them fits and has a name of an object, the kernel
+-- and the user are there, and the names that are still to be drawn are names of objects, and free.
 pub record AreSound (setting : Setting) (world : World) : Type 0 where
   pub serial_bound : setting.serial < 2 ^ 24
   pub some_name : 0 < world.next

@@ -7,7 +7,7 @@ use Rattle.gem_image.specs.Image.{Contents}
 use Rattle.gem_world.specs.World.{Setting, World}
 use Rattle.object_programs.specs.Budget.{Budget}
 use Rattle.object_programs.specs.Local.{nothing}
-use Rattle.object_programs.specs.Atom.{Own, Made, Move, Names, Tick, Room, Show}
+use Rattle.object_programs.specs.Atom.{Own, Made, Who, Put, Move, Note, Names, Tick, Room, Show}
 use Rattle.object_programs.specs.Run.{Run, give, atom, and_then, Outcome, perform}
 use Rattle.object_programs.specs.Programs.{read, write, known, make_objects, replace_body, update}
 use Rattle.object_programs.specs.declared.fault.Fault.TheVariants as fault
@@ -23,11 +23,17 @@ pub data Step : Type 0 where
   knowing : ℕ → Step
   -- it is asked whether it was made in the transaction
   asking : ℕ → Step
+  -- the user's name is asked for
+  calling : Step
   -- it gets this body, or lies in this segment
   putting : (growth name : ℕ) → Body → Step
   moving : (name segment : ℕ) → Step
   -- it is updated
   updating : (growth name : ℕ) → Update → Step
+  -- the same, but it isn't written before: a body is put, it is moved, it is updated
+  placing : ℕ → Body → Step
+  shifting : (name segment : ℕ) → Step
+  noting : ℕ → Update → Step
   -- so many names are to be had
   naming : ℕ → Step
   -- these objects are made
@@ -50,11 +56,15 @@ module _ {B : Type 0} where
   step_program looking = only (atom Own)
   step_program (knowing name) = only (known fault.ArgumentKind name)
   step_program (asking name) = only (atom (Made name))
+  step_program calling = only (atom Who)
   step_program (putting growth name body) =
       and_then (write name) (λ object. replace_body growth name object body)
   step_program (moving name segment) = and_then (write name) (λ object. atom (Move name segment))
   step_program (updating growth name change) =
       and_then (write name) (λ object. update fault.KeyAbsent growth name object change)
+  step_program (placing name body) = atom (Put name body)
+  step_program (shifting name segment) = atom (Move name segment)
+  step_program (noting name change) = atom (Note name change)
   step_program (naming count) = atom (Names count)
   step_program (making objects_at) = only (make_objects objects_at)
   step_program spending = atom Tick

@@ -91,8 +91,8 @@ fn printed(text: &Text) -> Result<&str, fmt::Error>
     str::from_utf8(text.bytes()).map_err(|_| fmt::Error)
 }
 
-/// What is printed after `error Ek `. Where a text that the fault holds isn't UTF-8 it isn't printed,
-/// and the answer is an error; so is any refusal of the writer.
+/// What is printed after `error Ek `. Where a text that the fault holds isn't UTF-8 it isn't
+/// printed, and the answer is an error; so is any refusal of the writer.
 impl fmt::Display for Fault {
     ghost output = { λ fault. Some (fault_text fault) };
 

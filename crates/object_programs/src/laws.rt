@@ -1,6 +1,6 @@
 //! What follows from the definitions alone. Each law is the contract of a function that does
 //! nothing.
-ghost use Rattle.std.specs.Prelude.{◌≡◌, ◌↔◌, ◌<◌, ◌≤◌, ◌-◌, ◌+◌, ℕ, true, false, List, [], ◌∷◌, ◌++◌, length, Some, None, IsSome};
+ghost use Rattle.std.specs.Prelude.{◌≡◌, ◌⊎◌, ◌↔◌, ◌<◌, ◌≤◌, ◌-◌, ◌+◌, ℕ, true, false, List, [], ◌∷◌, ◌++◌, length, Some, None, IsSome, is_some};
 ghost use Rattle.std.specs.FinMap.{get};
 ghost use Rattle.std.specs.List.{list_all};
 ghost use Rattle.std.specs.Option.{IfSome};
@@ -24,7 +24,7 @@ ghost use Rattle.object_programs.specs.Methods.{methods_fit};
 ghost use Rattle.object_programs.specs.Guard.{may_replace, parts_with_new, may_make};
 ghost use Rattle.object_programs.specs.Atom.{Ask, Own, Kind, Made, Who, Put, Move, Note, Names, Make, Tick, Room, Show, says, done, refused, touch_missing, objects_cost, with_new, asked_by_all};
 ghost use Rattle.object_programs.specs.Steps.{Step, after_steps};
-ghost use Rattle.object_programs.specs.Laws.{rebased, Stays, AgreeOnTouched, Falls, KeepsParts, AreFree, IsInReach, UpdatesTell, AreSound, HasSpelling, AreStored, answered, lacking, Shows};
+ghost use Rattle.object_programs.specs.Laws.{rebased, Stays, AgreeOnTouched, Falls, KeepsParts, AreFree, IsInReach, MightWrite, UpdatesTell, AreSound, HasSpelling, AreStored, answered, lacking, Shows};
 
 use crate::fault::Fault;
 use crate::limits::{COUNTER_LIMIT, TRANSCRIPT_LIMIT};
@@ -71,6 +71,16 @@ pub fn names_are_drawn()
         → IsInReach setting (after_steps steps setting world budget).state.world }
 {}
 
+/// Whatever commands are performed, what comes among the changes was made in the transaction, or
+/// the user might write it at the beginning of one of the commands.
+pub fn written_or_made()
+    ensures { (steps : List Step) (setting : Setting) (world : World) (budget : Budget) (name : ℕ)
+        → setting.first ≤ world.next → get world.changes name ≡ None
+        → let after = (after_steps steps setting world budget).state.world in
+        is_some (get after.changes name) ≡ true
+        → (is_made name setting after ≡ true) ⊎ MightWrite name steps setting world budget }
+{}
+
 /// Whatever commands are performed, sound objects stay sound.
 pub fn soundness_stays()
     ensures { (steps : List Step) (setting : Setting) (world : World) (budget : Budget)
@@ -78,9 +88,9 @@ pub fn soundness_stays()
         → AreSound setting (after_steps steps setting world budget).state.world }
 {}
 
-/// Whatever commands are performed, a reduced-conflict object that was there before, and wasn't made
-/// in the transaction, is changed by its noted updates alone: class and segment stay, and its body
-/// is the one before after these updates in their order. So it is before anything is done.
+/// Whatever commands are performed, a reduced-conflict object that was there before, and wasn't
+/// made in the transaction, is changed by its noted updates alone: class and segment stay, and its
+/// body is the one before after these updates in their order. So it is before anything is done.
 pub fn updates_tell_shared()
     ensures stays { (steps : List Step) (setting : Setting) (world : World) (budget : Budget)
         → UpdatesTell setting world
@@ -280,8 +290,8 @@ pub fn budgets_are_exact()
 {}
 
 /// A make asks for the size first (E17), then for names (E16), then for space (E15), and a refusal
-/// changes nothing. After that objects that fit are made, one after the other, and take their space;
-/// others are refused (E17), and the names that they lack are touched.
+/// changes nothing. After that objects that fit are made, one after the other, and take their
+/// space; others are refused (E17), and the names that they lack are touched.
 pub fn makes_in_order()
     ensures large { (objects_at : ℕ → List Contents) (setting : Setting) (world : World)
         (budget : Budget) → let objects = objects_at (name_of setting world.next) in

@@ -1,5 +1,5 @@
 -- The table of op codes.
-use Rattle.std.specs.Prelude.{◌==◌, ℕ, List, [], ◌∷◌, Option, map, find}
+use Rattle.std.specs.Prelude.{◌==◌, ℕ, List, [], ◌∷◌, Option, map, find, replicate}
 use Rattle.op_table.specs.declared.ops.Op.{Op}
 use Rattle.op_table.specs.declared.ops.Op.TheVariants.{PushSelf, PushNil, PushTrue, PushFalse, PushLit, MakeLit, PushLocal, StoreLocal, PushName, StoreName, Pop, Dup, Send, SuperSend, PushBlock, ReturnMethod, ReturnHome, ReturnBlock, Jump, JumpTrue, JumpFalse, Unit as TakeUnit, Enter, Leave, LoopStart, LoopNext, LoopStep}
 use Rattle.op_table.specs.declared.ops.Row.{Row}
@@ -39,6 +39,13 @@ row_for Leave = row 0x17 Leave 0 0 0
 row_for LoopStart = row 0x18 LoopStart 0 2 2
 row_for LoopNext = row 0x19 LoopNext 1 2 3  -- target; puts 3, or none where it jumps
 row_for LoopStep = row 0x1a LoopStep 1 2 2  -- target; puts 2, or none where the loop ends
+
+-- how many bytes each operand of an op takes, in their order: a depth takes one, and any other
+-- operand four
+abbrev pub widths : Op → List ℕ
+widths PushLocal = 1 ∷ 4 ∷ []  -- depth, index
+widths StoreLocal = 1 ∷ 4 ∷ []  -- depth, index
+widths op = replicate (row_for op).operands 4
 
 -- the ops, in the order of their bytes
 abbrev pub all_ops : List Op

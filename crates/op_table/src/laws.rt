@@ -1,6 +1,6 @@
 //! What follows from the tables alone. Each law is the contract of a function that does nothing.
-ghost use Rattle.std.specs.Prelude.{◌≡◌, All};
-ghost use Rattle.op_table.specs.Ops.{row_for, row_at};
+ghost use Rattle.std.specs.Prelude.{◌≡◌, All, length};
+ghost use Rattle.op_table.specs.Ops.{row_for, widths, row_at};
 ghost use Rattle.op_table.specs.Prims.{primitives, argument_count};
 ghost use Rattle.op_table.specs.declared.ops.Op.{Op};
 
@@ -13,6 +13,11 @@ pub fn op_reads_back()
 /// No two ops have the same byte.
 pub fn one_op_a_byte()
     ensures { (op other : Op) → (row_for op).byte ≡ (row_for other).byte → op ≡ other }
+{}
+
+/// Each operand of an op has a width.
+pub fn widths_fit()
+    ensures { (op : Op) → length (widths op) ≡ (row_for op).operands }
 {}
 
 /// Each primitive takes as many arguments as a message with its selector has.

@@ -6,5 +6,5 @@ pub mod laws;
 mod ops;
 mod prims;
 
-pub use ops::{Op, Row, Table, byte_of, op_table, row_of};
+pub use ops::{Op, Row, Table, byte_of, op_table, row_of, widths_of};
 pub use prims::{Kind, PrimRow, prim_row};

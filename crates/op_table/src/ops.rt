@@ -1,6 +1,6 @@
 //! The op codes.
 ghost use Rattle.std.specs.Prelude.{◌≡◌, ◌≢◌, ◌↔◌, ℕ, slice_get, IsNone, IfSome};
-ghost use Rattle.op_table.specs.Ops.{row_for, op_rows, row_at};
+ghost use Rattle.op_table.specs.Ops.{row_for, widths, op_rows, row_at};
 ghost use Rattle.op_table.specs.declared.ops.Op.{Op};
 
 /// What one instruction does. Its operands follow its byte: a depth is one byte, any other operand
@@ -158,4 +158,38 @@ pub fn byte_of(op: Op) -> u8
     ensures { result ≡ (row_for op).byte }
 {
     op_table().rows[op as usize].byte
+}
+
+/// How many bytes each operand of an op takes, in their order, the lowest byte of each first. It
+/// takes no memory.
+pub fn widths_of(op: Op) -> &'static [u8]
+    ensures { result.now ≡ widths op }
+{
+    match op {
+        Op::PushLocal | Op::StoreLocal => &[1, 4],
+        Op::Send | Op::SuperSend => &[4, 4],
+        Op::PushLit
+        | Op::MakeLit
+        | Op::PushName
+        | Op::StoreName
+        | Op::PushBlock
+        | Op::Jump
+        | Op::JumpTrue
+        | Op::JumpFalse
+        | Op::Enter
+        | Op::LoopNext
+        | Op::LoopStep => &[4],
+        Op::PushSelf
+        | Op::PushNil
+        | Op::PushTrue
+        | Op::PushFalse
+        | Op::Pop
+        | Op::Dup
+        | Op::ReturnMethod
+        | Op::ReturnHome
+        | Op::ReturnBlock
+        | Op::Unit
+        | Op::Leave
+        | Op::LoopStart => &[],
+    }
 }

@@ -3,3 +3,7 @@ pub mod Pairs
 pub mod Printed
 pub mod Ascending
 pub mod Sizes
+pub mod Division
+pub mod Bits
+pub mod Shifts
+pub mod Moves

@@ -11,15 +11,15 @@ use Rattle.gem_object.specs.declared.body.Body.TheVariants.{Plain}
 use Rattle.gem_image.specs.Image.{Contents}
 use Rattle.gem_world.specs.World.{Setting, World, before_changes, shown, touch}
 use Rattle.gem_world.specs.Changes.{with_body, put}
-use Rattle.gem_world.specs.Access.{Access, a_read, a_write, is_allowed, touches_of, with_touches, after_allowed, accessed}
+use Rattle.gem_world.specs.Access.{a_read, a_write, is_allowed, touches_of, with_touches, after_allowed, accessed}
 use Rattle.object_programs.specs.Fixed.{ClassPart, fixed_of, fixed_by}
 use Rattle.object_programs.specs.Budget.{is_within_limits}
 use Rattle.object_programs.specs.Atom.{Kind, edited}
 use Rattle.object_programs.specs.Run.{Run, give, atom, and_then, gives, State, perform}
 use Rattle.object_programs.specs.Programs.{read, write, replace_body, part_of, line_of, classes_within, classes_above}
-use Rattle.prim_rules.specs.Parts.{named_slots}
-use Rattle.prim_rules.specs.Sequences.{Sequence, sequence_in, read_sequence, written_sequence, put_elements}
-use Rattle.prim_rules.specs.Worked.{NoBlocks, named_class, pair_in, HasPair}
+use Rattle.prim_rules.specs.Parts.{named_slots, new_object}
+use Rattle.prim_rules.specs.Sequences.{Sequence, sequence_in, read_sequence, written_sequence, put_elements, new_slots, new_sequence}
+use Rattle.prim_rules.specs.Worked.{NoBlocks, after, named_class, pair_in, HasPair}
 use Rattle.prim_rules.proofs.Performed.{goes_on, access_gives, kind_given, body_put}
 
 -- the class has one name
@@ -57,20 +57,22 @@ pair_parts segment class setting state known = goes_on (named_slots class)
       elements = drop named (Nil ∷ True ∷ False ∷ []);
     })) setting state state 1 (one_named class setting state known)
 
--- the state after an access
-abbrev pub after : Access → ℕ → Setting → State NoBlocks → State NoBlocks
-after access name setting state =
-    record state { world = accessed access name setting state.world }
+-- a read changes no object, so a class is known after it
+pub shown_after_read : (name other : ℕ) (object : Contents) (setting : Setting) (world : World)
+    → is_allowed a_read name setting world ≡ true → shown name setting world ≡ Some object
+    → shown other setting (accessed a_read name setting world) ≡ shown other setting world
+unfolding accessed with_touches touch
+shown_after_read name other object setting world allowed there =
+    ap₂ (λ (may : Bool) (found : Option Contents). shown other setting
+    (cond may (after_allowed a_read name found (touches_of name found setting world))
+    (touches_of name found setting world))) allowed there
 
--- the class is known after a read and after a write of the object
 still_after_read : (name class : ℕ) (object : Contents) (setting : Setting) (world : World)
     → is_allowed a_read name setting world ≡ true → shown name setting world ≡ Some object
     → fixed_by setting (accessed a_read name setting world) class ≡ fixed_by setting world class
-unfolding accessed with_touches touch
 still_after_read name class object setting world allowed there =
-    ap₂ (λ (may : Bool) (found : Option Contents). fixed_by setting
-    (cond may (after_allowed a_read name found (touches_of name found setting world))
-    (touches_of name found setting world)) class) allowed there
+    ap (λ (found : Option Contents). option_map fixed_of found)
+    (shown_after_read name class object setting world allowed there)
 
 pub known_after_read : (name segment class : ℕ) (setting : Setting) (state : State NoBlocks)
     → HasPair a_read name segment class setting state.world
@@ -149,3 +151,31 @@ pair_put name segment class elements answer setting state small =
     (with_slots name (Nil ∷ elements) setting state) tt
     (body_put name (pair_in segment class) (Plain (Nil ∷ elements)) setting
     (after a_write name setting state) small)
+
+-- a rule for a sequence that is read goes on with what it holds
+pub pair_copied : (rule : (class : ℕ) → Sequence → Run NoBlocks Value)
+    → (name segment class : ℕ) (setting : Setting) (state : State NoBlocks)
+    → HasPair a_read name segment class setting state.world
+    → perform (and_then (read name) (λ object. and_then (sequence_in object) (rule object.class)))
+    setting state ≡ perform (rule class the_pair) setting (after a_read name setting state)
+pair_copied rule name segment class setting state has =
+    goes_on (read name) (λ object. and_then (sequence_in object) (rule object.class)) setting state
+    (after a_read name setting state) (pair_in segment class)
+    (access_gives a_read name (pair_in segment class) setting state has.may.allowed
+    has.may.there)
+    ∙ goes_on (sequence_in (pair_in segment class)) (rule class) setting
+    (after a_read name setting state) (after a_read name setting state) the_pair
+    (pair_parts segment class setting (after a_read name setting state)
+    (known_after_read name segment class setting state has))
+
+-- a new object of the class has a slot more, which is nil
+pub pair_made : (name segment class : ℕ) (elements : List Value) (setting : Setting)
+    (state : State NoBlocks) → HasPair a_read name segment class setting state.world
+    → perform (new_sequence class elements) setting (after a_read name setting state)
+    ≡ perform (new_object class (Plain (Nil ∷ elements))) setting
+    (after a_read name setting state)
+pair_made name segment class elements setting state has =
+    goes_on (named_slots class) (λ named. new_object class (Plain (new_slots named elements)))
+    setting (after a_read name setting state) (after a_read name setting state) 1
+    (one_named class setting (after a_read name setting state)
+    (known_after_read name segment class setting state has))

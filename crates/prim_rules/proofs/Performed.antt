@@ -1,5 +1,5 @@
--- What a program does whose first step is known: an access that is allowed or refused, and the fixed
--- part of an object that is there.
+-- What a program does whose first step is known: an access that is allowed or refused, and the
+-- fixed part of an object that is there.
 use Rattle.std.specs.Prelude.{◌≡◌, ℕ, Bool, true, false, cond, is_some, Option, Some}
 use Rattle.std.proofs.Common.{ap, ap₂, ◌∙◌}
 use Rattle.std.proofs.Math.Nat.{sub-zero}
@@ -7,18 +7,18 @@ use Rattle.std.proofs.Math.Dec.{leb-zero}
 use Rattle.gem_object.specs.declared.body.Body.{Body}
 use Rattle.gem_world.specs.Changes.{with_body}
 use Rattle.object_programs.specs.Budget.{is_within_limits}
-use Rattle.object_programs.specs.Programs.{check, replace_body}
+use Rattle.object_programs.specs.Programs.{need, check, read, replace_body}
 use Rattle.object_programs.specs.declared.fault.Fault.TheVariants as fault
 use Rattle.gem_image.specs.Image.{Contents}
-use Rattle.gem_world.specs.World.{Setting, World, shown, with_name}
-use Rattle.gem_world.specs.Access.{Access, a_read, a_write, is_allowed, accessed}
+use Rattle.gem_world.specs.World.{Setting, shown, with_name}
+use Rattle.gem_world.specs.Access.{Access, a_read, is_allowed, accessed}
 use Rattle.object_programs.specs.Fixed.{Fixed, fixed_by}
 use Rattle.object_programs.specs.Atom.{Ask, Kind, Put, Room, access_answer, access_fault, touch_missing, spent_where, edited}
 use Rattle.object_programs.specs.Run.{Run, give, atom, and_then, gives, fails, State, Outcome, end_of, outcome_of, onward, perform}
 use Rattle.object_programs.specs.declared.fault.Fault.{Fault}
 use Rattle.gem_object.specs.declared.value.Value.{Value}
 use Rattle.prim_rules.specs.declared.answer.PrimitiveAnswer.TheVariants.{Gives}
-use Rattle.prim_rules.specs.Parts.{answers}
+use Rattle.prim_rules.specs.Parts.{user_in, default_segment, answers}
 
 module _ {B : Type 0} where
   -- a program with an answer goes on with it, and one with an error ends there
@@ -109,6 +109,21 @@ module _ {B : Type 0} where
       ∙ goes_on (atom (Room 0)) (λ room. atom (Put name body)) setting state state tt
       (room_of_none setting state)
 
+  -- there is no default segment where the profile can't be read
+  pub no_segment : (setting : Setting) (state : State B)
+      → is_allowed a_read setting.user setting state.world ≡ false
+      → perform default_segment setting state ≡ record {
+        end = fails (fault.NoReadRight setting.user);
+        state = record state { world = accessed a_read setting.user setting state.world };
+      }
+  unfolding default_segment
+  no_segment setting state refused =
+      ends_there (read setting.user) (λ profile.
+      and_then (need (fault.NoReadRight setting.user) (user_in profile.body)) (λ found.
+      give found.default_segment)) setting state
+      (record state { world = accessed a_read setting.user setting state.world })
+      (fault.NoReadRight setting.user) (access_fails a_read setting.user setting state refused)
+
   -- what a rule gives is the answer of its primitive, and so is its error
   pub answers_give : (rule : Run B Value) (setting : Setting) (state after : State B)
       (value : Value) → perform rule setting state ≡ record { end = gives value; state = after }
@@ -121,3 +136,11 @@ module _ {B : Type 0} where
       → perform (answers rule) setting state ≡ record { end = fails fault; state = after }
   answers_fail rule setting state after fault done =
       ends_there rule (λ found. give (Gives found)) setting state after fault done
+
+  -- two rules that do the same answer the same
+  pub answers_same : (rule other : Run B Value) (setting : Setting) (state after : State B)
+      → perform rule setting state ≡ perform other setting after
+      → perform (answers rule) setting state ≡ perform (answers other) setting after
+  answers_same rule other setting state after same =
+      ap (λ (out : Outcome B Value). onward out.end out.state
+      (λ found next. perform (give (Gives found)) setting next)) same

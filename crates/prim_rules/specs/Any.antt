@@ -18,12 +18,9 @@ use Rattle.object_programs.specs.Programs.{need, check, read, write, known}
 use Rattle.object_programs.specs.declared.fault.Fault.TheVariants as fault
 use Rattle.prim_rules.specs.declared.answer.PrimitiveAnswer.{PrimitiveAnswer}
 use Rattle.prim_rules.specs.Parts.{is_block, truth, reference_in, class_in, segment_in, one_of, no_arguments, class_of_value, check_kind, default_segment, new_object, new_object_in, answers}
-use Rattle.prim_rules.specs.Texts.{string_class, text_of_argument}
+use Rattle.prim_rules.specs.Texts.{text_of_argument}
 use Rattle.prim_rules.specs.Printing.{is_short, whole_text}
-
--- the number of the class Segment
-abbrev pub segment_class : ℕ
-segment_class = 23
+use Rattle.gem_sound.specs.declared.names.TheConstants.{SEGMENT_CLASS, STRING_CLASS}
 
 -- whether objects of this body can be copied
 abbrev pub is_copied : Body → Bool
@@ -78,7 +75,7 @@ module _ {B : Type 0} where
       and_then (whole_text value) (λ text.
       and_then default_segment (λ segment.
       and_then (check fault.ObjectTooLarge (is_short text)) (λ short.
-      new_object_in segment string_class (Bytes text))))
+      new_object_in segment STRING_CLASS (Bytes text))))
 
   abbrev pub row_4 : Value → List Value → Run B PrimitiveAnswer
   row_4 receiver arguments =
@@ -156,7 +153,7 @@ module _ {B : Type 0} where
   abbrev pub segment_argument : Value → Run B ℕ
   segment_argument argument =
       and_then (need fault.ArgumentKind (reference_in argument)) (λ name.
-      and_then (check_kind argument segment_class) (λ is_segment.
+      and_then (check_kind argument SEGMENT_CLASS) (λ is_segment.
       give name))
 
   -- the segment is read, and E11 unless it gives the user Write on the objects in it

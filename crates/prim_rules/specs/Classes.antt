@@ -18,15 +18,11 @@ use Rattle.object_programs.specs.declared.limits.TheConstants.{NAMES_LIMIT}
 use Rattle.object_programs.specs.Run.{Run, give, and_then}
 use Rattle.object_programs.specs.Programs.{need, check, read, known, classes_above}
 use Rattle.object_programs.specs.declared.fault.Fault.TheVariants as fault
-use Rattle.prim_rules.specs.Printing.{array_class}
 use Rattle.prim_rules.specs.Parts.{symbol_in, reference_in, slots_in, pairs_in, class_in, three_of, truth, check_kind, named_slots, default_segment, answers}
 use Rattle.prim_rules.specs.Receivers.{read_receiver, write_receiver, argument_as, answer, replaced_by, tells, lists}
 use Rattle.prim_rules.specs.Making.{Entered, make_and_enter}
 use Rattle.prim_rules.specs.declared.answer.PrimitiveAnswer.{PrimitiveAnswer}
-
--- the number of the class IdentityDictionary
-abbrev pub dictionary_class : ℕ
-dictionary_class = 17
+use Rattle.gem_sound.specs.declared.names.TheConstants.{ARRAY_CLASS, IDENTITY_DICTIONARY_CLASS}
 
 -- a name that a class may have: an identifier with a capital first
 abbrev pub begins_with_capital : Text → Bool
@@ -161,8 +157,8 @@ module _ {B : Type 0} where
   abbrev pub wanted_class : (superclass : ℕ) → Value × (Value × Value) → Run B NewClass
   wanted_class superclass wanted =
       and_then (need fault.ArgumentKind (class_name_in wanted.0)) (λ name.
-      and_then (check_kind wanted.1.0 array_class) (λ is_array.
-      and_then (check_kind wanted.1.1 dictionary_class) (λ is_dictionary.
+      and_then (check_kind wanted.1.0 ARRAY_CLASS) (λ is_array.
+      and_then (check_kind wanted.1.1 IDENTITY_DICTIONARY_CLASS) (λ is_dictionary.
       and_then (kind_to_inherit superclass) (λ kind.
       and_then (names_to_add superclass kind wanted.1.0) (λ names.
       give (record {

@@ -14,7 +14,7 @@ module _ {B : Type 0} where
   abbrev pub row_83 : Value → List Value → Run B PrimitiveAnswer
   row_83 receiver arguments = tells counter_in Int receiver arguments
 
-  -- 84 `incrementBy:`, which answers the receiver: E6 where the sum isn't an integer of the language
+  -- 84 `incrementBy:`: E6 where the sum isn't an integer of the language; it answers the receiver
   abbrev pub row_84 : Value → List Value → Run B PrimitiveAnswer
   row_84 receiver arguments =
       and_then (write_receiver counter_in receiver) (λ counter.

@@ -9,13 +9,10 @@ use Rattle.std.specs.Set.{remove_key}
 use Rattle.texts.specs.Bytes.{Bytes as Text}
 use Rattle.seg_rights.specs.declared.right.Right.{Right}
 use Rattle.seg_rights.specs.declared.right.Right.TheVariants.{None as NoRight, Read, Write}
-
--- how many groups a segment or a user has at most
-abbrev pub groups_limit : ℕ
-groups_limit = 100
+use Rattle.object_programs.specs.declared.limits.TheConstants.{GROUPS_LIMIT}
 
 abbrev pub are_few_groups : {X : Type 0} → List X → Bool
-are_few_groups groups = nat_le (length groups) groups_limit
+are_few_groups groups = nat_le (length groups) GROUPS_LIMIT
 
 -- the groups of a user with this one, and without it
 abbrev pub with_group : Text → List Text → List Text

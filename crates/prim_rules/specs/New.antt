@@ -20,21 +20,21 @@ use Rattle.prim_rules.specs.Parts.{int_in, reference_in, class_in, one_of, no_ar
 abbrev pub nil_slots : ℕ → Body
 nil_slots count = body.Plain (replicate count Nil)
 
--- The body of a new object of a class of this kind, which has so many named slots: it is empty
+-- The body of a new object of a class of this kind, by the number of its named slots: it is empty
 -- beside them. None where `new` makes no such object, or has a rule of its own for it.
-abbrev pub new_body : Kind → (named : ℕ) → Option Body
-new_body kind.Plain named = Some (nil_slots named)
-new_body kind.Indexed named = Some (nil_slots named)
-new_body kind.Bytes named = Some (body.Bytes [])
-new_body kind.Dict named = Some (body.Dict [])
-new_body kind.Counter named = Some (body.Counter (record { value = pos 0 }))
-new_body kind.Bag named = Some (body.Bag [])
-new_body kind.RcDict named = Some (body.RcDict [])
-new_body kind.Queue named = Some (body.Queue (record { removed = 0; items = [] }))
-new_body _ named = None
+abbrev pub new_body : Kind → Option ((named : ℕ) → Body)
+new_body kind.Plain = Some nil_slots
+new_body kind.Indexed = Some nil_slots
+new_body kind.Bytes = Some (λ named. body.Bytes [])
+new_body kind.Dict = Some (λ named. body.Dict [])
+new_body kind.Counter = Some (λ named. body.Counter (record { value = pos 0 }))
+new_body kind.Bag = Some (λ named. body.Bag [])
+new_body kind.RcDict = Some (λ named. body.RcDict [])
+new_body kind.Queue = Some (λ named. body.Queue (record { removed = 0; items = [] }))
+new_body _ = None
 
--- The body of a new object with so many elements or bytes, after its named slots, by the kind of
--- its class. None where `new:` makes no such object.
+-- The same with so many elements or bytes behind the named slots. None where `new:` makes no such
+-- object.
 abbrev pub sized_body : Kind → Option ((named count : ℕ) → Body)
 sized_body kind.Indexed = Some (λ named count. nil_slots (named + count))
 sized_body kind.Bytes = Some (λ named count. body.Bytes (replicate count 0))
@@ -70,9 +70,9 @@ module _ {B : Type 0} where
   abbrev pub new_of_kind : Kind → (class : ℕ) → Run B Value
   new_of_kind kind.Segment class = new_segment class
   new_of_kind kind class =
+      and_then (need fault.ArgumentKind (new_body kind)) (λ body_of.
       and_then (named_slots class) (λ named.
-      and_then (need fault.ArgumentKind (new_body kind named)) (λ made.
-      new_object class made))
+      new_object class (body_of named)))
 
   abbrev pub new_rule : (class : ℕ) → Run B Value
   new_rule class =

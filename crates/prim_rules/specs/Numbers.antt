@@ -1,6 +1,6 @@
 -- The rules of the primitives 10 to 27, for integers and characters.
 use Rattle.std.specs.Prelude.{ℕ, suc, ◌-◌, ◌^◌, min, ℤ, pos, negsuc, neg_ℤ, ◌+ℤ◌, ◌-ℤ◌, ◌*ℤ◌, int_lt, int_le, int_div, int_rem, unsigned_abs, bit_and, bit_or, bit_xor, Bool, not, ◌&&◌, List}
-use Rattle.std.specs.Int.{int_div_euclid, int_shr}
+use Rattle.std.specs.Int.{bit_at, int_div_euclid, int_shr}
 use Rattle.std.specs.Ordering.{int_eq}
 use Rattle.profile.specs.SmallInteger.{is_small_integer}
 use Rattle.gem_object.specs.declared.value.Value.{Value}
@@ -21,8 +21,14 @@ floor_quotient number (negsuc before) = int_div_euclid (neg_ℤ number) (pos (su
 abbrev pub floor_remainder : (number divisor : ℤ) → ℤ
 floor_remainder number divisor = number -ℤ floor_quotient number divisor *ℤ divisor
 
--- Bit operations in two's complement. A negative number, -(n + 1), has the bits of n, each turned
--- round.
+-- The bit of a number at a place, in two's complement: a negative number, -(n + 1), has the bits of
+-- n, each turned round.
+abbrev pub bit_of : (number : ℤ) (place : ℕ) → ℕ
+bit_of (pos number) place = bit_at number place
+bit_of (negsuc number) place = 1 - bit_at number place
+
+-- The numbers whose bits are both, at least one, and just one of those of two numbers. That these
+-- have them is a law.
 abbrev pub bits_and : ℤ → ℤ → ℤ
 bits_and (pos number) (pos other) = pos (bit_and number other)
 bits_and (pos number) (negsuc other) = pos (number - bit_and number other)

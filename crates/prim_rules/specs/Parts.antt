@@ -10,6 +10,7 @@ use Rattle.gem_object.specs.declared.body.ClassBody.{ClassBody}
 use Rattle.gem_object.specs.declared.body.UserBody.{UserBody}
 use Rattle.gem_object.specs.declared.body.Body.{Body}
 use Rattle.gem_object.specs.declared.body.Body.TheVariants as body
+use Rattle.gem_sound.specs.declared.names.TheConstants.{UNDEFINED_OBJECT_CLASS, TRUE_CLASS, FALSE_CLASS, CHARACTER_CLASS, SMALL_INTEGER_CLASS, BLOCK_CLASS, SYMBOL_CLASS}
 use Rattle.object_programs.specs.Atom.{Who}
 use Rattle.object_programs.specs.Run.{Run, give, atom, and_then}
 use Rattle.object_programs.specs.Programs.{need, check, read, known, classes_above, make_object}
@@ -90,13 +91,13 @@ is_empty (first ∷ rest) = false
 
 -- the class of a value that isn't a reference, by its name
 abbrev pub class_of_plain : Value → Option ℕ
-class_of_plain Nil = Some 3
-class_of_plain True = Some 5
-class_of_plain False = Some 6
-class_of_plain (Int _) = Some 9
-class_of_plain (Char _) = Some 8
-class_of_plain (Sym _) = Some 16
-class_of_plain (Block _) = Some 10
+class_of_plain Nil = Some UNDEFINED_OBJECT_CLASS
+class_of_plain True = Some TRUE_CLASS
+class_of_plain False = Some FALSE_CLASS
+class_of_plain (Int _) = Some SMALL_INTEGER_CLASS
+class_of_plain (Char _) = Some CHARACTER_CLASS
+class_of_plain (Sym _) = Some SYMBOL_CLASS
+class_of_plain (Block _) = Some BLOCK_CLASS
 class_of_plain (Ref _) = None
 
 module _ {B : Type 0} where

@@ -8,20 +8,14 @@ use Rattle.gem_object.specs.declared.body.Body.TheVariants.{Plain, Bytes, Class}
 use Rattle.gem_image.specs.Image.{Contents}
 use Rattle.object_programs.specs.Run.{Run, give, and_then}
 use Rattle.object_programs.specs.Programs.{choose, need, check, read}
+use Rattle.object_programs.specs.declared.limits.TheConstants.{PRINT_LIMIT}
 use Rattle.object_programs.specs.declared.fault.Fault.TheVariants as fault
 use Rattle.prim_rules.specs.Parts.{class_in}
 use Rattle.prim_rules.specs.Texts.{quoted, symbol_text, with_article, decimal_text}
-
--- the number of the class Array
-abbrev pub array_class : ℕ
-array_class = 13
-
--- how many bytes a print text has at most
-abbrev pub print_limit : ℕ
-print_limit = 65536
+use Rattle.gem_sound.specs.declared.names.TheConstants.{ARRAY_CLASS}
 
 abbrev pub is_short : Text → Bool
-is_short text = nat_le (length text) print_limit
+is_short text = nat_le (length text) PRINT_LIMIT
 
 module _ {B : Type 0} where
   -- an instance by the name of its class, which is read
@@ -73,7 +67,7 @@ module _ {B : Type 0} where
   -- slots: those of an instance of Array itself are printed, of others the name of the class
   abbrev pub slots_text : (class : ℕ) → List Value → Run B Text
   slots_text class slots =
-      choose (nat_eq class array_class) (array_text slots) (named_text class)
+      choose (nat_eq class ARRAY_CLASS) (array_text slots) (named_text class)
 
   -- the print text, however long it is
   unfoldable pub whole_text : Value → Run B Text

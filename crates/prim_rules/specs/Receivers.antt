@@ -12,9 +12,9 @@ use Rattle.object_programs.specs.Programs.{need, check, read, write, replace_bod
 use Rattle.object_programs.specs.declared.fault.Fault.{Fault}
 use Rattle.object_programs.specs.declared.fault.Fault.TheVariants as fault
 use Rattle.prim_rules.specs.Parts.{reference_in, is_block, one_of, no_arguments, new_object, answers}
-use Rattle.prim_rules.specs.Printing.{array_class}
 use Rattle.prim_rules.specs.declared.answer.PrimitiveAnswer.{PrimitiveAnswer}
 use Rattle.prim_rules.specs.declared.answer.PrimitiveAnswer.TheVariants.{Gives}
+use Rattle.gem_sound.specs.declared.names.TheConstants.{ARRAY_CLASS}
 
 -- what the body of a reduced-conflict object holds, where it is of this kind: the value of a
 -- counter, the items of a bag with their occurrences, the pairs of a dictionary, and a queue
@@ -77,7 +77,7 @@ module _ {B : Type 0} where
 
   -- the rule ends: a new Array of these values is its answer
   abbrev pub answer_array : List Value → Run B PrimitiveAnswer
-  answer_array values = answers (new_object array_class (body.Plain values))
+  answer_array values = answers (new_object ARRAY_CLASS (body.Plain values))
 
   -- the rule ends: a receiver that was written gets this body, which takes so much more space, and
   -- this value is the answer

@@ -160,14 +160,17 @@ module _ {B : Type 0} where
   row_39 = sequence_row (remove_rule without_last)
 
   -- `copyFrom:to:`: a new object of the receiver's class
-  abbrev pub copy_part_rule : (name : ℕ) → (from to : Value) → Run B Value
-  copy_part_rule name from to =
-      and_then (read name) (λ object.
-      and_then (sequence_in object) (λ sequence.
+  abbrev pub part_rule : (class : ℕ) → (from to : Value) → Sequence → Run B Value
+  part_rule class from to sequence =
       and_then (need fault.ArgumentKind (int_in from)) (λ first.
       and_then (need fault.ArgumentKind (int_in to)) (λ last.
       and_then (need fault.Index (part_of sequence.elements first last)) (λ part.
-      new_sequence object.class part)))))
+      new_sequence class part)))
+
+  abbrev pub copy_part_rule : (name : ℕ) → (from to : Value) → Run B Value
+  copy_part_rule name from to =
+      and_then (read name) (λ object.
+      and_then (sequence_in object) (part_rule object.class from to))
 
   abbrev pub row_40 : Value → List Value → Run B PrimitiveAnswer
   row_40 = sequence_row_with_two copy_part_rule

@@ -13,7 +13,8 @@ use Rattle.object_programs.specs.declared.fault.Fault.TheVariants as fault
 use Rattle.prim_rules.specs.declared.answer.PrimitiveAnswer.{PrimitiveAnswer}
 use Rattle.prim_rules.specs.Indexes.{place_in, part_of}
 use Rattle.prim_rules.specs.Parts.{int_in, character_in, reference_in, bytes_in, truth, one_of, two_of, no_arguments, is_kind_of, answers}
-use Rattle.prim_rules.specs.Texts.{string_class, string_bytes, text_of_receiver, text_of_argument, new_string, integer_in}
+use Rattle.prim_rules.specs.Texts.{string_bytes, text_of_receiver, text_of_argument, new_string, integer_in}
+use Rattle.gem_sound.specs.declared.names.TheConstants.{STRING_CLASS}
 
 -- whether a value is the Symbol of this text
 abbrev pub is_symbol : Text → Value → Bool
@@ -117,7 +118,7 @@ module _ {B : Type 0} where
 
   abbrev pub equal_string : Text → Value → Run B Value
   equal_string text (Ref name) =
-      and_then (is_kind_of (Ref name) string_class) (λ is_string.
+      and_then (is_kind_of (Ref name) STRING_CLASS) (λ is_string.
       choose is_string (has_bytes text name) (give False))
   equal_string text argument = give False
 

@@ -15,10 +15,7 @@ use Rattle.object_programs.specs.Run.{Run, give, fail, and_then}
 use Rattle.object_programs.specs.Programs.{need, read}
 use Rattle.object_programs.specs.declared.fault.Fault.TheVariants as fault
 use Rattle.prim_rules.specs.Parts.{bytes_in, check_kind, new_object}
-
--- the number of the class String
-abbrev pub string_class : ℕ
-string_class = 15
+use Rattle.gem_sound.specs.declared.names.TheConstants.{STRING_CLASS}
 
 -- a text in single quotes, where each quote in it is doubled
 abbrev pub with_quote_doubled : ℕ → Text
@@ -94,9 +91,9 @@ module _ {B : Type 0} where
   abbrev pub text_of_argument : Value → Run B Text
   text_of_argument (Sym name) = give name
   text_of_argument (Ref name) =
-      and_then (check_kind (Ref name) string_class) (λ is_one. string_bytes name)
+      and_then (check_kind (Ref name) STRING_CLASS) (λ is_one. string_bytes name)
   text_of_argument _ = fail fault.ArgumentKind
 
   -- a new String of this text
   abbrev pub new_string : Text → Run B Value
-  new_string text = new_object string_class (body.Bytes text)
+  new_string text = new_object STRING_CLASS (body.Bytes text)

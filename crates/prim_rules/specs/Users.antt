@@ -15,24 +15,11 @@ use Rattle.object_programs.specs.Run.{Run, atom, and_then}
 use Rattle.object_programs.specs.Programs.{need, check}
 use Rattle.object_programs.specs.declared.fault.Fault.TheVariants as fault
 use Rattle.prim_rules.specs.Parts.{symbol_in, reference_in, pairs_in, user_in, no_arguments, answers}
-use Rattle.prim_rules.specs.Any.{segment_class}
 use Rattle.prim_rules.specs.Receivers.{items_added, Receiver, write_receiver, argument_as, answer, replaced_by, tells, lists}
 use Rattle.prim_rules.specs.Groups.{are_few_groups, with_group, without_group}
 use Rattle.prim_rules.specs.Making.{Entered, make_and_enter}
 use Rattle.prim_rules.specs.declared.answer.PrimitiveAnswer.{PrimitiveAnswer}
-
--- the numbers of two objects of the kernel, and of the classes of the objects of a new user
-abbrev pub all_users : ℕ
-all_users = 28
-
-abbrev pub data_curator_segment : ℕ
-data_curator_segment = 30
-
-abbrev pub symbol_dictionary_class : ℕ
-symbol_dictionary_class = 18
-
-abbrev pub user_class : ℕ
-user_class = 24
+use Rattle.gem_sound.specs.declared.names.TheConstants.{ALL_USERS, DATA_CURATOR_SEGMENT, SEGMENT_CLASS, SYMBOL_DICTIONARY_CLASS, USER_PROFILE_CLASS}
 
 -- the user in these groups
 abbrev pub in_groups : List Text → UserBody → UserBody
@@ -50,7 +37,7 @@ user_name_in value = option_and_then new_name_in (symbol_in value)
 -- segment itself, which is the user's default segment, and the globals know themselves.
 abbrev pub user_segment : (segment profile : ℕ) → Contents
 user_segment segment profile = record {
-  class = segment_class;
+  class = SEGMENT_CLASS;
   segment = segment;
   body = body.Segment (record {
     owner = profile;
@@ -62,15 +49,15 @@ user_segment segment profile = record {
 
 abbrev pub user_globals : (segment globals : ℕ) → Contents
 user_globals segment globals = record {
-  class = symbol_dictionary_class;
+  class = SYMBOL_DICTIONARY_CLASS;
   segment = segment;
   body = body.Dict ((Sym (codes "UserGlobals"), Ref globals) ∷ []);
 }
 
 abbrev pub user_profile : Text → (segment globals : ℕ) → Contents
 user_profile name segment globals = record {
-  class = user_class;
-  segment = data_curator_segment;
+  class = USER_PROFILE_CLASS;
+  segment = DATA_CURATOR_SEGMENT;
   body = body.User (record {
     name = name;
     groups = [];
@@ -132,7 +119,7 @@ module _ {B : Type 0} where
   row_79 receiver arguments =
       and_then (need fault.ArgumentKind (reference_in receiver)) (λ class.
       and_then (argument_as user_name_in arguments) (λ name.
-      and_then (write_receiver pairs_in (Ref all_users)) (λ users.
+      and_then (write_receiver pairs_in (Ref ALL_USERS)) (λ users.
       and_then (check fault.ArgumentKind (not (is_some (value_at (Sym name) users.object.body))))
       (λ absent.
       answers (make_and_enter (user_entry name) users)))))

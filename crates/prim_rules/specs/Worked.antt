@@ -1,13 +1,16 @@
--- How worked rows are said: what a rule comes to that asks no object.
-use Rattle.std.specs.Prelude.{◌≡◌, ℕ, pos, neg_ℤ, true, false, nat_eq, List, [], ◌∷◌, Some, None, codes}
+-- How worked rows are said: what a rule comes to, and the objects in worked rows.
+use Rattle.std.specs.Prelude.{◌≡◌, ℕ, pos, neg_ℤ, true, false, nat_eq, List, [], ◌∷◌, Option, Some, None, codes}
 use Rattle.texts.specs.Bytes.{Bytes as Text}
+use Rattle.seg_rights.specs.declared.rights.Rights.{Rights}
 use Rattle.gem_object.specs.declared.value.Value.{Value}
 use Rattle.gem_object.specs.declared.value.Value.TheVariants.{Nil, False, True, Int}
-use Rattle.gem_object.specs.declared.kind.Kind.TheVariants.{Indexed}
-use Rattle.gem_object.specs.declared.body.Body.TheVariants.{Plain, Bytes}
+use Rattle.gem_object.specs.declared.kind.Kind.{Kind}
+use Rattle.gem_object.specs.declared.kind.Kind.TheVariants as kind
+use Rattle.gem_object.specs.declared.body.ClassBody.{ClassBody}
+use Rattle.gem_object.specs.declared.body.Body.TheVariants.{Plain, Bytes, Class, Segment, User}
 use Rattle.gem_image.specs.Image.{Contents}
 use Rattle.gem_world.specs.World.{Setting, World, shown}
-use Rattle.gem_world.specs.Access.{Access, is_allowed}
+use Rattle.gem_world.specs.Access.{Access, is_allowed, accessed}
 use Rattle.object_programs.specs.Fixed.{ClassKind, Fixed, fixed_by}
 use Rattle.object_programs.specs.Run.{Run, Ending, gives, fails, State, perform}
 use Rattle.object_programs.specs.declared.fault.Fault.{Fault}
@@ -53,6 +56,11 @@ ends rule receiver arguments setting state =
 abbrev pub prints : Value → Setting → State NoBlocks → Ending Text
 prints value setting state = (perform (print_text value) setting state).end
 
+-- the state after an access
+abbrev pub after : Access → ℕ → Setting → State NoBlocks → State NoBlocks
+after access name setting state =
+    record state { world = accessed access name setting state.world }
+
 -- the user may read or write the object of this name, and this is the object
 pub record MayAccess (access : Access) (name : ℕ) (object : Contents) (setting : Setting)
     (world : World) : Type 0 where
@@ -66,13 +74,57 @@ string_in segment text = record { class = 15; segment = segment; body = Bytes te
 abbrev pub array_in : (segment : ℕ) → List Value → Contents
 array_in segment elements = record { class = 13; segment = segment; body = Plain elements }
 
+-- a class of this name, superclass and kind
+abbrev pub class_of : (name : Text) → Option ℕ → Kind → ClassBody
+class_of name superclass kind = record {
+  name = name;
+  superclass = superclass;
+  kind = kind;
+  names = [];
+  methods = [];
+  class_methods = [];
+}
+
+-- a class of this kind without a superclass, one of this name, and one under another
+abbrev pub class_in : (segment : ℕ) → Kind → Contents
+class_in segment kind =
+    record { class = 2; segment = segment; body = Class (class_of (codes "Example") None kind) }
+
+abbrev pub class_called : (segment : ℕ) → (name : Text) → Contents
+class_called segment name =
+    record { class = 2; segment = segment; body = Class (class_of name None kind.Indexed) }
+
+abbrev pub class_under : (superclass segment : ℕ) → Contents
+class_under superclass segment = record {
+  class = 2;
+  segment = segment;
+  body = Class (class_of (codes "Example") (Some superclass) kind.None);
+}
+
+-- a segment of these rights, which lies in itself
+abbrev pub segment_of : (name : ℕ) → Rights Text → Contents
+segment_of name rights = record { class = 23; segment = name; body = Segment rights }
+
+-- a user's profile in this segment
+abbrev pub profile_in : (segment : ℕ) → Contents
+profile_in segment = record {
+  class = 24;
+  segment = segment;
+  body = User (record {
+    name = codes "Ann";
+    groups = [];
+    default_segment = segment;
+    globals = 33;
+  });
+}
+
 -- An object of a class that names one slot: that slot holds nil, and the elements behind it are
 -- true and false.
 abbrev pub named_class : Fixed
 named_class = record {
   class = 2;
   kind = ClassKind;
-  as_class = Some (record { superclass = None; kind = Indexed; names = codes "top" ∷ [] });
+  as_class = Some (record { superclass = None; kind = kind.Indexed; names = codes "top" ∷ [] });
 }
 
 abbrev pub pair_in : (segment class : ℕ) → Contents
@@ -82,6 +134,7 @@ pair_in segment class = record {
   body = Plain (Nil ∷ True ∷ False ∷ []);
 }
 
+-- the user may read or write that object, and its class is another object
 pub record HasPair (access : Access) (name segment class : ℕ) (setting : Setting) (world : World)
     : Type 0 where
   pub may : MayAccess access name (pair_in segment class) setting world

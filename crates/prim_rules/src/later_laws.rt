@@ -22,24 +22,25 @@ ghost use Rattle.gem_object.specs.declared.value.BlockRef.{BlockRef};
 ghost use Rattle.gem_object.specs.declared.body.UserBody.{UserBody};
 ghost use Rattle.gem_object.specs.declared.body.Body.TheVariants as body;
 ghost use Rattle.gem_update.specs.declared.update.Update.TheVariants as change;
-ghost use Rattle.gem_world.specs.World.{Setting};
+ghost use Rattle.gem_world.specs.World.{Setting, name_of};
 ghost use Rattle.gem_world.specs.Changes.{with_body};
 ghost use Rattle.gem_world.specs.Access.{a_read, a_write, accessed};
 ghost use Rattle.object_programs.specs.Spelled.{is_nil};
 ghost use Rattle.object_programs.specs.Atom.{objects_cost, edited, after_update};
 ghost use Rattle.object_programs.specs.Budget.{is_within_limits, may_write};
+ghost use Rattle.object_programs.specs.Guard.{with_parts, fits};
 ghost use Rattle.object_programs.specs.Run.{State, gives, fails, perform};
 ghost use Rattle.object_programs.specs.declared.limits.TheConstants.{COUNTER_LIMIT};
 ghost use Rattle.object_programs.specs.declared.fault.Fault.TheVariants as fault;
 ghost use Rattle.prim_rules.specs.Parts.{is_block};
-ghost use Rattle.prim_rules.specs.Admitted.{Admits, an_object, first_name, fit_beside_kernel};
+ghost use Rattle.prim_rules.specs.Admitted.{Admits, an_object, first_name, kernel_parts, fit_beside_kernel};
 ghost use Rattle.prim_rules.specs.Receivers.{Receiver};
 ghost use Rattle.prim_rules.specs.Making.{Entered, sized_objects, sized_dictionary, make_and_enter};
 ghost use Rattle.prim_rules.specs.Classes.{class_name_in, may_add_names, new_class, class_object, row_54};
 ghost use Rattle.prim_rules.specs.Dictionaries.{pair_growth, row_61, row_62};
 ghost use Rattle.prim_rules.specs.Groups.{are_few_groups, with_group, without_group, with_right};
-ghost use Rattle.prim_rules.specs.Segments.{right_in, right_symbol, row_71};
-ghost use Rattle.prim_rules.specs.Users.{all_users, user_name_in, user_objects, row_76, row_79};
+ghost use Rattle.prim_rules.specs.Segments.{right_in, right_symbol, with_group_right, row_71};
+ghost use Rattle.prim_rules.specs.Users.{user_name_in, user_objects, row_76, row_79};
 ghost use Rattle.prim_rules.specs.Transcript.{row_82};
 ghost use Rattle.prim_rules.specs.Counters.{row_83, row_84};
 ghost use Rattle.prim_rules.specs.Bags.{items_of, row_86};
@@ -47,6 +48,7 @@ ghost use Rattle.prim_rules.specs.RcDicts.{row_89, row_91};
 ghost use Rattle.prim_rules.specs.Queues.{row_95};
 ghost use Rattle.prim_rules.specs.LaterRules.{later_rule};
 ghost use Rattle.prim_rules.specs.declared.answer.PrimitiveAnswer.TheVariants.{Gives};
+ghost use Rattle.gem_sound.specs.declared.names.TheConstants.{ALL_USERS, DATA_CURATOR_SEGMENT, SEGMENT_CLASS, SYMBOL_DICTIONARY_CLASS, USER_PROFILE_CLASS};
 
 /// Which names a class may have, and which names of instance variables it may add.
 pub fn names_of_new_classes()
@@ -178,11 +180,11 @@ pub fn refused_users()
     ensures taken { (class own segment : ℕ) (name : Text) (user : Value)
         (pairs : List (Value × Value)) (setting : Setting) (state : State (Unit {0}))
         → is_user_name name ≡ true
-        → Admits a_write all_users (an_object own segment (body.Dict pairs)) setting state
+        → Admits a_write ALL_USERS (an_object own segment (body.Dict pairs)) setting state
         → value_at (Sym name) (body.Dict pairs) ≡ Some user
         → perform (row_79 (Ref class) (Sym name ∷ [])) setting state ≡ record {
           end = fails fault.ArgumentKind;
-          state = record state { world = accessed a_write all_users setting state.world };
+          state = record state { world = accessed a_write ALL_USERS setting state.world };
         } }
 {}
 
@@ -223,8 +225,8 @@ pub fn lines_end()
         } }
 {}
 
-/// The sizes by which objects and dictionaries are judged before a name is drawn don't depend on the
-/// name.
+/// The sizes by which objects and dictionaries are judged before a name is drawn don't depend on
+/// the name.
 pub fn sizes_without_names()
     ensures slots { (key : Value) (name other : ℕ) (pairs : List (Value × Value))
         → slots_of (with_value_at key (Ref name) (body.Dict pairs))
@@ -238,7 +240,8 @@ pub fn sizes_without_names()
 {}
 
 /// Before objects are made that go into a dictionary, their sizes and then the dictionary's are
-/// asked for (E17), then the names (E16), then the space (E15). A refusal changes nothing.
+/// asked for (E17), then the names (E16), then the space of the pair and of the objects (E15). A
+/// refusal draws no name and changes no object.
 pub fn enters_in_order()
     ensures large { (entered : Entered) (dictionary : Receiver (List (Value × Value)))
         (setting : Setting) (state : State (Unit {0}))
@@ -261,6 +264,27 @@ pub fn enters_in_order()
         → nat_le (pair_growth entered.key dictionary.object.body) state.budget.slots ≡ false
         → perform (make_and_enter entered dictionary) setting state
         ≡ record { end = fails fault.Space; state = state } }
+    ensures no_space { (entered : Entered) (dictionary : Receiver (List (Value × Value)))
+        (setting : Setting) (state : State (Unit {0}))
+        → let objects = entered.objects_at (name_of setting state.world.next) in
+        let growth = pair_growth entered.key dictionary.object.body in
+        list_all is_within_limits (sized_objects entered) ≡ true
+        → is_within_limits (sized_dictionary entered dictionary) ≡ true
+        → nat_le (state.world.next + length (sized_objects entered)) COUNTER_LIMIT ≡ true
+        → list_all is_within_limits objects ≡ true
+        → nat_le (state.world.next + length objects) COUNTER_LIMIT ≡ true
+        → nat_le growth state.budget.slots ≡ true
+        → nat_le (objects_cost objects) (state.budget.slots - growth) ≡ false
+        → perform (make_and_enter entered dictionary) setting state ≡ record {
+          end = fails fault.Space;
+          state = record state {
+            budget = record {
+              units = state.budget.units;
+              slots = state.budget.slots - growth;
+              text = state.budget.text;
+            };
+          };
+        } }
 {}
 
 /// A counter tells its value. An increment past the integers of the language is E6, and any other
@@ -357,4 +381,29 @@ pub fn new_objects_fit()
     ensures dictionary { fit_beside_kernel (class_object
         (new_class (codes "Index") 17 kind.Dict []) 30 ∷ []) ≡ true }
     ensures array { fit_beside_kernel (an_object 13 30 (body.Plain (Nil ∷ [])) ∷ []) ≡ true }
+{}
+
+/// Objects that the rules change may stand where they stood: the dictionary of all users with a new
+/// user, a segment with a right for a group, and a user in a group.
+pub fn changed_objects_fit()
+    ensures users { fits
+        (with_parts first_name (user_objects (codes "ada") first_name) kernel_parts) ALL_USERS
+        (an_object SYMBOL_DICTIONARY_CLASS DATA_CURATOR_SEGMENT
+        (with_value_at (Sym (codes "ada")) (Ref (first_name + 2))
+        (body.Dict ((Sym (codes "DataCurator"), Ref 32) ∷ [])))) ≡ true }
+    ensures segment { fits kernel_parts DATA_CURATOR_SEGMENT
+        (an_object SEGMENT_CLASS DATA_CURATOR_SEGMENT
+        (body.Segment (with_group_right (codes "staff") Read (record {
+          owner = 32;
+          owner_right = Write;
+          groups = (codes "guests", Write) ∷ [];
+          world_right = Read;
+        })))) ≡ true }
+    ensures user { fits kernel_parts 32 (an_object USER_PROFILE_CLASS DATA_CURATOR_SEGMENT
+        (body.User (record {
+          name = codes "DataCurator";
+          groups = with_group (codes "staff") (codes "guests" ∷ []);
+          default_segment = DATA_CURATOR_SEGMENT;
+          globals = 34;
+        }))) ≡ true }
 {}

@@ -2,3 +2,4 @@ pub mod Deeds
 pub mod Cascades
 pub mod Turns
 pub mod SpecialForms
+pub mod Activations

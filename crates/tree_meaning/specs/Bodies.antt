@@ -43,4 +43,4 @@ module _ (outside : Outside) where
   unfoldable pub block_body : Closure → Place → Frame → ValueRun
   block_body tree place frame =
       statements_in_turn (statement_runs outside (statements_of tree)) (block_place tree place)
-          frame
+      frame

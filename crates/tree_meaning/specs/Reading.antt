@@ -1,10 +1,10 @@
 -- How a tree is read: what its parts do, by cases on the tree. A deed is what something does in
 -- each state. The laws in `src/laws.rt` say that the programs of the meaning do just this.
-use Rattle.std.specs.Prelude.{ℕ, zero, suc, Bool, true, false, List, [], ◌∷◌}
+use Rattle.std.specs.Prelude.{ℕ, zero, suc, nat_eq, Bool, true, false, List, [], ◌∷◌}
 use Rattle.st_tree.specs.Trees.{block, Closure, Expression, expression, Expressions, no_expressions, an_expression, Send, Sends, no_sends, a_send}
 use Rattle.gem_object.specs.declared.value.Value.{Value}
 use Rattle.gem_world.specs.World.{Setting}
-use Rattle.object_programs.specs.Run.{gives, returns, fails, State, Outcome, onward, perform}
+use Rattle.object_programs.specs.Run.{Ending, gives, returns, fails, State, Outcome, onward, perform}
 use Rattle.object_programs.specs.declared.fault.Fault.{Fault}
 use Rattle.object_programs.specs.declared.fault.Fault.TheVariants as fault
 use Rattle.tree_meaning.specs.Place.{Place, Frame, MadeBlock}
@@ -60,6 +60,16 @@ spending (suc left) next state = next (with_units left state)
 
 abbrev pub unit_then : Deed → Deed
 unit_then next state = spending state.budget.units next state
+
+-- how a method ends whose statements end so: a value that returns to it is its answer
+abbrev pub caught_where : Bool → Value → (number : ℕ) → Ending Value
+caught_where true answer number = gives answer
+caught_where false answer number = returns answer number
+
+abbrev pub caught : (home : ℕ) → Ending Value → Ending Value
+caught home (gives answer) = gives answer
+caught home (returns answer number) = caught_where (nat_eq number home) answer number
+caught home (fails fault) = fails fault
 
 -- one of two deeds by a condition: the first where it is this truth value; E3 where it is none
 abbrev pub by_condition : Truth → (when : Bool) → (first second : Deed) → Deed

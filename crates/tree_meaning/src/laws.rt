@@ -1,8 +1,8 @@
 //! What follows from the definitions alone. Each law is the contract of a function that does
 //! nothing. What stands outside a tree is anything that `Replies` can say.
-ghost use Rattle.std.specs.Prelude.{◌≡◌, ◌++◌, ◌∷◌, ◌+ℤ◌, ◌&&◌, [], ℕ, ℤ, pos, suc, int_le, length, replicate, codes, Bool, true, false, List, Some, None};
+ghost use Rattle.std.specs.Prelude.{◌≡◌, ◌++◌, ◌∷◌, ◌+ℤ◌, ◌&&◌, [], ℕ, ℤ, pos, suc, int_le, nat_eq, length, slice_get, replicate, codes, Bool, true, false, List, Some, None};
 ghost use Rattle.texts.specs.Bytes.{Bytes};
-ghost use Rattle.st_tree.specs.Trees.{Head, block, paren, Closure, closure, Expression, expression, Expressions, no_expressions, an_expression, Send, send, Sends, no_sends, a_send, append_sends, statement, Statements};
+ghost use Rattle.st_tree.specs.Trees.{Program, Head, block, paren, Closure, closure, Expression, expression, Expressions, no_expressions, an_expression, Send, send, Sends, no_sends, a_send, append_sends, statement, Statements};
 ghost use Rattle.gem_object.specs.declared.value.Value.{Value};
 ghost use Rattle.gem_object.specs.declared.value.Value.TheVariants as value;
 ghost use Rattle.gem_world.specs.World.{Setting};
@@ -13,12 +13,13 @@ ghost use Rattle.tree_meaning.specs.Place.{Place, Frame, MadeBlock};
 ghost use Rattle.tree_meaning.specs.Names.{where_is, singleton_value};
 ghost use Rattle.tree_meaning.specs.Forms.{takes, form_of, loop_of};
 ghost use Rattle.tree_meaning.specs.Operands.{truth_of, int_pair};
-ghost use Rattle.tree_meaning.specs.Scopes.{mark, with_scope, open_scope, give_back, is_living};
+ghost use Rattle.tree_meaning.specs.Scopes.{mark, with_scope, open_scope, begin_method, give_back, is_living, end_living};
 ghost use Rattle.tree_meaning.specs.Loops.{while_turns, count_turns, count_between};
 ghost use Rattle.tree_meaning.specs.Meaning.{with_variables, is_super_head, statements_in_turn, write_where, head_value, closure_in_place, expression_value, message_of, statement_value, statement_runs};
-ghost use Rattle.tree_meaning.specs.Bodies.{params_count};
+ghost use Rattle.tree_meaning.specs.Bodies.{params_count, temps_count, method_body, block_body};
+ghost use Rattle.tree_meaning.specs.Calls.{method_frame, activation, evaluation, call_block_at};
 ghost use Rattle.tree_meaning.specs.Replies.{Replies, outside_of};
-ghost use Rattle.tree_meaning.specs.Reading.{a_block, one_argument, two_arguments, deed, answers, returns_to, stops, then_do, either, unit_then, by_condition, in_order, sent, sent_in_turn};
+ghost use Rattle.tree_meaning.specs.Reading.{a_block, one_argument, two_arguments, deed, answers, returns_to, stops, then_do, either, unit_then, by_condition, caught, in_order, sent, sent_in_turn};
 ghost use Rattle.tree_meaning.specs.declared.form.Form.TheVariants.{Plain, OneArm, TwoArms, Counting, Repeating};
 ghost use Rattle.tree_meaning.specs.declared.name.Singleton.{Singleton};
 ghost use Rattle.tree_meaning.specs.declared.name.Singleton.TheVariants as singleton;
@@ -256,4 +257,77 @@ pub fn counting_loops_turn()
         (deed setting (count_turns (number +ℤ pos 1) limit
         (λ each. closure_in_place (outside_of replies) body place (Some each) frame) receiver)))))
         (answers receiver) state }
+{}
+
+/// A method runs its statements in a new activation, with its arguments and its temporaries, which
+/// are nil, in a scope of its own. A value that returns to it is its answer. Then the activation
+/// lives no more, and what came since is given back, unless a block was made.
+pub fn methods_run()
+    ensures run { (replies : Replies) (setting : Setting) (state : State MadeBlock) (tree : Program)
+        (holder : ℕ) (class_side : Bool) (receiver : Value) (arguments : List Value)
+        → let statements = deed setting (method_body (outside_of replies) tree
+        (method_frame holder class_side receiver state.local))
+        (record state {
+          local = begin_method (arguments ++ replicate (length tree.temps) value.Nil) state.local;
+        }) in
+        deed setting (activation (method_body (outside_of replies) tree) (length tree.temps) holder
+        class_side receiver arguments) state
+        ≡ record {
+          end = caught (length state.local.living) statements.end;
+          state = record statements.state {
+            local = give_back (mark state.local)
+                (end_living (length state.local.living) statements.state.local);
+          };
+        } }
+    ensures ended { (replies : Replies) (setting : Setting) (state : State MadeBlock)
+        (tree : Program) (holder : ℕ) (class_side : Bool) (receiver : Value)
+        (arguments : List Value)
+        → is_living (length state.local.living) (deed setting
+        (activation (method_body (outside_of replies) tree) (length tree.temps) holder class_side
+        receiver arguments) state).state.local ≡ false }
+{}
+
+/// A made block runs its statements inside the scopes in which it was made, with its arguments and
+/// its temporaries in a scope of its own, which is given back unless a block was made. It ends as
+/// its statements end. Another number of arguments is E9, and a number that no block has E5.
+pub fn blocks_run()
+    ensures run { (replies : Replies) (setting : Setting) (state : State MadeBlock)
+        (made : MadeBlock) (arguments : List Value)
+        → let statements = deed setting (block_body (outside_of replies) made.tree made.place
+        (with_scope (mark state.local) made.frame))
+        (record state {
+          local = open_scope (arguments ++ replicate (temps_count made.tree) value.Nil) state.local;
+        }) in
+        deed setting (evaluation (block_body (outside_of replies) made.tree made.place)
+        (temps_count made.tree) made.frame arguments) state
+        ≡ record {
+          end = statements.end;
+          state = record statements.state {
+            local = give_back (mark state.local) statements.state.local;
+          };
+        } }
+    ensures called { (replies : Replies) (setting : Setting) (state : State MadeBlock)
+        (made : MadeBlock) (number : ℕ) (arguments : List Value)
+        → slice_get state.local.blocks number ≡ Some made
+        → nat_eq (length arguments) (params_count made.tree) ≡ true
+        → deed setting (call_block_at (λ block values.
+        evaluation (block_body (outside_of replies) block.tree block.place)
+        (temps_count block.tree) block.frame values) number arguments) state
+        ≡ deed setting (evaluation (block_body (outside_of replies) made.tree made.place)
+        (temps_count made.tree) made.frame arguments) state }
+    ensures other_count { (replies : Replies) (setting : Setting) (state : State MadeBlock)
+        (made : MadeBlock) (number : ℕ) (arguments : List Value)
+        → slice_get state.local.blocks number ≡ Some made
+        → nat_eq (length arguments) (params_count made.tree) ≡ false
+        → deed setting (call_block_at (λ block values.
+        evaluation (block_body (outside_of replies) block.tree block.place)
+        (temps_count block.tree) block.frame values) number arguments) state
+        ≡ stops fault.BlockArgumentCount state }
+    ensures no_block { (replies : Replies) (setting : Setting) (state : State MadeBlock)
+        (number : ℕ) (arguments : List Value)
+        → slice_get state.local.blocks number ≡ None
+        → deed setting (call_block_at (λ block values.
+        evaluation (block_body (outside_of replies) block.tree block.place)
+        (temps_count block.tree) block.frame values) number arguments) state
+        ≡ stops fault.ArgumentKind state }
 {}

@@ -15,3 +15,8 @@ pub returns-clause-too_little : goal.returns-clause-too_little
 unfolding make_and_enter
 returns-clause-too_little c entered dictionary setting state small fits names none =
     rw (small, fits, names, none) refl
+
+pub returns-clause-no_space : goal.returns-clause-no_space
+unfolding make_and_enter
+returns-clause-no_space c entered dictionary setting state small fits names all left room none =
+    rw (small, fits, names, room, all, left, none) refl

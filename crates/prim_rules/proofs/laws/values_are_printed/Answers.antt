@@ -59,3 +59,7 @@ returns-clause-digit c = λ setting state. refl
 pub returns-clause-quote : goal.returns-clause-quote
 unfolding print_text whole_text is_symbol_token digits
 returns-clause-quote c = λ setting state. refl
+
+pub returns-clause-quoted_name : goal.returns-clause-quoted_name
+unfolding print_text whole_text is_symbol_token digits
+returns-clause-quoted_name c = λ setting state. refl

@@ -1,0 +1,6 @@
+pub mod Sources
+pub mod Codes
+pub mod Spelled
+pub mod Entries
+pub mod Named
+pub mod KernelSound

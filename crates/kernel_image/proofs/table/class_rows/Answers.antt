@@ -1,0 +1,12 @@
+use Rattle.std.proofs.Common.{refl}
+use Rattle.gem_sound.specs.Kernel.{kernel_classes}
+use Rattle.kernel_image.specs.Objects.{class_list, protocols}
+use Rattle.kernel_image.specs.Methods.{methods_of_object, methods_of_class, methods_of_undefined_object, methods_of_boolean, methods_of_true, methods_of_false, methods_of_magnitude, methods_of_character, methods_of_small_integer, methods_of_block, methods_of_collection, methods_of_sequenceable_collection, methods_of_array, methods_of_ordered_collection, methods_of_string, methods_of_symbol, methods_of_identity_dictionary, methods_of_rc_counter, methods_of_rc_identity_bag, methods_of_rc_key_value_dictionary, methods_of_rc_queue, methods_of_segment, methods_of_user_profile, methods_of_transcript_stream, class_side_of_user_profile, class_side_of_system}
+use Rattle.kernel_image.proofs.table.class_rows.Goals as goal
+
+pub returns-clause-classes : goal.returns-clause-classes
+unfolding class_list protocols kernel_classes methods_of_object methods_of_class methods_of_undefined_object methods_of_boolean methods_of_true methods_of_false methods_of_magnitude methods_of_character methods_of_small_integer methods_of_block methods_of_collection methods_of_sequenceable_collection methods_of_array methods_of_ordered_collection methods_of_string methods_of_symbol methods_of_identity_dictionary methods_of_rc_counter methods_of_rc_identity_bag methods_of_rc_key_value_dictionary methods_of_rc_queue methods_of_segment methods_of_user_profile methods_of_transcript_stream class_side_of_user_profile class_side_of_system
+returns-clause-classes c = refl
+
+pub returns-clause-names : goal.returns-clause-names
+returns-clause-names c = refl

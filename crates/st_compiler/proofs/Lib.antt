@@ -1,0 +1,9 @@
+pub mod Steps
+pub mod Right
+pub mod Loops
+pub mod Messages
+pub mod InTurn
+pub mod Trees
+pub mod Whole
+pub mod Blocks
+pub mod OneAnswer

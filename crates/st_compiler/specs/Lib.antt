@@ -1,0 +1,5 @@
+pub mod Instruction
+pub mod Code
+pub mod TreeCode
+pub mod Machine
+pub mod Runs

@@ -1,0 +1,35 @@
+-- Code that does what a program does.
+use Rattle.std.specs.Prelude.{◌≡◌, ℕ, ◌+◌, ◌≤◌, List, [], length, ⊤}
+use Rattle.gem_world.specs.World.{Setting}
+use Rattle.object_programs.specs.Run.{State, perform}
+use Rattle.tree_meaning.specs.Place.{Frame, MadeBlock}
+use Rattle.tree_meaning.specs.Operands.{ValueRun}
+use Rattle.tree_meaning.specs.Meaning.{Outside}
+use Rattle.st_compiler.specs.Instruction.{Instruction}
+use Rattle.st_compiler.specs.Code.{Piece}
+use Rattle.st_compiler.specs.Machine.{CodeEnd, over, ran_out, stuck, execute}
+use Rattle.tree_meaning.specs.Bodies.{block_body}
+
+-- The code does what the program does, in each frame and state: from its first instruction and an
+-- empty stack there are enough instructions in at most as many stretches as there are units, and
+-- one.
+abbrev pub Runs : Outside → Setting → (table : List Piece) → (code : List Instruction)
+    → (Frame → ValueRun) → Type 0
+Runs outside setting table code program = (frame : Frame) (state : State MadeBlock)
+    → (allowed : List ℕ) × (length allowed ≤ state.budget.units + 1)
+    × (execute outside setting table code allowed 0 [] frame state
+    ≡ over (perform (program frame) setting state))
+
+-- The code of a block does what the block means.
+abbrev pub IsBlockCode : Outside → Setting → (table : List Piece) → Piece → Type 0
+IsBlockCode outside setting table piece =
+    Runs outside setting table piece.code (block_body outside piece.tree piece.place)
+
+-- Two ends agree, unless in one of them the allowed number of instructions ran out.
+abbrev pub Agree : CodeEnd → CodeEnd → Type 0
+Agree ran_out second = ⊤
+Agree first ran_out = ⊤
+Agree (over first) (over second) = first ≡ second
+Agree (over first) stuck = ⊥
+Agree stuck (over second) = ⊥
+Agree stuck stuck = ⊤

@@ -1,0 +1,52 @@
+//! What follows from the definitions alone. Each law is the contract of a function that does
+//! nothing.
+ghost use Rattle.std.specs.Prelude.{◌≡◌, ℕ, List, All};
+ghost use Rattle.st_tree.specs.Trees.{Program};
+ghost use Rattle.gem_object.specs.declared.value.Value.{Value};
+ghost use Rattle.gem_world.specs.World.{Setting};
+ghost use Rattle.object_programs.specs.Run.{State};
+ghost use Rattle.op_table.specs.Ops.{row_for};
+ghost use Rattle.tree_meaning.specs.Place.{Frame, MadeBlock};
+ghost use Rattle.tree_meaning.specs.Bodies.{method_body, chunk_body};
+ghost use Rattle.st_compiler.specs.Instruction.{Instruction, op_of, operands_of};
+ghost use Rattle.st_compiler.specs.Code.{Piece};
+ghost use Rattle.st_compiler.specs.TreeCode.{method_code, chunk_code};
+ghost use Rattle.st_compiler.specs.Machine.{execute};
+ghost use Rattle.st_compiler.specs.Runs.{Runs, IsBlockCode, Agree};
+ghost use Rattle.gem_language.specs.Sends.{outside};
+
+/// An instruction has as many operands as its op code's row says.
+pub fn operands_fit()
+    ensures { (one : Instruction) → operands_of one ≡ (row_for (op_of one)).operands }
+{}
+
+/// The code of a method and of a chunk does what its tree means, with however many activations
+/// more, in each frame and state.
+pub fn code_means_tree()
+    ensures method { (depth : ℕ) (setting : Setting) (tree : Program)
+        → Runs (outside depth) setting (method_code tree 0).pieces (method_code tree 0).code
+        (method_body (outside depth) tree) }
+    ensures chunk { (depth : ℕ) (setting : Setting) (tree : Program)
+        → Runs (outside depth) setting (chunk_code tree 0).pieces (chunk_code tree 0).code
+        (chunk_body (outside depth) tree) }
+{}
+
+/// So does the code of each block that is pushed in it, or in one of these blocks.
+pub fn blocks_mean_trees()
+    ensures method { (depth : ℕ) (setting : Setting) (tree : Program)
+        → All (IsBlockCode (outside depth) setting (method_code tree 0).pieces)
+        (method_code tree 0).pieces }
+    ensures chunk { (depth : ℕ) (setting : Setting) (tree : Program)
+        → All (IsBlockCode (outside depth) setting (chunk_code tree 0).pieces)
+        (chunk_code tree 0).pieces }
+{}
+
+/// However many instructions are allowed, code ends in one way, or they run out.
+pub fn one_answer()
+    ensures { (depth : ℕ) (setting : Setting) (table : List Piece) (code : List Instruction)
+        (first second : List ℕ) (place : ℕ) (stack : List Value) (frame : Frame)
+        (state : State MadeBlock)
+        → Agree
+        (execute (outside depth) setting table code first place stack frame state)
+        (execute (outside depth) setting table code second place stack frame state) }
+{}
