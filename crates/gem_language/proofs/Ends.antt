@@ -84,7 +84,7 @@ module _ (setting : Setting) where
   touched_by false name None seen world = refl
   touched_by false name (Some object) seen world = refl
 
-  read_world : (name : ℕ) (world : World) → accessed a_read name setting world
+  pub read_world : (name : ℕ) (world : World) → accessed a_read name setting world
       ≡ record world { touched = (with_touches name setting world).touched }
   unfolding accessed with_touches
   read_world name world = touched_by (is_allowed a_read name setting world) name (shown name setting world)

@@ -8,3 +8,4 @@ mod LiteralReadings
 mod CommandReadings
 mod MethodLists
 mod Trees
+mod Walks

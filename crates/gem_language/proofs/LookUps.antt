@@ -113,7 +113,7 @@ module _ (setting : Setting) where
 
       classes_told : (name : ℕ) → Told class_side (Some name) (up_classes class_side selector past name)
       unfolding up_classes
-      classes_told name = up_told chain_limit name
+      classes_told name = up_told (suc chain_limit) name
 
     last_told : (class_side : Bool) → Told class_side None (past_last class_side selector)
     last_told false state found after is = give_told false None None (λ state. past_all) state found after is

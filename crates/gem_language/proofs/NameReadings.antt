@@ -30,7 +30,7 @@ some_of : {A : Type 0} → A → Option A → A
 some_of other None = other
 some_of other (Some a) = a
 
-same_some : {A : Type 0} (one other : A) → Some one ≡ Some other → one ≡ other
+pub same_some : {A : Type 0} (one other : A) → Some one ≡ Some other → one ≡ other
 unfolding some_of
 same_some one other is = ap (some_of one) is
 
@@ -135,7 +135,7 @@ module _ (setting : Setting) where
       → Comes (instance_names class) setting state (gives names) after
       → HasInstanceNames setting class state names after
   unfolding instance_names
-  named class state names after is = within_named chain_limit class state names after is
+  named class state names after is = within_named (suc chain_limit) class state names after is
 
   module _ (name : Text) where
     at_comes : (dictionary : ℕ) (state : State MadeBlock) (object : Contents) (after : State MadeBlock)

@@ -1,7 +1,8 @@
 -- How programs end, as relations of states.
 use Rattle.std.specs.Prelude.{◌≡◌, ℕ, List}
 use Rattle.gem_world.specs.World.{Setting}
-use Rattle.object_programs.specs.Run.{Run, Ending, State, perform}
+use Rattle.object_programs.specs.Run.{Run, Ending, gives, fails, State, perform}
+use Rattle.object_programs.specs.declared.fault.Fault.TheVariants as fault
 use Rattle.tree_meaning.specs.Place.{MadeBlock}
 
 -- from this state the program ends so, and leaves that state
@@ -14,3 +15,8 @@ Comes program setting state end after =
 pub record OnlyTouched (before after : State MadeBlock) : Type 0 where
   pub touched : List ℕ
   pub same : after ≡ record before { world = record before.world { touched = touched } }
+
+-- The program gives an answer, or is refused a read: there is no other end.
+pub data IsAnswered {A : Type 0} : Ending A → Type 0 where
+  with_answer : (answer : A) → IsAnswered (gives answer)
+  not_readable : (name : ℕ) → IsAnswered (fails (fault.NoReadRight name))

@@ -56,8 +56,8 @@ found_from class_side selector name (Some class) above past =
     found_or name class_side (code_of selector (methods_on class_side class))
     (from_superclass class.superclass above past)
 
--- The classes from this one up, on one side: each is read. More classes than there are names are
--- never gone through.
+-- The classes from this one up, on one side: each is read. At most so many are gone through, which
+-- is enough where objects are sound.
 abbrev pub up_within : ℕ → (class_side : Bool) → Text → (past : FindingRun) → (name : ℕ)
     → FindingRun
 up_within zero class_side selector past name = fail (fault.NotUnderstood selector)
@@ -68,7 +68,8 @@ up_within (suc more) class_side selector past name =
 
 unfoldable pub up_classes : (class_side : Bool) → Text → (past : FindingRun) → (name : ℕ)
     → FindingRun
-up_classes class_side selector past name = up_within chain_limit class_side selector past name
+up_classes class_side selector past name =
+    up_within (suc chain_limit) class_side selector past name
 
 -- past the last class side the look-up goes on at the instance side of the class Class; past the
 -- last instance side nothing is found

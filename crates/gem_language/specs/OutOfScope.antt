@@ -33,14 +33,14 @@ names_of_class (Some class) above =
     and_then (inherited_names class.superclass above) (λ inherited.
     give (inherited ++ class.names))
 
--- the same, where at most so many classes are gone through: more than there are names never are
+-- the same, where at most so many classes are gone through, which is enough where objects are sound
 abbrev pub names_within : ℕ → (class : ℕ) → Run MadeBlock (List Text)
 names_within zero class = fail fault.ArgumentKind
 names_within (suc more) class =
     and_then (read class) (λ object. names_of_class (class_of object.body) (names_within more))
 
 unfoldable pub instance_names : (class : ℕ) → Run MadeBlock (List Text)
-instance_names class = names_within chain_limit class
+instance_names class = names_within (suc chain_limit) class
 
 -- The slot of the instance variable of this name: none in a method of the class side. Slots are
 -- numbered from 0, those of inherited names first.

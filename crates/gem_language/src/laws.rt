@@ -22,7 +22,7 @@ ghost use Rattle.gem_language.specs.Literals.{has_symbols, literal_value};
 ghost use Rattle.tree_meaning.specs.Bodies.{chunk_body};
 ghost use Rattle.tree_meaning.specs.Calls.{activation};
 ghost use Rattle.gem_language.specs.Sends.{outside, chunk_value};
-ghost use Rattle.gem_language.specs.Comes.{Comes, OnlyTouched};
+ghost use Rattle.gem_language.specs.Comes.{Comes, OnlyTouched, IsAnswered};
 ghost use Rattle.gem_language.specs.Finds.{FindsFor};
 ghost use Rattle.gem_language.specs.Reading.{Sent, SendComes, send_program};
 ghost use Rattle.gem_language.specs.ReadingNames.{HasGlobal, HasValue, Assigns, Writes};
@@ -215,4 +215,15 @@ pub fn methods_are_put()
     ensures ascending { (new : Method) (methods : List Method)
         → texts_ascend (map (λ method. method.selector) methods) ≡ true
         → texts_ascend (map (λ method. method.selector) (with_method new methods)) ≡ true }
+{}
+
+/// Where objects are sound, a look-up gives an answer or is refused a read, and so do the names of
+/// instance variables of a class that is there: no chain of superclasses is too long.
+pub fn walks_end()
+    ensures look_up { (to_super : Bool) (frame : Frame) (receiver : Value) (selector : Text)
+        (setting : Setting) (state : State MadeBlock) → AreSound setting state.world
+        → IsAnswered (perform (find_method to_super frame receiver selector) setting state).end }
+    ensures names { (class : ℕ) (setting : Setting) (state : State MadeBlock)
+        → AreSound setting state.world
+        → IsAnswered (perform (instance_names class) setting state).end }
 {}

@@ -23,8 +23,8 @@ ghost use Rattle.gem_language.specs.Literals.{literal_value};
 ghost use Rattle.gem_language.specs.Sends.{outside};
 ghost use Rattle.gem_language.specs.Reading.{Sent, send_program};
 
-/// A message that is sent: its arguments from left to right, and then the send, of which `SendComes`
-/// says what it comes to. A cascade sends all its messages to one receiver.
+/// A message that is sent: its arguments from left to right, and then the send, of which
+/// `SendComes` says what it comes to. A cascade sends all its messages to one receiver.
 pub fn messages_are_sent()
     ensures message { (depth : ℕ) (setting : Setting) (place : Place) (frame : Frame)
         (state : State MadeBlock) (to_super : Bool) (receiver : Value) (selector : Text)
