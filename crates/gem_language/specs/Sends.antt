@@ -10,7 +10,7 @@ use Rattle.gem_object.specs.declared.body.MethodCode.{MethodCode}
 use Rattle.gem_object.specs.declared.body.MethodCode.TheVariants.{Source, Primitive}
 use Rattle.object_programs.specs.Atom.{Tick}
 use Rattle.object_programs.specs.Run.{give, fail, atom, and_then}
-use Rattle.object_programs.specs.declared.limits.TheConstants.{DEPTH_LIMIT}
+use Rattle.object_programs.specs.declared.limits.TheConstants.{ACTIVATION_LIMIT}
 use Rattle.object_programs.specs.declared.fault.Fault.TheVariants as fault
 use Rattle.tree_meaning.specs.Place.{Frame, MadeBlock}
 use Rattle.tree_meaning.specs.Operands.{ValueRun}
@@ -104,7 +104,7 @@ outside depth = outside_by (callee depth)
 
 -- At most 2,000 activations live at once, and the chunk is the first of them.
 abbrev pub calls_of_chunk : ℕ
-calls_of_chunk = DEPTH_LIMIT - 1
+calls_of_chunk = ACTIVATION_LIMIT - 1
 
 -- The value of a chunk: it is a method of the class of nil, with nil as its receiver.
 unfoldable pub chunk_value : Program → ValueRun

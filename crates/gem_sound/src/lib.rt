@@ -1,5 +1,5 @@
-//! Room: values. Gives the definition of a sound image, and the table of the kernel's classes; no
-//! code. Knows nothing of scripts and of who runs what.
+//! Room: values. Gives the definition of a sound image, the table of the kernel's classes, and the
+//! names of the kernel's objects; no code. Knows nothing of scripts and of who runs what.
 #![tactic(auto)]
 
 pub mod laws;

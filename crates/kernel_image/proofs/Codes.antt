@@ -141,8 +141,67 @@ codes_of_transcript_stream = instances_only 26 methods_of_transcript_stream refl
 
 pub have_codes : HaveCodes 1 protocols
 unfolding protocols
-have_codes =
-    (codes_of_object, (codes_of_class, (codes_of_undefined_object, (codes_of_boolean, (codes_of_true, (codes_of_false, (codes_of_magnitude, (codes_of_character, (codes_of_small_integer,
-    (codes_of_block, (codes_of_collection, (codes_of_sequenceable_collection, (codes_of_array, (codes_of_ordered_collection, (codes_of_string, (codes_of_symbol,
-    (codes_of_identity_dictionary, (codes_of_symbol_dictionary, (codes_of_rc_counter, (codes_of_rc_identity_bag, (codes_of_rc_key_value_dictionary,
-    (codes_of_rc_queue, (codes_of_segment, (codes_of_user_profile, (codes_of_system, (codes_of_transcript_stream, tt))))))))))))))))))))))))))
+have_codes = (
+  codes_of_object,
+  (
+    codes_of_class,
+    (
+      codes_of_undefined_object,
+      (
+        codes_of_boolean,
+        (
+          codes_of_true,
+          (
+            codes_of_false,
+            (
+              codes_of_magnitude,
+              (
+                codes_of_character,
+                (
+                  codes_of_small_integer,
+                  (
+                    codes_of_block,
+                    (
+                      codes_of_collection,
+                      (
+                        codes_of_sequenceable_collection,
+                        (
+                          codes_of_array,
+                          (
+                            codes_of_ordered_collection,
+                            (
+                              codes_of_string,
+                              (
+                                codes_of_symbol,
+                                (
+                                  codes_of_identity_dictionary,
+                                  (
+                                    codes_of_symbol_dictionary,
+                                    (
+                                      codes_of_rc_counter,
+                                      (
+                                        codes_of_rc_identity_bag,
+                                        (
+                                          codes_of_rc_key_value_dictionary,
+                                          (codes_of_rc_queue, (codes_of_segment, (codes_of_user_profile, (codes_of_system, (codes_of_transcript_stream, tt))))),
+                                        ),
+                                      ),
+                                    ),
+                                  ),
+                                ),
+                              ),
+                            ),
+                          ),
+                        ),
+                      ),
+                    ),
+                  ),
+                ),
+              ),
+            ),
+          ),
+        ),
+      ),
+    ),
+  ),
+)

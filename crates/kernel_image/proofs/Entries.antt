@@ -1,5 +1,5 @@
 -- Lists that grow at the end, and the entries of the kernel's dictionaries.
-use Rattle.std.proofs.Common.{◌≡◌, ◌<◌, ◌+◌, ◌^◌, ℕ, Bool, All, List, [], ◌∷◌, ◌++◌, map, take, get_or, length, true, refl, ap, sym, ◌∙◌, append_assoc, arith, subst}
+use Rattle.std.proofs.Common.{◌≡◌, ◌<◌, ◌+◌, ◌^◌, ℕ, Bool, All, List, [], ◌∷◌, ◌++◌, take, get_or, length, true, refl, ap, sym, ◌∙◌, append_assoc, arith, subst}
 use Rattle.std.proofs.Math.Path.{fun_ext}
 use Rattle.std.specs.Prelude.{nat_lt}
 use Rattle.std.specs.List.{list_all}

@@ -1,9 +1,8 @@
 -- The image of the kernel is sound.
-use Rattle.std.proofs.Common.{◌≡◌, ◌≢◌, ◌<◌, ◌≤◌, ◌+◌, ◌-◌, ℕ, zero, suc, Bool, true, false, ◌&&◌, List, [], ◌∷◌, ◌++◌, map, length, Option, Some, None, IsSome, is_some, All, refl, ap, sym, subst, ◌∙◌, eqb, arith}
+use Rattle.std.proofs.Common.{◌≡◌, ◌↔◌, ◌<◌, ◌≤◌, ◌+◌, ◌-◌, ℕ, zero, suc, Bool, true, ◌&&◌, List, [], ◌∷◌, ◌++◌, map, length, Option, Some, None, IsSome, is_some, All, refl, ap, sym, subst, ◌∙◌, arith}
 use Rattle.std.specs.Prelude.{nat_lt, nat_eq, IsTrue}
 use Rattle.std.specs.List.{slice_get, list_all}
-use Rattle.std.specs.Option.{option_map, option_to_list, IfSome}
-use Rattle.std.specs.FinMap.{get}
+use Rattle.std.specs.Option.{option_map, option_to_list}
 use Rattle.std.proofs.Math.Path.{fun_ext}
 use Rattle.std.proofs.lemmas.Bool.{false≢true, ltb-true, eqb-true}
 use Rattle.std.proofs.lemmas.Option.{slice_get_past, slice_get_within, slice_get_cases}
@@ -17,17 +16,16 @@ use Rattle.texts.specs.Bytes.{Bytes as Text}
 use Rattle.profile.specs.Kernel.{kernel_names}
 use Rattle.gem_object.specs.References.{names_in_pairs}
 use Rattle.gem_object.specs.declared.value.Value.{Value}
-use Rattle.gem_object.specs.declared.kind.Kind.{Kind}
 use Rattle.gem_object.specs.declared.body.ClassBody.{ClassBody}
 use Rattle.gem_object.specs.declared.body.Body.{Body}
-use Rattle.gem_object.specs.declared.body.Body.TheVariants.{Plain, Bytes, Dict, Class, Segment, User, Counter, Bag, RcDict, Queue}
+use Rattle.gem_object.specs.declared.body.Body.TheVariants.{Plain, Dict, Segment, User}
 use Rattle.gem_object.specs.declared.object.Object.{Object}
-use Rattle.gem_image.specs.Image.{Contents, Objects, contents_of, objects_in}
+use Rattle.gem_image.specs.Image.{Objects, contents_of}
 use Rattle.gem_image.specs.Rights.{rights_at}
 use Rattle.gem_sound.specs.Parts.{class_at, user_at, dictionary_at}
-use Rattle.gem_sound.specs.Kernel.{KernelBody, a_class, a_dictionary, a_segment, a_user, no_slots, has_kind, KernelClass, kernel_classes, kernel_class, kernel_body, kernel_bodies, numbered, object_class}
+use Rattle.gem_sound.specs.Kernel.{KernelBody, a_class, a_dictionary, a_segment, a_user, KernelClass, kernel_classes, kernel_class, kernel_body, kernel_bodies, numbered, object_class}
 use Rattle.gem_sound.specs.Inherited.{HasNames, at_the_end, under}
-use Rattle.gem_sound.specs.Sound.{HasPlaceByRow, HasKernelBody, ImageRule, i1, i2, i3, i4, i5, names_in, IsSound, IsSoundImage, KeepsRule, KeepsRuleAt, HasPlace, FitsClass, by_kind, class_object as fits_class, transcript as fits_transcript}
+use Rattle.gem_sound.specs.Sound.{HasPlaceByRow, HasKernelBody, ImageRule, i1, i2, i3, i4, i5, IsSound, IsSoundImage, KeepsRule, KeepsRuleAt, FitsClass, by_kind, class_object as fits_class, transcript as fits_transcript}
 use Rattle.kernel_image.specs.Objects.{Protocol, protocols, kernel_object, dictionary, segment_object, user_object, class_in, class_object, class_objects, class_list, shared_objects, profiles, last_objects, other_objects, globals_entries, users_entries, other_entries, kernel_list, kernel_objects, kernel_image}
 use Rattle.kernel_image.proofs.Sources.{both}
 use Rattle.kernel_image.proofs.Named.{kernel_has, kernel_length}
@@ -343,14 +341,29 @@ others_keep : AllKeep 27 other_objects
 unfolding kernel_list class_list protocols kernel_classes kernel_bodies shared_objects profiles last_objects globals_entries users_entries other_entries
 others_keep = (
   dictionary_keeps 27 30 _ (omega arith) refl curator_segment refl,
-  (dictionary_keeps 28 30 _ (omega arith) refl curator_segment refl,
-  (segment_keeps 29 31 (omega arith) refl system_segment refl refl,
-  (segment_keeps 30 32 (omega arith) refl curator_segment refl refl,
-  (user_keeps 31 _ 29 33 (omega arith) refl system_segment refl refl,
-  (user_keeps 32 _ 30 34 (omega arith) refl curator_segment refl refl,
-  (dictionary_keeps 33 29 _ (omega arith) refl system_segment refl,
-  (dictionary_keeps 34 30 _ (omega arith) refl curator_segment refl,
-  (transcript_keeps, tt)))))))))
+  (
+    dictionary_keeps 28 30 _ (omega arith) refl curator_segment refl,
+    (
+      segment_keeps 29 31 (omega arith) refl system_segment refl refl,
+      (
+        segment_keeps 30 32 (omega arith) refl curator_segment refl refl,
+        (
+          user_keeps 31 _ 29 33 (omega arith) refl system_segment refl refl,
+          (
+            user_keeps 32 _ 30 34 (omega arith) refl curator_segment refl refl,
+            (
+              dictionary_keeps 33 29 _ (omega arith) refl system_segment refl,
+              (
+                dictionary_keeps 34 30 _ (omega arith) refl curator_segment refl,
+                (transcript_keeps, tt),
+              ),
+            ),
+          ),
+        ),
+      ),
+    ),
+  ),
+)
 
 -- ---- all numbers
 
@@ -438,3 +451,21 @@ pub kernel_is_sound : IsSoundImage kernel_image
 kernel_is_sound =
     subst IsSound (sym (fun_ext (λ number. ap (option_map contents_of) (kernel_has number))))
     (λ number rule. kept_by rule number (kernel_class number) refl)
+
+kernel_number : (number : ℕ) (found : Option Object) → kernel_objects number ≡ found → IsSome found
+    → (0 < number) × (number ≤ 35)
+kernel_number zero found is some = absurd (false≢true (ap is_some is ∙ some))
+kernel_number number None is some = absurd (false≢true some)
+kernel_number (suc at) (Some object) is some =
+    let within = number_within kernel_list (suc at) object is in
+    let count = kernel_length in
+    (omega arith, omega (arith, within, count))
+
+-- the numbers at which objects of the kernel stand
+pub kernel_numbers : (number : ℕ) → IsSome (kernel_objects number) ↔ ((0 < number) × (number ≤ 35))
+kernel_numbers number = (
+  λ some. kernel_number number (kernel_objects number) refl some,
+  λ bounds.
+      let count = kernel_length in
+      ap is_some (item_at kernel_list number bounds.0 (omega (arith, bounds.1, count))).1,
+)

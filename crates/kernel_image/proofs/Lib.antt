@@ -4,3 +4,8 @@ pub mod Spelled
 pub mod Entries
 pub mod Named
 pub mod KernelSound
+pub mod Circles
+pub mod Counts
+pub mod Lists
+pub mod Kept
+pub mod Places

@@ -1,6 +1,6 @@
 -- What stands at each number where objects are put under the numbers that count from one on.
 use Rattle.std.specs.Prelude.{Result, Ok, Err, IfOk}
-use Rattle.std.proofs.Common.{◌≡◌, ◌≢◌, ◌<◌, ◌≤◌, ◌+◌, ap₂, ℕ, zero, suc, List, [], ◌∷◌, length, Option, Some, None, All, true, refl, ap, sym, subst, ◌∙◌, arith}
+use Rattle.std.proofs.Common.{◌≡◌, ◌<◌, ◌+◌, ap₂, ℕ, zero, suc, List, [], ◌∷◌, length, Option, Some, None, All, true, refl, ap, sym, subst, ◌∙◌, arith}
 use Rattle.std.specs.Ordering.{nat_cmp}
 use Rattle.std.specs.FinMap.{empty, get, insert, get-empty}
 use Rattle.std.specs.List.{slice_get, list_all}

@@ -1,6 +1,6 @@
 -- Tests of what a class's methods do, for tables whose tests compute.
-use Rattle.std.proofs.Common.{◌≡◌, ◌<◌, ◌^◌, ℕ, Bool, true, false, ◌&&◌, length, List, Option, Some, None, Result, Ok, Err, All, ltb, refl, ap, sym, arith}
-use Rattle.std.specs.Prelude.{bytes_eq, nat_lt, IsTrue}
+use Rattle.std.proofs.Common.{◌≡◌, ◌<◌, ◌^◌, ℕ, Bool, true, false, ◌&&◌, length, List, Option, Some, None, Result, Ok, Err, All, refl, ap, arith}
+use Rattle.std.specs.Prelude.{bytes_eq, nat_lt}
 use Rattle.std.specs.List.{list_all}
 use Rattle.std.proofs.lemmas.Bool.{false≢true, ltb-true}
 use Rattle.std.proofs.lemmas.List.Sums.{AllPass-from_list_all}

@@ -1,6 +1,6 @@
 -- A test of the bodies that the kernel has: those that pass it have a spelling.
-use Rattle.std.proofs.Common.{◌≡◌, ◌≢◌, ◌<◌, ◌≤◌, ◌^◌, ℕ, Bool, true, false, not, ◌&&◌, length, List, [], ◌∷◌, map, Option, Some, None, All, refl, ap, sym, subst, arith}
-use Rattle.std.specs.Prelude.{nat_lt, nat_le, IsTrue}
+use Rattle.std.proofs.Common.{◌≡◌, ◌≢◌, ◌<◌, ◌^◌, ℕ, Bool, true, false, not, ◌&&◌, length, List, [], ◌∷◌, map, Option, Some, None, All, refl, sym, subst, arith}
+use Rattle.std.specs.Prelude.{nat_lt}
 use Rattle.std.specs.List.{list_all, AllByRecursion}
 use Rattle.std.specs.List.Sorted.{IsStrictlySortedBy}
 use Rattle.std.specs.Option.{IfSome}
@@ -8,7 +8,7 @@ use Rattle.std.specs.Ordering.{nat_cmp, is_lt}
 use Rattle.std.specs.declared.cmp.Ordering.{Ordering}
 use Rattle.std.specs.declared.cmp.Ordering.TheVariants.{Less, Equal, Greater}
 use Rattle.std.specs.Cmp.Lexicographic.{slice_cmp}
-use Rattle.std.proofs.lemmas.Bool.{false≢true, ltb-true, leb-true}
+use Rattle.std.proofs.lemmas.Bool.{false≢true, ltb-true}
 use Rattle.std.proofs.lemmas.List.Sums.{AllPass-from_list_all}
 use Rattle.std.proofs.lemmas.List.Elements.{All-nil}
 use Rattle.texts.specs.Bytes.{Bytes as Text}
@@ -16,7 +16,7 @@ use Rattle.insertion_map.specs.Pairs.{AreDistinct}
 use Rattle.seg_rights.specs.declared.right.Right.TheVariants.{None as NoRight}
 use Rattle.seg_rights.specs.declared.rights.Rights.{Rights}
 use Rattle.gem_object.specs.Order.{same_value}
-use Rattle.gem_object.specs.Spelling.{IsPlainByte, IsText, IsStorable, IsStorablePair, AreStorable, IsDictionary, IsSource, IsCode, IsMethod, AreMethods, IsClass, IsSegment, IsUser, IsSpelledBody, IsSpelled}
+use Rattle.gem_object.specs.Spelling.{IsPlainByte, IsText, IsStorable, IsStorablePair, IsDictionary, IsCode, IsMethod, AreMethods, IsClass, IsSegment, IsUser, IsSpelledBody, IsSpelled}
 use Rattle.gem_object.specs.declared.value.Value.{Value}
 use Rattle.gem_object.specs.declared.value.Value.TheVariants.{Nil, False, True, Int, Char, Sym, Ref, Block}
 use Rattle.gem_object.specs.declared.body.MethodCode.{MethodCode}
@@ -161,9 +161,11 @@ ascend_tells : (texts : List Text) → ascend_test texts ≡ true
 unfolding IsStrictlySortedBy
 ascend_tells [] passed = tt
 ascend_tells (text ∷ texts) passed =
-    let parts = both (below_all text texts) (ascend_test texts) passed in
-    (by_recursion (λ later. is_lt (slice_cmp nat_cmp text later)) (λ later. slice_cmp nat_cmp text later ≡ Less)
-    (λ later lt. less_of (slice_cmp nat_cmp text later) lt) texts parts.0, ascend_tells texts parts.1)
+    let parts = both (below_all text texts) (ascend_test texts) passed in (
+      by_recursion (λ later. is_lt (slice_cmp nat_cmp text later)) (λ later. slice_cmp nat_cmp text later ≡ Less)
+          (λ later lt. less_of (slice_cmp nat_cmp text later) lt) texts parts.0,
+      ascend_tells texts parts.1,
+    )
 
 methods_tell : (methods : List Method) → methods_test methods ≡ true → AreMethods methods
 methods_tell methods passed =
@@ -224,9 +226,11 @@ pub distinct_tells : (pairs : List (Value × Value)) → distinct_test pairs ≡
     → AreDistinct same_value pairs
 distinct_tells [] passed = tt
 distinct_tells (pair ∷ pairs) passed =
-    let parts = both (list_all (differs pair.0) pairs) (distinct_test pairs) passed in
-    (by_recursion (differs pair.0) (λ later. same_value pair.0 later.0 ≡ false)
-    (λ later other. false_of (same_value pair.0 later.0) other) pairs parts.0, distinct_tells pairs parts.1)
+    let parts = both (list_all (differs pair.0) pairs) (distinct_test pairs) passed in (
+      by_recursion (differs pair.0) (λ later. same_value pair.0 later.0 ≡ false)
+          (λ later other. false_of (same_value pair.0 later.0) other) pairs parts.0,
+      distinct_tells pairs parts.1,
+    )
 
 pairs_tell : (pairs : List (Value × Value)) → pairs_test pairs ≡ true → IsDictionary pairs
 pairs_tell pairs passed =

@@ -1,3 +1,6 @@
 pub mod Methods
 pub mod Objects
 pub mod Rows
+pub mod Chains
+pub mod Faults
+pub mod Bodies

@@ -101,7 +101,7 @@ methods_of_character =
     ∷ primitive (codes "asInteger") 27
     ∷ source (codes "isDigit") (codes "isDigit ^self between: $0 and: $9")
     ∷ source (codes "isLetter")
-        (codes "isLetter ^(self between: $a and: $z) or: [self between: $A and: $Z]")
+    (codes "isLetter ^(self between: $a and: $z) or: [self between: $A and: $Z]")
     ∷ []
 
 -- SmallInteger
@@ -131,7 +131,7 @@ methods_of_small_integer =
     ∷ primitive (codes "rem:") 16
     ∷ source (codes "timesRepeat:") (codes "timesRepeat: b 1 to: self do: [:i | b value]")
     ∷ source (codes "to:do:")
-        (codes "to: n do: b 1 to: n - self + 1 do: [:i | b value: self + i - 1]")
+    (codes "to: n do: b 1 to: n - self + 1 do: [:i | b value: self + i - 1]")
     ∷ []
 
 -- Block
@@ -157,19 +157,19 @@ methods_of_collection =
 unfoldable pub methods_of_sequenceable_collection : List Method
 methods_of_sequenceable_collection =
     source (codes "collect:")
-        (codes "collect: b | r | r := Array new: self size. "
-        ++ codes "1 to: self size do: [:i | r at: i put: (b value: (self at: i))]. ^r")
+    (codes "collect: b | r | r := Array new: self size. "
+    ++ codes "1 to: self size do: [:i | r at: i put: (b value: (self at: i))]. ^r")
     ∷ source (codes "detect:ifNone:")
-        (codes "detect: b ifNone: c self do: [:e | (b value: e) ifTrue: [^e]]. ^c value")
+    (codes "detect: b ifNone: c self do: [:e | (b value: e) ifTrue: [^e]]. ^c value")
     ∷ source (codes "do:") (codes "do: b 1 to: self size do: [:i | b value: (self at: i)]")
     ∷ source (codes "first") (codes "first ^self at: 1")
     ∷ source (codes "includes:") (codes "includes: x self do: [:e | e = x ifTrue: [^true]]. ^false")
     ∷ source (codes "inject:into:")
-        (codes "inject: x into: b | r | r := x. self do: [:e | r := b value: r value: e]. ^r")
+    (codes "inject: x into: b | r | r := x. self do: [:e | r := b value: r value: e]. ^r")
     ∷ source (codes "last") (codes "last ^self at: self size")
     ∷ source (codes "select:")
-        (codes "select: b | r | r := OrderedCollection new. "
-        ++ codes "self do: [:e | (b value: e) ifTrue: [r add: e]]. ^r")
+    (codes "select: b | r | r := OrderedCollection new. "
+    ++ codes "self do: [:e | (b value: e) ifTrue: [r add: e]]. ^r")
     ∷ []
 
 -- Array
@@ -229,12 +229,12 @@ unfoldable pub methods_of_identity_dictionary : List Method
 methods_of_identity_dictionary =
     primitive (codes "at:") 61
     ∷ source (codes "at:ifAbsent:")
-        (codes "at: k ifAbsent: b (self includesKey: k) ifTrue: [^self at: k]. ^b value")
+    (codes "at: k ifAbsent: b (self includesKey: k) ifTrue: [^self at: k]. ^b value")
     ∷ primitive (codes "at:put:") 62
     ∷ primitive (codes "includesKey:") 63
     ∷ primitive (codes "keys") 66
     ∷ source (codes "keysAndValuesDo:")
-        (codes "keysAndValuesDo: b self keys do: [:k | b value: k value: (self at: k)]")
+    (codes "keysAndValuesDo: b self keys do: [:k | b value: k value: (self at: k)]")
     ∷ primitive (codes "removeKey:") 64
     ∷ primitive (codes "size") 65
     ∷ primitive (codes "values") 67
@@ -267,12 +267,12 @@ unfoldable pub methods_of_rc_key_value_dictionary : List Method
 methods_of_rc_key_value_dictionary =
     primitive (codes "at:") 89
     ∷ source (codes "at:ifAbsent:")
-        (codes "at: k ifAbsent: b (self includesKey: k) ifTrue: [^self at: k]. ^b value")
+    (codes "at: k ifAbsent: b (self includesKey: k) ifTrue: [^self at: k]. ^b value")
     ∷ primitive (codes "at:put:") 90
     ∷ primitive (codes "includesKey:") 92
     ∷ primitive (codes "keys") 93
     ∷ source (codes "keysAndValuesDo:")
-        (codes "keysAndValuesDo: b self keys do: [:k | b value: k value: (self at: k)]")
+    (codes "keysAndValuesDo: b self keys do: [:k | b value: k value: (self at: k)]")
     ∷ primitive (codes "removeKey:") 91
     ∷ source (codes "size") (codes "size ^self keys size")
     ∷ []

@@ -14,7 +14,7 @@ use Rattle.gem_object.specs.declared.body.Body.TheVariants.{Plain, Dict, Class, 
 use Rattle.gem_object.specs.declared.object.Object.{Object}
 use Rattle.gem_image.specs.Image.{Image, with_objects}
 use Rattle.gem_sound.specs.Kernel.{KernelClass, kernel_classes, numbered, class_class, transcript_class}
-use Rattle.kernel_image.specs.declared.names.TheConstants.{SYMBOL_DICTIONARY_CLASS, SEGMENT_CLASS, USER_PROFILE_CLASS, ALL_USERS, SYSTEM_SEGMENT, DATA_CURATOR_SEGMENT, SYSTEM_USER, SYSTEM_USER_GLOBALS, DATA_CURATOR_GLOBALS, TRANSCRIPT}
+use Rattle.gem_sound.specs.declared.names.TheConstants.{SYMBOL_DICTIONARY_CLASS, SEGMENT_CLASS, USER_PROFILE_CLASS, ALL_USERS, SYSTEM_SEGMENT, DATA_CURATOR_SEGMENT, SYSTEM_USER, SYSTEM_USER_GLOBALS, DATA_CURATOR_GLOBALS, TRANSCRIPT}
 use Rattle.kernel_image.specs.Methods.{methods_of_object, methods_of_class, methods_of_undefined_object, methods_of_boolean, methods_of_true, methods_of_false, methods_of_magnitude, methods_of_character, methods_of_small_integer, methods_of_block, methods_of_collection, methods_of_sequenceable_collection, methods_of_array, methods_of_ordered_collection, methods_of_string, methods_of_symbol, methods_of_identity_dictionary, methods_of_rc_counter, methods_of_rc_identity_bag, methods_of_rc_key_value_dictionary, methods_of_rc_queue, methods_of_segment, methods_of_user_profile, methods_of_transcript_stream, class_side_of_user_profile, class_side_of_system}
 
 -- an object of the kernel: its class, the segment in which it lies, and what it holds

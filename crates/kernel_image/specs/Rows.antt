@@ -3,6 +3,7 @@ use Rattle.std.specs.Prelude.{ℕ, List, map}
 use Rattle.gem_object.specs.declared.body.Method.{Method}
 use Rattle.gem_object.specs.declared.object.Object.{Object}
 use Rattle.gem_object.specs.declared.value.Value.{Value}
+use Rattle.gem_sound.specs.Kernel.{KernelClass}
 use Rattle.kernel_image.specs.declared.table.CodeRow.{CodeRow}
 use Rattle.kernel_image.specs.declared.table.CodeRow.TheVariants.{Source, Primitive}
 use Rattle.kernel_image.specs.declared.table.MethodRow.{MethodRow}
@@ -23,10 +24,14 @@ method_of_row row = method_with row.selector.now row.code
 abbrev pub methods_of_rows : List MethodRow → List Method
 methods_of_rows rows = map method_of_row rows
 
+-- the superclass and the kind of a row
+abbrev pub kernel_class_of : ClassRow → KernelClass
+kernel_class_of row = record { superclass = row.superclass; kind = row.kind }
+
 -- the class of a row
 abbrev pub class_of_row : ClassRow → Object
 class_of_row row = class_object row.name.now
-    (record { superclass = row.superclass; kind = row.kind })
+    (kernel_class_of row)
     (record {
       methods = methods_of_rows row.methods.now;
       class_methods = methods_of_rows row.class_methods.now;

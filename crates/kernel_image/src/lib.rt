@@ -3,8 +3,15 @@
 #![tactic(auto)]
 
 mod build;
+mod chains;
+mod check;
+mod fault;
+mod fitting;
 mod image;
-pub mod names;
+pub mod laws;
+mod rules;
 mod table;
 
+pub use check::sound;
+pub use fault::{Rule, SoundFault};
 pub use image::kernel;

@@ -1,8 +1,9 @@
 //! The kernel's classes and their methods, as a table.
 ghost use Rattle.std.specs.Prelude.{◌≡◌, map, take};
 ghost use Rattle.profile.specs.Kernel.{kernel_names};
+ghost use Rattle.gem_sound.specs.Kernel.{kernel_classes};
 ghost use Rattle.kernel_image.specs.Objects.{class_list};
-ghost use Rattle.kernel_image.specs.Rows.{class_of_row, names_of_rows};
+ghost use Rattle.kernel_image.specs.Rows.{class_of_row, kernel_class_of, names_of_rows};
 
 use gem_object::Kind;
 
@@ -324,6 +325,7 @@ static TRANSCRIPT_STREAM: [MethodRow; 2] = methods! {
 /// The classes, in the order of their numbers.
 pub(crate) fn class_rows() -> [ClassRow; 26]
     ensures classes { map class_of_row result ≡ class_list }
+    ensures rows { map kernel_class_of result ≡ kernel_classes }
     ensures names { names_of_rows result ≡ take 26 kernel_names }
 {
     // The name, the superclass, the kind, the methods of instances, and its own.

@@ -5,3 +5,5 @@
 
 #[cfg(test)]
 mod gem_meaning_tests;
+#[cfg(test)]
+mod object_programs_tests;

@@ -28,7 +28,7 @@ use Rattle.gem_sound.specs.Inherited.{HasNames, at_the_end, under}
 use Rattle.gem_sound.specs.Sound.{names_in, has_named_slots, HasPlace, HasPlaceByRow, HasInheritedKind, FitsClass, by_kind, class_object, transcript, NamesFit, HasKernelBody, ImageRule, KeepsRule, i1, i2, i3, i4, i5, KeepsRuleAt, IsSoundFor}
 use Rattle.object_programs.specs.Fixed.{body_kind, ClassPart, class_part, Fixed, fixed_of, fixed_by, same_kind, same_number}
 use Rattle.object_programs.specs.Guard.{Parts, holds_of, is_there, is_segment, is_user, is_dictionary, is_known, is_segment_at, names_above, names_of_class, names_of_part, names_within, chain_limit, names_at, has_slots, is_class_object, is_transcript, accepts_by, accepts, named_fit, kernel_fits_by, kind_is_inherited, has_none, row_fits, are_few, place_fits, fits}
-use Rattle.object_programs.specs.Laws.{AreSound, AreStored, Shows}
+use Rattle.object_programs.specs.Laws.{AreSound, AreStored, Shows, begun_at}
 use Rattle.object_programs.proofs.Guards.{found_more}
 use Rattle.object_programs.proofs.Rules.{part_of}
 use Rattle.object_programs.proofs.Spells.{tells_spelled}
@@ -464,9 +464,9 @@ as_of_itself (Some object) = cond_both (is_shared object.body) object object
 
 module _ (image : Image) (user serial first : ℕ) where
   abbrev at_first : Setting
-  at_first = record { place = image; view = image; user = user; serial = serial; first = first }
+  at_first = begun_at image image user serial first
 
-  shown_first : (name : ℕ) → objects_in image name ≡ shown name at_first (untouched first)
+  pub shown_first : (name : ℕ) → objects_in image name ≡ shown name at_first (untouched first)
   shown_first name = sym (ap (λ found. option_or found (before_changes name at_first)) (get-empty nat_cmp name)
       ∙ as_of_itself (objects_in image name))
 

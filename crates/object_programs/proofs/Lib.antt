@@ -15,3 +15,4 @@ pub mod Spells
 pub mod MethodRules
 pub mod Rules
 pub mod Admits
+pub mod AtPlace

@@ -18,6 +18,16 @@ use Rattle.object_programs.specs.Atom.{says, Done, touch_missing}
 use Rattle.object_programs.specs.Steps.{Step, after_steps}
 use Rattle.object_programs.specs.declared.limits.TheConstants.{COUNTER_LIMIT}
 
+-- the setting of a transaction at this place with this view
+abbrev pub begun_at : (place view : Image) → (user serial first : ℕ) → Setting
+begun_at place view user serial first = record {
+  place = place;
+  view = view;
+  user = user;
+  serial = serial;
+  first = first;
+}
+
 -- the setting with another image at its place
 abbrev pub rebased : Image → Setting → Setting
 rebased other setting = record setting { place = other }

@@ -24,7 +24,7 @@ ghost use Rattle.object_programs.specs.Methods.{methods_fit};
 ghost use Rattle.object_programs.specs.Guard.{may_replace, parts_with_new, may_make};
 ghost use Rattle.object_programs.specs.Atom.{Ask, Own, Kind, Made, Who, Put, Move, Note, Names, Make, Tick, Room, Show, says, done, refused, touch_missing, objects_cost, with_new, asked_by_all};
 ghost use Rattle.object_programs.specs.Steps.{Step, after_steps};
-ghost use Rattle.object_programs.specs.Laws.{rebased, Stays, AgreeOnTouched, Falls, KeepsParts, AreFree, IsInReach, MightWrite, UpdatesTell, AreSound, HasSpelling, AreStored, answered, lacking, Shows};
+ghost use Rattle.object_programs.specs.Laws.{begun_at, rebased, Stays, AgreeOnTouched, Falls, KeepsParts, AreFree, IsInReach, MightWrite, UpdatesTell, AreSound, HasSpelling, AreStored, answered, lacking, Shows};
 
 use crate::fault::Fault;
 use crate::limits::{COUNTER_LIMIT, TRANSCRIPT_LIMIT};
@@ -370,11 +370,15 @@ pub fn guard_admits()
         → IsSoundFor objects setting.user setting.serial world.next → AreSound setting world }
     ensures image { (image : Image) (user serial first : ℕ) → IsImage image
         → IsSoundFor (objects_in image) user serial first
-        → AreSound (record {
-          place = image;
-          view = image;
-          user = user;
-          serial = serial;
-          first = first;
-        }) (untouched first) }
+        → AreSound (begun_at image image user serial first) (untouched first) }
+{}
+
+/// A transaction that begins at a later place than its view sees sound objects too: where place and
+/// view are both sound for it, and every object of the view is at the place with the same fixed
+/// part, so are the ordinary objects of the place with the reduced-conflict ones of the view.
+pub fn sound_at_place()
+    ensures { (place view : Image) (user serial first : ℕ) → Stays view place
+        → AreSound (begun_at place place user serial first) (untouched first)
+        → AreSound (begun_at view view user serial first) (untouched first)
+        → AreSound (begun_at place view user serial first) (untouched first) }
 {}

@@ -24,7 +24,7 @@ pub const NAMES_LIMIT: u64 = 200;
 
 /// How many activations live at once at most: the chunk's own, and one for each method with source
 /// and each block that runs.
-pub const DEPTH_LIMIT: u64 = 2_000;
+pub const ACTIVATION_LIMIT: u64 = 2_000;
 
 /// How many groups a segment names at most, and in how many a user is at most.
 pub const GROUPS_LIMIT: u64 = 100;

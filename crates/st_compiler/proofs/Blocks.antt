@@ -7,7 +7,8 @@ use Rattle.gem_world.specs.World.{Setting}
 use Rattle.tree_meaning.specs.Place.{Place}
 use Rattle.tree_meaning.specs.Names.{where_is}
 use Rattle.tree_meaning.specs.Forms.{form_under, first_loop}
-use Rattle.tree_meaning.specs.Meaning.{Outside, is_super_head, with_variables}
+use Rattle.tree_meaning.specs.Parts.{with_variables}
+use Rattle.tree_meaning.specs.Meaning.{Outside, is_super_head}
 use Rattle.tree_meaning.specs.Bodies.{method_place, block_place}
 use Rattle.tree_meaning.specs.declared.form.Form.{Form}
 use Rattle.tree_meaning.specs.declared.form.Form.TheVariants.{Plain, OneArm, TwoArms, Counting, Repeating}

@@ -14,7 +14,8 @@ use Rattle.tree_meaning.specs.Names.{singleton_value}
 use Rattle.tree_meaning.specs.Operands.{ValueRun, truth_of, by_truth, int_pair}
 use Rattle.tree_meaning.specs.Scopes.{mark, with_scope, open_scope, give_back, give_back_where, variable_value, set_variable, with_value}
 use Rattle.tree_meaning.specs.Loops.{while_loop, while_turns, count_between}
-use Rattle.tree_meaning.specs.Meaning.{Outside, Argument, Message, first_argument, rest_arguments, first_body, rest_messages, cascade_in_turn, messages_in_turn, head_and_messages, statements_from, statements_in_turn, message}
+use Rattle.tree_meaning.specs.Parts.{Argument, Message, first_argument, rest_arguments, first_body, rest_messages, cascade_in_turn, messages_in_turn, head_and_messages, statements_from, statements_in_turn}
+use Rattle.tree_meaning.specs.Meaning.{Outside, message}
 use Rattle.tree_meaning.specs.declared.form.Form.{Form}
 use Rattle.tree_meaning.specs.declared.form.Form.TheVariants.{Plain, OneArm, TwoArms, Counting, Repeating}
 use Rattle.st_compiler.specs.Instruction.{Instruction, PushLit, PushLocal, StoreLocal, Pop, TakeUnit, Enter, Leave}

@@ -7,3 +7,4 @@ pub mod Trees
 pub mod Whole
 pub mod Blocks
 pub mod OneAnswer
+pub mod Heights

@@ -10,7 +10,8 @@ use Rattle.tree_meaning.specs.Place.{Place, Frame, MadeBlock}
 use Rattle.tree_meaning.specs.Names.{singleton_value}
 use Rattle.tree_meaning.specs.Operands.{ValueRun}
 use Rattle.tree_meaning.specs.Scopes.{set_variable}
-use Rattle.tree_meaning.specs.Meaning.{Outside, Argument, Message, without_block, first_argument, rest_arguments, argument_values, with_variables, hand, block_in_place}
+use Rattle.tree_meaning.specs.Parts.{Argument, Message, without_block, first_argument, rest_arguments, argument_values, with_variables, hand, block_in_place}
+use Rattle.tree_meaning.specs.Meaning.{Outside}
 use Rattle.tree_meaning.specs.declared.name.Singleton.{Singleton}
 use Rattle.tree_meaning.specs.declared.name.Singleton.TheVariants as singleton
 use Rattle.st_compiler.specs.Instruction.{Instruction, PushNil, StoreLocal, Pop}

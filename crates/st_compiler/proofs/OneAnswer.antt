@@ -1,5 +1,5 @@
 -- However many instructions are allowed, code ends in one way: by cases on instructions.
-use Rattle.std.proofs.Common.{refl, ℕ, zero, suc, ◌+◌, ◌-◌, ℤ, pos, ◌+ℤ◌, int_le, Bool, true, false, List, [], ◌∷◌, take, drop, slice_get, Option, Some, None}
+use Rattle.std.proofs.Common.{subst, refl, ℕ, zero, suc, ◌+◌, ◌-◌, ℤ, pos, ◌+ℤ◌, int_le, Bool, true, false, List, [], ◌∷◌, take, drop, slice_get, Option, Some, None}
 use Rattle.gem_object.specs.declared.value.Value.{Value}
 use Rattle.gem_object.specs.declared.value.Value.TheVariants as value
 use Rattle.gem_world.specs.World.{Setting}
@@ -8,9 +8,10 @@ use Rattle.object_programs.specs.Atom.{Tick}
 use Rattle.object_programs.specs.Run.{Run, atom, Ending, gives, returns, fails, State, perform}
 use Rattle.object_programs.specs.declared.fault.Fault.TheVariants as fault
 use Rattle.tree_meaning.specs.Place.{Frame, MadeBlock}
-use Rattle.tree_meaning.specs.Operands.{truth_of, int_pair}
+use Rattle.tree_meaning.specs.Operands.{ValueRun, truth_of, int_pair}
 use Rattle.tree_meaning.specs.Scopes.{variable_value, set_variable}
-use Rattle.tree_meaning.specs.Meaning.{Outside, return_value}
+use Rattle.tree_meaning.specs.Parts.{return_value}
+use Rattle.tree_meaning.specs.Meaning.{Outside}
 use Rattle.tree_meaning.specs.declared.place.Mark.{Mark}
 use Rattle.tree_meaning.specs.declared.operand.Truth.{Truth}
 use Rattle.tree_meaning.specs.declared.operand.Truth.TheVariants as truth
@@ -19,7 +20,7 @@ use Rattle.tree_meaning.specs.declared.operand.Pair.TheVariants.{Ints, Others}
 use Rattle.st_compiler.specs.Instruction.{Instruction, PushSelf, PushNil, PushTrue, PushFalse, PushLit, MakeLit, PushLocal, StoreLocal, PushName, StoreName, Pop, Dup, Send, SuperSend, PushBlock, ReturnMethod, ReturnHome, ReturnBlock, Jump, JumpBack, JumpTrue, JumpFalse, TakeUnit, Enter, Leave, LoopStart, LoopNext, LoopStep}
 use Rattle.st_compiler.specs.Code.{Piece}
 use Rattle.st_compiler.specs.Machine.{CodeEnd, over, ran_out, stuck, Next, after, does, on_top, on_two, on_only, by_condition, on_ints, either, on_piece, on_scope, send, act, straight, execute}
-use Rattle.st_compiler.specs.Runs.{Agree}
+use Rattle.st_compiler.specs.Runs.{Runs, EveryRun, Agree}
 
 out_agrees : (end : CodeEnd) → Agree end ran_out
 out_agrees (over outcome) = tt
@@ -203,3 +204,11 @@ module _ (outside : Outside) (setting : Setting) (table : List Piece) where
         straight_agrees (execute outside setting table code rest)
         (execute outside setting table code others) (one_end rest others) count other place stack frame
         state
+
+  -- code that does what a program does comes to nothing else
+  pub every_run : (code : List Instruction) (program : Frame → ValueRun)
+      → Runs outside setting table code program → EveryRun outside setting table code program
+  every_run code program runs allowed frame state =
+      let enough = runs frame state in
+      subst (λ end. Agree (execute outside setting table code allowed 0 [] frame state) end) enough.2
+      (one_end code allowed enough.0 0 [] frame state)

@@ -10,7 +10,8 @@ use Rattle.object_programs.specs.declared.fault.Fault.TheVariants as fault
 use Rattle.tree_meaning.specs.Place.{Frame, MadeBlock}
 use Rattle.tree_meaning.specs.Operands.{ValueRun, truth_of, by_truth}
 use Rattle.tree_meaning.specs.Scopes.{mark, with_scope, open_scope, give_back, is_living, close_scope, in_scope}
-use Rattle.tree_meaning.specs.Meaning.{Outside, return_value}
+use Rattle.tree_meaning.specs.Parts.{return_value}
+use Rattle.tree_meaning.specs.Meaning.{Outside}
 use Rattle.tree_meaning.specs.declared.operand.Truth.{Truth}
 use Rattle.tree_meaning.specs.declared.operand.Truth.TheVariants as truth
 use Rattle.st_compiler.specs.Instruction.{Instruction, Pop, Dup, ReturnMethod, ReturnHome, Jump, TakeUnit, Enter, Leave}

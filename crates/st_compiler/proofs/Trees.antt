@@ -9,7 +9,8 @@ use Rattle.tree_meaning.specs.Place.{Place, Frame}
 use Rattle.tree_meaning.specs.Names.{where_is}
 use Rattle.tree_meaning.specs.Forms.{form_under, first_loop}
 use Rattle.tree_meaning.specs.Scopes.{variable_value, set_variable}
-use Rattle.tree_meaning.specs.Meaning.{Outside, plain_constant, constant_run, read_where, write_where, assign_all, return_value, is_super_head, statements_in_turn, head_and_messages, head_value, head_in_place, closure_in_place, expression_value, expression_in_place, messages_of, message_of, arguments_of, statement_value, statement_runs}
+use Rattle.tree_meaning.specs.Parts.{return_value, statements_in_turn, head_and_messages}
+use Rattle.tree_meaning.specs.Meaning.{Outside, plain_constant, constant_run, read_where, write_where, assign_all, is_super_head, head_value, head_in_place, closure_in_place, expression_value, expression_in_place, messages_of, message_of, arguments_of, statement_value, statement_runs}
 use Rattle.tree_meaning.specs.declared.name.Where.{Where}
 use Rattle.tree_meaning.specs.declared.name.Where.TheVariants.{Receiver, Fixed, Variable, OutOfScope}
 use Rattle.tree_meaning.specs.declared.form.Form.TheVariants.{Plain}

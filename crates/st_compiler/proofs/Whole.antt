@@ -6,7 +6,8 @@ use Rattle.gem_world.specs.World.{Setting}
 use Rattle.object_programs.specs.Run.{return_to, Ending, gives, returns, fails, State, Outcome, onward, perform}
 use Rattle.tree_meaning.specs.Place.{Place, Frame, MadeBlock}
 use Rattle.tree_meaning.specs.Operands.{ValueRun}
-use Rattle.tree_meaning.specs.Meaning.{Outside, statements_in_turn, statement_runs}
+use Rattle.tree_meaning.specs.Parts.{statements_in_turn}
+use Rattle.tree_meaning.specs.Meaning.{Outside, statement_runs}
 use Rattle.tree_meaning.specs.Bodies.{method_place, block_place, method_body, chunk_body, block_body}
 use Rattle.tree_meaning.specs.Reading.{answers}
 use Rattle.tree_meaning.proofs.Deeds.{onward_alone}

@@ -1,9 +1,10 @@
 -- Instructions: the op codes with their operands. Jumps say how far they lead: the first of these
 -- numbers past the next place, or back from where the jump stands.
-use Rattle.std.specs.Prelude.{ℕ}
+use Rattle.std.specs.Prelude.{◌≡◌, ◌⊎◌, ℕ, ◌+◌, Bool, true, false}
 use Rattle.texts.specs.Bytes.{Bytes as Text}
 use Rattle.st_tree.specs.Trees.{Constant}
 use Rattle.gem_object.specs.declared.value.Value.{Value}
+use Rattle.op_table.specs.Ops.{row_for}
 use Rattle.op_table.specs.declared.ops.Op.{Op}
 use Rattle.op_table.specs.declared.ops.Op.TheVariants as op
 
@@ -103,3 +104,24 @@ operands_of (Enter count) = 1
 operands_of (LoopNext ahead) = 1
 operands_of (LoopStep back) = 1
 operands_of other = 0
+
+-- How many values an instruction takes from the stack and puts there, by its op code's row: a send
+-- takes its arguments too.
+abbrev pub takes : Instruction → ℕ
+takes (Send selector count) = (row_for op.Send).pops + count
+takes (SuperSend selector count) = (row_for op.SuperSend).pops + count
+takes one = (row_for (op_of one)).pops
+
+abbrev pub puts : Instruction → ℕ
+puts one = (row_for (op_of one)).pushes
+
+-- whether it may end a loop, and drop counter and limit
+abbrev pub may_drop_both : Instruction → Bool
+may_drop_both (LoopNext ahead) = true
+may_drop_both (LoopStep back) = true
+may_drop_both one = false
+
+-- The stack has this height after the instruction, if it had that height before.
+abbrev pub FitsRow : Instruction → (before after : ℕ) → Type 0
+FitsRow one before after = (after + takes one ≡ before + puts one)
+    ⊎ ((may_drop_both one ≡ true) × (after + 2 ≡ before))

@@ -11,7 +11,8 @@ use Rattle.object_programs.specs.declared.fault.Fault.TheVariants as fault
 use Rattle.tree_meaning.specs.Place.{Frame, MadeBlock}
 use Rattle.tree_meaning.specs.Operands.{truth_of, int_pair}
 use Rattle.tree_meaning.specs.Scopes.{mark, with_scope, open_scope, give_back, variable_value, set_variable}
-use Rattle.tree_meaning.specs.Meaning.{Outside, return_value}
+use Rattle.tree_meaning.specs.Parts.{return_value}
+use Rattle.tree_meaning.specs.Meaning.{Outside}
 use Rattle.tree_meaning.specs.declared.place.Mark.{Mark}
 use Rattle.tree_meaning.specs.declared.operand.Truth.{Truth}
 use Rattle.tree_meaning.specs.declared.operand.Truth.TheVariants as truth

@@ -7,7 +7,8 @@ use Rattle.gem_object.specs.declared.value.Value.{Value}
 use Rattle.tree_meaning.specs.Place.{Place}
 use Rattle.tree_meaning.specs.Names.{where_is}
 use Rattle.tree_meaning.specs.Forms.{form_under, first_loop}
-use Rattle.tree_meaning.specs.Meaning.{with_variables, plain_constant, is_super_head}
+use Rattle.tree_meaning.specs.Parts.{with_variables}
+use Rattle.tree_meaning.specs.Meaning.{plain_constant, is_super_head}
 use Rattle.tree_meaning.specs.Bodies.{method_place, block_place}
 use Rattle.tree_meaning.specs.declared.name.Singleton.{Singleton}
 use Rattle.tree_meaning.specs.declared.name.Singleton.TheVariants as singleton

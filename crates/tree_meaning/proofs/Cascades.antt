@@ -7,7 +7,8 @@ use Rattle.object_programs.specs.Run.{State, Outcome, and_then, onward, perform}
 use Rattle.tree_meaning.specs.Place.{Place, Frame, MadeBlock}
 use Rattle.tree_meaning.specs.Forms.{loop_of, first_loop}
 use Rattle.tree_meaning.specs.Loops.{while_loop}
-use Rattle.tree_meaning.specs.Meaning.{Outside, Message, cascade_in_turn, messages_in_turn, head_and_messages, first_body, head_value, head_in_place, expression_value, messages_of, message_of, is_super_head}
+use Rattle.tree_meaning.specs.Parts.{Message, cascade_in_turn, messages_in_turn, head_and_messages, first_body}
+use Rattle.tree_meaning.specs.Meaning.{Outside, head_value, head_in_place, expression_value, messages_of, message_of, is_super_head}
 use Rattle.tree_meaning.specs.Reading.{deed, answers, then_do, sent_in_turn}
 use Rattle.tree_meaning.proofs.Deeds.{onward_same, onward_twice, onward_alone}
 

@@ -10,7 +10,8 @@ use Rattle.object_programs.proofs.Kept.{kept}
 use Rattle.object_programs.proofs.Falling.{budgets_fall}
 use Rattle.tree_meaning.specs.Place.{Place, Frame, MadeBlock}
 use Rattle.tree_meaning.specs.Operands.{ValueRun}
-use Rattle.tree_meaning.specs.Meaning.{Outside, argument_values, expression_value, arguments_of}
+use Rattle.tree_meaning.specs.Parts.{argument_values}
+use Rattle.tree_meaning.specs.Meaning.{Outside, expression_value, arguments_of}
 use Rattle.tree_meaning.specs.Reading.{Deed, answers, spending, unit_then, in_order}
 
 -- the units never grow

@@ -3,3 +3,4 @@ pub mod Cascades
 pub mod Turns
 pub mod SpecialForms
 pub mod Activations
+pub mod Found

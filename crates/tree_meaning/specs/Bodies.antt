@@ -4,7 +4,8 @@ use Rattle.st_tree.specs.Trees.{Closure, closure, Statements, Program}
 use Rattle.object_programs.specs.Run.{return_to, and_then}
 use Rattle.tree_meaning.specs.Place.{Place, Frame}
 use Rattle.tree_meaning.specs.Operands.{ValueRun}
-use Rattle.tree_meaning.specs.Meaning.{Outside, statements_in_turn, statement_runs}
+use Rattle.tree_meaning.specs.Parts.{statements_in_turn}
+use Rattle.tree_meaning.specs.Meaning.{Outside, statement_runs}
 
 -- where a method's or a chunk's statements stand
 abbrev pub method_place : Program → Place

@@ -4,8 +4,10 @@ pub mod Forms
 pub mod Operands
 pub mod Scopes
 pub mod Loops
+pub mod Parts
 pub mod Meaning
 pub mod Bodies
 pub mod Calls
 pub mod Replies
 pub mod Reading
+pub mod Samples

@@ -1,6 +1,7 @@
 -- How a tree is read: what its parts do, by cases on the tree. A deed is what something does in
 -- each state. The laws in `src/laws.rt` say that the programs of the meaning do just this.
-use Rattle.std.specs.Prelude.{ℕ, zero, suc, nat_eq, Bool, true, false, List, [], ◌∷◌}
+use Rattle.std.specs.Prelude.{◌≡◌, ◌≢◌, ◌<◌, slice_get, Some, ℕ, zero, suc, nat_eq, Bool, true, false, List, [], ◌∷◌}
+use Rattle.texts.specs.Bytes.{Bytes as Text}
 use Rattle.st_tree.specs.Trees.{block, Closure, Expression, expression, Expressions, no_expressions, an_expression, Send, Sends, no_sends, a_send}
 use Rattle.gem_object.specs.declared.value.Value.{Value}
 use Rattle.gem_world.specs.World.{Setting}
@@ -22,6 +23,20 @@ one_argument first = an_expression first no_expressions
 
 abbrev pub two_arguments : (first second : Expression) → Expressions
 two_arguments first second = an_expression first (an_expression second no_expressions)
+
+-- the text names the variable at this index of the scope at this depth, and no scope further in has
+-- a variable of this name
+pub record IsVariable (text : Text) (names : List (List Text)) (depth index : ℕ) : Type 0 where
+  pub scope : List Text
+  pub there : slice_get names depth ≡ Some scope
+  pub named : slice_get scope index ≡ Some text
+  pub hides : (further : ℕ) (other : List Text) → further < depth
+      → slice_get names further ≡ Some other → (at : ℕ) → slice_get other at ≢ Some text
+
+-- the text names no variable
+pub record IsNoVariable (text : Text) (names : List (List Text)) : Type 0 where
+  pub none : (depth : ℕ) (other : List Text) → slice_get names depth ≡ Some other
+      → (at : ℕ) → slice_get other at ≢ Some text
 
 -- what something does in each state
 abbrev pub Deed : Type 0

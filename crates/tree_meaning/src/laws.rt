@@ -6,23 +6,40 @@ ghost use Rattle.st_tree.specs.Trees.{Program, Head, block, paren, Closure, clos
 ghost use Rattle.gem_object.specs.declared.value.Value.{Value};
 ghost use Rattle.gem_object.specs.declared.value.Value.TheVariants as value;
 ghost use Rattle.gem_world.specs.World.{Setting};
-ghost use Rattle.object_programs.specs.Run.{State};
+ghost use Rattle.object_programs.specs.Run.{gives, fails, State};
 ghost use Rattle.profile.specs.declared.integers.TheConstants.{LARGEST_INTEGER};
 ghost use Rattle.object_programs.specs.declared.fault.Fault.TheVariants as fault;
 ghost use Rattle.tree_meaning.specs.Place.{Place, Frame, MadeBlock};
-ghost use Rattle.tree_meaning.specs.Names.{where_is, singleton_value};
+ghost use Rattle.tree_meaning.specs.Names.{variable_in, where_is, singleton_value};
 ghost use Rattle.tree_meaning.specs.Forms.{takes, form_of, loop_of};
 ghost use Rattle.tree_meaning.specs.Operands.{truth_of, int_pair};
 ghost use Rattle.tree_meaning.specs.Scopes.{mark, with_scope, open_scope, begin_method, give_back, is_living, end_living};
 ghost use Rattle.tree_meaning.specs.Loops.{while_turns, count_turns, count_between};
-ghost use Rattle.tree_meaning.specs.Meaning.{with_variables, is_super_head, statements_in_turn, write_where, head_value, closure_in_place, expression_value, message_of, statement_value, statement_runs};
+ghost use Rattle.tree_meaning.specs.Parts.{with_variables, statements_in_turn};
+ghost use Rattle.tree_meaning.specs.Meaning.{is_super_head, write_where, head_value, closure_in_place, expression_value, message_of, statement_value, statement_runs};
 ghost use Rattle.tree_meaning.specs.Bodies.{params_count, temps_count, method_body, block_body};
 ghost use Rattle.tree_meaning.specs.Calls.{method_frame, activation, evaluation, call_block_at};
 ghost use Rattle.tree_meaning.specs.Replies.{Replies, outside_of};
-ghost use Rattle.tree_meaning.specs.Reading.{a_block, one_argument, two_arguments, deed, answers, returns_to, stops, then_do, either, unit_then, by_condition, caught, in_order, sent, sent_in_turn};
+ghost use Rattle.tree_meaning.specs.Reading.{IsVariable, IsNoVariable, a_block, one_argument, two_arguments, deed, answers, returns_to, stops, then_do, either, unit_then, by_condition, caught, in_order, sent, sent_in_turn};
+ghost use Rattle.tree_meaning.specs.Samples.{ComesTo, counting, repeating, looping, cascading, hiding, returning, doubting};
 ghost use Rattle.tree_meaning.specs.declared.form.Form.TheVariants.{Plain, OneArm, TwoArms, Counting, Repeating};
 ghost use Rattle.tree_meaning.specs.declared.name.Singleton.{Singleton};
+ghost use Rattle.tree_meaning.specs.declared.name.Where.TheVariants.{Receiver, Fixed, Variable, OutOfScope};
 ghost use Rattle.tree_meaning.specs.declared.name.Singleton.TheVariants as singleton;
+
+/// A name that isn't `self`, `super`, `nil`, `true` or `false` stands for the variable of this name
+/// in the innermost scope that has one: an inner name hides an outer one.
+pub fn names_are_found()
+    ensures variable { (text : Bytes) (names : List (List Bytes)) (depth index : ℕ)
+        → variable_in text names ≡ Variable depth index → IsVariable text names depth index }
+    ensures no_variable { (text : Bytes) (names : List (List Bytes))
+        → variable_in text names ≡ OutOfScope → IsNoVariable text names }
+    ensures pseudo { (names : List (List Bytes))
+        → (where_is (codes "self") names ≡ Receiver) × (where_is (codes "super") names ≡ Receiver)
+        × (where_is (codes "nil") names ≡ Fixed singleton.Nil)
+        × (where_is (codes "true") names ≡ Fixed singleton.True)
+        × (where_is (codes "false") names ≡ Fixed singleton.False) }
+{}
 
 /// A message that is sent: its arguments from left to right, and then the send.
 pub fn messages_are_sent()
@@ -330,4 +347,21 @@ pub fn blocks_run()
         evaluation (block_body (outside_of replies) block.tree block.place)
         (temps_count block.tree) block.frame values) number arguments) state
         ≡ stops fault.ArgumentKind state }
+{}
+
+/// Worked chunks: `1 to: 3 do: [:i | a := a + i]` from 0 on makes 6, and takes a unit for itself,
+/// one for each turn and one for each `+`; and so on.
+pub fn worked_chunks()
+    ensures counting { (setting : Setting)
+        → ComesTo counting setting (gives (value.Int (pos 6))) 93 }
+    ensures repeating { (setting : Setting)
+        → ComesTo repeating setting (gives (value.Int (pos 6))) 93 }
+    ensures looping { (setting : Setting) → ComesTo looping setting (gives value.Nil) 98 }
+    ensures cascading { (setting : Setting)
+        → ComesTo cascading setting (gives (value.Int (pos 11))) 98 }
+    ensures hiding { (setting : Setting)
+        → ComesTo hiding setting (gives (value.Int (pos 7))) 93 }
+    ensures returning { (setting : Setting)
+        → ComesTo returning setting (gives (value.Int (pos 1))) 98 }
+    ensures doubting { (setting : Setting) → ComesTo doubting setting (fails fault.NotBoolean) 99 }
 {}

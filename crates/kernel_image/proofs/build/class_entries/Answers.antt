@@ -1,5 +1,5 @@
 use Rattle.std.proofs.Common.{arith}
-use Rattle.kernel_image.proofs.Entries.{rows_more, next_entry}
+use Rattle.kernel_image.proofs.Entries.{next_entry}
 use Rattle.kernel_image.proofs.build.class_entries.Goals as goal
 
 pub loop-row-preserved : goal.loop-row-preserved

@@ -1,4 +1,4 @@
-use Rattle.std.proofs.Common.{◌≡◌, ◌+◌, ◌++◌, map, take, length}
+use Rattle.std.proofs.Common.{◌≡◌, ◌+◌, take}
 use Rattle.kernel_image.specs.Objects.{entries_from}
 use Rattle.kernel_image.specs.Rows.{names_of_rows}
 use Rattle.kernel_image.proofs.build.class_entries.Given as goal

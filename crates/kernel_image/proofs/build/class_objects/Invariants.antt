@@ -1,4 +1,4 @@
-use Rattle.std.proofs.Common.{◌≡◌, ◌+◌, ◌++◌, map, take, length}
+use Rattle.std.proofs.Common.{◌≡◌, map, take}
 use Rattle.kernel_image.specs.Rows.{class_of_row}
 use Rattle.kernel_image.proofs.build.class_objects.Given as goal
 

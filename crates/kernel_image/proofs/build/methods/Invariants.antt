@@ -1,4 +1,4 @@
-use Rattle.std.proofs.Common.{◌≡◌, ◌+◌, ◌++◌, map, take, length}
+use Rattle.std.proofs.Common.{◌≡◌, take}
 use Rattle.kernel_image.specs.Rows.{methods_of_rows}
 use Rattle.kernel_image.proofs.build.methods.Given as goal
 

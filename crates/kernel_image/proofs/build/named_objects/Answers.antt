@@ -1,4 +1,4 @@
-use Rattle.std.proofs.Common.{◌≡◌, ℕ, length, ap, ◌∙◌, arith}
+use Rattle.std.proofs.Common.{◌≡◌, length, ap, ◌∙◌, arith}
 use Rattle.kernel_image.proofs.Named.{kernel_length}
 use Rattle.kernel_image.proofs.build.named_objects.Goals as goal
 

@@ -1,4 +1,4 @@
-use Rattle.std.proofs.Common.{◌≡◌, ℕ, length, arith}
+use Rattle.std.proofs.Common.{◌≡◌, length, arith}
 use Rattle.kernel_image.proofs.Named.{entries_spelled, entries_count, image_made, objects_made}
 use Rattle.kernel_image.proofs.image.kernel.Goals as goal
 

@@ -10,3 +10,7 @@ returns-clause-classes c = refl
 
 pub returns-clause-names : goal.returns-clause-names
 returns-clause-names c = refl
+
+pub returns-clause-rows : goal.returns-clause-rows
+unfolding kernel_classes
+returns-clause-rows c = refl

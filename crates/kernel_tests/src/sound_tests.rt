@@ -1,0 +1,189 @@
+// The image of the kernel, and images that break one rule.
+ghost use Rattle.std.specs.Prelude.{◌≡◌, ◌<◌, ◌^◌};
+ghost use Rattle.gem_object.specs.Spelling.{IsSpelled};
+
+use crate::objects::{class, class_with, name, names, plain, primitive, segment, sourced, user};
+use gem_image::Image;
+use gem_object::{Kind, Object};
+use kernel_image::{SoundFault, kernel, sound};
+use radix_pages::Steps;
+use std::alloc::{AllocError, Global};
+use std::marker::Brand;
+use std::process::Abort;
+use std::sync::ledger::{Blank, Ledger};
+use std::test::Fail;
+
+/// The counter of an object that the kernel doesn't have.
+const NEW: u32 = 40;
+
+/// The number of the name and of the rule, where one is broken.
+fn broken(alloc: Global, image: &Image) -> Result<Option<(u64, u8)>, AllocError> {
+    match sound(alloc, image) {
+        Ok(()) => Ok(None),
+        Err(SoundFault::Broken { oid, rule }) => Ok(Some((oid.number(), rule.number()))),
+        Err(SoundFault::NoMemory) => Err(AllocError),
+    }
+}
+
+/// Whether the kernel with this object breaks the rule first, at that name.
+fn breaks<L: Ledger>(
+    alloc: Global,
+    counter: u32,
+    object: Object,
+    want: Option<(u64, u8)>,
+    steps: &mut Steps<L>,
+) -> Result<bool, AllocError>
+    requires counter { counter < 2 ^ 24 }
+    requires spelled { IsSpelled object }
+{
+    let image = kernel(alloc, steps)?.with(alloc, name(counter), object, steps)?;
+    Ok(broken(alloc, &image)? == want)
+}
+
+fn check_kernel<R: Abort, L: Ledger>(
+    rt: &R,
+    alloc: Global,
+    steps: &mut Steps<L>,
+) -> Result<(), Fail> {
+    let image = kernel(alloc, steps)?;
+    assert_eq!(rt; image.count(), 35);
+    assert_eq!(rt; broken(alloc, &image)?, None);
+    // Where nothing is there, Object is the first that misses.
+    assert_eq!(rt; broken(alloc, &Image::empty())?, Some((1, 4)));
+    Ok(())
+}
+
+// I1: the name 0, a class that isn't there, and a segment that isn't there.
+fn check_references<R: Abort, L: Ledger>(
+    rt: &R,
+    alloc: Global,
+    steps: &mut Steps<L>,
+) -> Result<(), Fail> {
+    assert!(rt; breaks(alloc, 0, plain(alloc, 1, 29), Some((0, 1)), steps)?);
+    assert!(rt; breaks(alloc, NEW, plain(alloc, 99, 29), Some((40, 1)), steps)?);
+    assert!(rt; breaks(alloc, NEW, plain(alloc, 1, 99), Some((40, 1)), steps)?);
+    assert!(rt; breaks(alloc, NEW, plain(alloc, 1, 29), None, steps)?);
+    Ok(())
+}
+
+// I2: another selector, no text of a method, and a primitive in another class.
+fn check_methods<R: Abort, L: Ledger>(
+    rt: &R,
+    alloc: Global,
+    steps: &mut Steps<L>,
+) -> Result<(), Fail> {
+    let good = class_with(alloc, sourced(alloc, b"a ^1")?)?;
+    assert!(rt; breaks(alloc, NEW, good, None, steps)?);
+    let other = class_with(alloc, sourced(alloc, b"b ^1")?)?;
+    assert!(rt; breaks(alloc, NEW, other, Some((40, 2)), steps)?);
+    let ends = class_with(alloc, sourced(alloc, b"a ^")?)?;
+    assert!(rt; breaks(alloc, NEW, ends, Some((40, 2)), steps)?);
+    let primitive = class_with(alloc, primitive(alloc)?)?;
+    assert!(rt; breaks(alloc, NEW, primitive, Some((40, 2)), steps)?);
+    Ok(())
+}
+
+// I3: a class that is its own superclass, one under no class, and one of another kind.
+fn check_superclasses<R: Abort, L: Ledger>(
+    rt: &R,
+    alloc: Global,
+    steps: &mut Steps<L>,
+) -> Result<(), Fail> {
+    let circle = class(alloc, NEW, Kind::Plain, names(alloc, 0)?)?;
+    assert!(rt; breaks(alloc, NEW, circle, Some((40, 3)), steps)?);
+    let under_nothing = class(alloc, 35, Kind::Plain, names(alloc, 0)?)?;
+    assert!(rt; breaks(alloc, NEW, under_nothing, Some((40, 3)), steps)?);
+    let other_kind = class(alloc, 1, Kind::Bytes, names(alloc, 0)?)?;
+    assert!(rt; breaks(alloc, NEW, other_kind, Some((40, 3)), steps)?);
+    Ok(())
+}
+
+// I3: as many names as there may be, one more, and names that there may not be.
+fn check_names<R: Abort, L: Ledger>(
+    rt: &R,
+    alloc: Global,
+    steps: &mut Steps<L>,
+) -> Result<(), Fail> {
+    let most = class(alloc, 1, Kind::Plain, names(alloc, 200)?)?;
+    assert!(rt; breaks(alloc, NEW, most, None, steps)?);
+    let more = class(alloc, 1, Kind::Plain, names(alloc, 201)?)?;
+    assert!(rt; breaks(alloc, NEW, more, Some((40, 3)), steps)?);
+    let of_bytes = class(alloc, 15, Kind::Bytes, names(alloc, 1)?)?;
+    assert!(rt; breaks(alloc, NEW, of_bytes, Some((40, 3)), steps)?);
+    Ok(())
+}
+
+// I3: a class of the kernel with names, and one under another class. I4: Transcript with rights.
+fn check_kernel_classes<R: Abort, L: Ledger>(
+    rt: &R,
+    alloc: Global,
+    steps: &mut Steps<L>,
+) -> Result<(), Fail> {
+    let named = class(alloc, 1, Kind::Plain, names(alloc, 1)?)?;
+    assert!(rt; breaks(alloc, 7, named, Some((7, 3)), steps)?);
+    let elsewhere = class(alloc, 7, Kind::Dict, names(alloc, 0)?)?;
+    assert!(rt; breaks(alloc, 18, elsewhere, Some((18, 3)), steps)?);
+    assert!(rt; breaks(alloc, 35, segment(alloc, 23, 31), Some((35, 4)), steps)?);
+    Ok(())
+}
+
+// I5: a class without instances, no segment, and an owner who is no user.
+fn check_fit<R: Abort, L: Ledger>(
+    rt: &R,
+    alloc: Global,
+    steps: &mut Steps<L>,
+) -> Result<(), Fail> {
+    assert!(rt; breaks(alloc, NEW, plain(alloc, 4, 29), Some((40, 5)), steps)?);
+    assert!(rt; breaks(alloc, NEW, plain(alloc, 1, 27), Some((40, 5)), steps)?);
+    assert!(rt; breaks(alloc, NEW, segment(alloc, 23, 35), Some((40, 5)), steps)?);
+    assert!(rt; breaks(alloc, NEW, segment(alloc, 23, 31), None, steps)?);
+    Ok(())
+}
+
+// I5: a default segment that is none, and globals that are none.
+fn check_users<R: Abort, L: Ledger>(
+    rt: &R,
+    alloc: Global,
+    steps: &mut Steps<L>,
+) -> Result<(), Fail> {
+    assert!(rt; breaks(alloc, NEW, user(alloc, 29, 33)?, None, steps)?);
+    assert!(rt; breaks(alloc, NEW, user(alloc, 27, 33)?, Some((40, 5)), steps)?);
+    assert!(rt; breaks(alloc, NEW, user(alloc, 29, 35)?, Some((40, 5)), steps)?);
+    Ok(())
+}
+
+// I5: an instance with fewer slots than its class has names, where the class has a higher number.
+fn check_slots<R: Abort, L: Ledger>(
+    rt: &R,
+    alloc: Global,
+    steps: &mut Steps<L>,
+) -> Result<(), Fail> {
+    let image = kernel(alloc, steps)?;
+    let named = class(alloc, 1, Kind::Plain, names(alloc, 1)?)?;
+    let image = image.with(alloc, name(41), named, steps)?;
+    let image = image.with(alloc, name(NEW), plain(alloc, 41, 29), steps)?;
+    assert_eq!(rt; broken(alloc, &image)?, Some((40, 5)));
+    Ok(())
+}
+
+fn check_all<R: Abort, L: Ledger>(rt: &R, alloc: Global, blank: Blank) -> Result<(), Fail>
+    requires name { blank.name ≡ L.name }
+    requires parts { blank.parts ≡ L.parts }
+    requires some_parts { 0 < L.parts }
+{
+    let mut steps = Steps::<L>::start(blank);
+    check_kernel(rt, alloc, &mut steps)?;
+    check_references(rt, alloc, &mut steps)?;
+    check_methods(rt, alloc, &mut steps)?;
+    check_superclasses(rt, alloc, &mut steps)?;
+    check_names(rt, alloc, &mut steps)?;
+    check_kernel_classes(rt, alloc, &mut steps)?;
+    check_fit(rt, alloc, &mut steps)?;
+    check_users(rt, alloc, &mut steps)?;
+    check_slots(rt, alloc, &mut steps)
+}
+
+#[test]
+fn soundness(rt: HostRuntime) -> Result<(), Fail> {
+    check_all::<HostRuntime, Brand>(&rt, rt.alloc(), Blank::new(1))
+}
