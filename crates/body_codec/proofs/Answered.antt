@@ -61,7 +61,7 @@ module _ {X : Type 0} (P : X → Type 0) (spelled : X → List ℕ) (read : Read
       sym (take-append-drop size bytes) ∙ ap (λ l. l ++ drop size bytes) is.front in
       ap read whole ∙ reads.again x (drop size bytes) is.is_one
 
-  size_within : (x : X) (size : ℕ) → IsRead P spelled bytes x size → size ≤ length bytes
+  pub size_within : (x : X) (size : ℕ) → IsRead P spelled bytes x size → size ≤ length bytes
   size_within x size is =
       let front : length (take size bytes) ≡ size = ap length is.front ∙ sym is.size_is in
       omega (arith, front, ap length (take-append-drop size bytes), length-append (take size bytes) (drop size bytes))

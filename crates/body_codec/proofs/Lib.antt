@@ -14,3 +14,4 @@ mod ListReaders
 pub mod Readers
 pub mod Given
 pub mod Answered
+pub mod Whole

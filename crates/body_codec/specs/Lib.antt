@@ -4,3 +4,4 @@ pub mod Reading
 pub mod ReadingBodies
 pub mod Answers
 pub mod FaultText
+pub mod Whole

@@ -1,0 +1,6 @@
+mod Walks
+mod Again
+mod Through
+mod Opening
+mod Appending
+mod Restarting

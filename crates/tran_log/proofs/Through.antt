@@ -1,0 +1,81 @@
+-- What a crash leaves of a log during a write that is brought to the disk.
+use Rattle.std.proofs.Common.{◌≡◌, ◌⊎◌, ℕ, ◌≤◌, List, length, Result, Ok, Err, OnOk, refl, sym, ap, subst, ◌∙◌, inl, inr, ⊎_elim, arith}
+use Rattle.gem_disk.specs.declared.disk.Which.TheVariants.{Log}
+use Rattle.gem_disk.specs.Disk.{Files, Wrote, Synced, Past, reads, stepped, placed, Torn, FileImages, Syncs}
+use Rattle.gem_disk.specs.Runs.{LeavesOnly}
+use Rattle.gem_disk.proofs.Moments.{started, goes_on}
+use Rattle.gem_disk.proofs.Leaves.{torn_by_placing}
+use Rattle.tran_log.specs.Resting.{IsDurable, IsTornAt, IsWritten}
+
+-- a run that leaves less
+pub leaves_less : (old new : Past) (P Q : Files → Type 0) → ((images : Files) → P images → Q images)
+    → LeavesOnly old new P → LeavesOnly old new Q
+leaves_less old new P Q less run = record {
+  later = run.later;
+  each = λ images left. less images (run.each images left);
+  before = λ since images le left. ⊎_elim (λ earlier. inl earlier) (λ has. inr (less images has)) (run.before since images le left);
+}
+
+torn_none : (at n : ℕ) (bytes : List ℕ) → Torn at n bytes bytes
+torn_none at n bytes = record { before = refl; after = refl; no_shorter = omega arith; no_longer = omega arith }
+
+module _ (old : Past) (at n : ℕ) (durable : IsDurable old) where
+  abbrev IsTorn : Files → Type 0
+  IsTorn images = IsTornAt old at n images
+
+  torn_from : (image d : List ℕ) → FileImages old.first old.steps Log d → Torn at n d image → Torn at n (reads old Log) image
+  torn_from image d before torn = subst (λ (l : List ℕ). Torn at n l image) (durable d before) torn
+
+  pub nothing_written : LeavesOnly old old IsTorn
+  nothing_written = started old IsTorn (λ images now. record {
+    log = subst (λ (l : List ℕ). Torn at n (reads old Log) l) (sym (durable images.log now.log)) (torn_none at n (reads old Log));
+    extent = now.extent;
+  })
+
+  pub some_written : (now : List ℕ) → LeavesOnly old (stepped old Log (Wrote at n) now) IsTorn
+  some_written now = goes_on old old Log (Wrote at n) now IsTorn nothing_written (λ images left. record {
+    log = torn_from images.log left.log.0 left.log.1 left.log.2;
+    extent = left.extent;
+  })
+
+module _ (old : Past) (at : ℕ) (bytes : List ℕ) (inside : at ≤ length (reads old Log)) where
+  abbrev mid : Past
+  mid = stepped old Log (Wrote at (length bytes)) (placed at bytes (reads old Log))
+
+  abbrev pub after_sync : Past
+  after_sync = stepped mid Log Synced (reads mid Log)
+
+  pub all_written : IsDurable old → LeavesOnly old after_sync (IsTornAt old at (length bytes))
+  all_written durable = goes_on old mid Log Synced (reads mid Log) (IsTornAt old at (length bytes))
+      (some_written old at (length bytes) durable (placed at bytes (reads old Log))) (λ images left. record {
+        log = subst (λ (l : List ℕ). Torn at (length bytes) (reads old Log) l) (sym left.log) (torn_by_placing at bytes (reads old Log) inside);
+        extent = left.extent;
+      })
+
+  pub is_written : IsWritten at bytes old after_sync
+  is_written = record { log = refl; durable = λ image is. is; extent = λ image is. is }
+
+-- what a call of each kind leaves, failed or not
+pub write_failed : (old new : Past) (at n : ℕ) → IsDurable old
+    → (new ≡ old) ⊎ ((now : List ℕ) × Torn at n (reads old Log) now × (new ≡ stepped old Log (Wrote at n) now))
+    → LeavesOnly old new (IsTornAt old at n)
+write_failed old new at n durable (inl same) =
+    subst (λ (p : Past). LeavesOnly old p (IsTornAt old at n)) (sym same) (nothing_written old at n durable)
+write_failed old new at n durable (inr (now, torn, is)) =
+    subst (λ (p : Past). LeavesOnly old p (IsTornAt old at n)) (sym is) (some_written old at n durable now)
+
+module _ (old middle new : Past) (at : ℕ) (bytes : List ℕ) (inside : at ≤ length (reads old Log))
+    (written : middle ≡ stepped old Log (Wrote at (length bytes)) (placed at bytes (reads old Log))) where
+  abbrev all_torn : Past → Type 0
+  all_torn p = LeavesOnly old p (IsTornAt old at (length bytes))
+
+  pub sync_leaves : {T E : Type 0} → IsDurable old → (result : Result T E) → Syncs Log middle result new → all_torn new
+  sync_leaves durable (Ok x) is = subst all_torn
+      (sym (is ∙ ap (λ (p : Past). stepped p Log Synced (reads p Log)) written)) (all_written old at bytes inside durable)
+  sync_leaves durable (Err x) is = subst all_torn (sym (is ∙ written))
+      (some_written old at (length bytes) durable (placed at bytes (reads old Log)))
+
+  pub sync_writes : {T E : Type 0} → (result : Result T E) → Syncs Log middle result new → OnOk result (IsWritten at bytes old new)
+  sync_writes (Ok x) is = subst (λ (p : Past). IsWritten at bytes old p)
+      (sym (is ∙ ap (λ (p : Past). stepped p Log Synced (reads p Log)) written)) (is_written old at bytes inside)
+  sync_writes (Err x) is = tt

@@ -1,0 +1,3 @@
+pub mod Log
+pub mod Resting
+pub mod Reads

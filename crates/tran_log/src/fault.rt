@@ -1,0 +1,88 @@
+//! Why a log can't be opened.
+ghost use Rattle.std.specs.Prelude.{◌≡◌};
+ghost use Rattle.tran_log.specs.declared.fault.ReadError.TheVariants.{NoMemory};
+
+use gem_io::Failed;
+use std::alloc::{AllocError, AllocFailed};
+
+/// What a log must keep. The order is that of the numbers, from 1 to 4.
+#[derive(Clone, Copy, Debug, PartialEq, Eq)]
+pub enum LogRule {
+    /// L1: a record behind an open gate ends within the log.
+    Length = 1,
+    /// L2: a record's number is one more than that of the record before it, and below 2^63.
+    Number = 2,
+    /// L3: the bytes of a record's effect are one whole effect.
+    Effect = 3,
+    /// L4: a byte stands where a gate is due.
+    Gate = 4,
+}
+
+/// Why a log can't be opened.
+#[derive(Clone, Copy, Debug, PartialEq, Eq)]
+pub enum LogFault {
+    /// Its bytes are no log.
+    NotLog {
+        /// The offset of the gate of the record that breaks the rule, or of the missing gate.
+        at: u64,
+        /// The rule.
+        rule: LogRule,
+    },
+    /// The disk failed.
+    Disk,
+    /// Memory ran out.
+    NoMemory,
+}
+
+impl From<Failed> for LogFault {
+    ghost use Rattle.tran_log.specs.declared.fault.LogFault.TheVariants as faults;
+
+    ghost from_gives = { λ _ e. e ≡ faults.Disk };
+
+    fn from(_e: Failed) -> LogFault {
+        LogFault::Disk
+    }
+}
+
+impl From<AllocError> for LogFault {
+    ghost use Rattle.tran_log.specs.declared.fault.LogFault.TheVariants as faults;
+
+    ghost from_gives = { λ _ e. e ≡ faults.NoMemory };
+
+    fn from(_e: AllocError) -> LogFault {
+        LogFault::NoMemory
+    }
+}
+
+impl<T: Drop> From<AllocFailed<T>> for LogFault {
+    ghost use Rattle.tran_log.specs.declared.fault.LogFault.TheVariants as faults;
+
+    ghost from_gives = { λ _ e. e ≡ faults.NoMemory };
+
+    fn from(_e: AllocFailed<T>) -> LogFault {
+        LogFault::NoMemory
+    }
+}
+
+// Why the bytes of a log couldn't be read.
+#[derive(Debug, Drop)]
+pub(crate) enum ReadError {
+    NoMemory,
+    Rule(LogRule),
+}
+
+impl From<AllocError> for ReadError {
+    ghost from_gives = { λ _ e. e ≡ NoMemory };
+
+    fn from(_e: AllocError) -> ReadError {
+        ReadError::NoMemory
+    }
+}
+
+impl<T: Drop> From<AllocFailed<T>> for ReadError {
+    ghost from_gives = { λ _ e. e ≡ NoMemory };
+
+    fn from(_e: AllocFailed<T>) -> ReadError {
+        ReadError::NoMemory
+    }
+}

@@ -1,0 +1,14 @@
+//! Room: store. Reads the records of a log and adds records to it, over a disk. Knows nothing of
+//! images and of pages.
+#![tactic(auto)]
+
+mod body;
+mod fault;
+pub mod laws;
+mod log;
+mod read;
+mod writing;
+
+pub use body::spell_body;
+pub use fault::{LogFault, LogRule};
+pub use log::{AppendFault, LOG_LIMIT, Log, open_log};

@@ -1,0 +1,176 @@
+//! A log on a disk, and how it is opened.
+ghost use Rattle.std.specs.Prelude.{◌≡◌, ◌↔◌, ◌+◌, ◌<◌, ◌≤◌, ℕ, List, [], ◌∷◌, ◌++◌, length, Ok, Err, IsTrue, IfOk, OnOk, IsErrOf};
+ghost use Rattle.gem_io.specs.Faults.{HasRisen, HasCause};
+ghost use Rattle.gem_record.specs.declared.effect.Effect.{Effect};
+ghost use Rattle.gem_disk.specs.declared.disk.Which.TheVariants as which;
+ghost use Rattle.gem_disk.specs.Disk.{Files, Past, reads, CrashImages};
+ghost use Rattle.gem_disk.specs.Runs.{LeavesOnly};
+ghost use Rattle.tran_log.specs.declared.fault.LogRule.{LogRule};
+ghost use Rattle.tran_log.specs.Log.{log_of};
+ghost use Rattle.tran_log.specs.Reads.{GivesLog, EndsAt};
+ghost use Rattle.tran_log.specs.Resting.{IsAtRest, Holds, AllHold, MayAppend, HoldsEither, HoldsOrNone};
+
+use crate::fault::LogFault;
+use crate::read::read_log;
+use crate::writing::write_through;
+use gem_disk::{Disk, Which};
+use gem_io::Failed;
+use gem_record::Effect;
+use std::alloc::Global;
+use std::marker::Model;
+
+/// A log on a disk. Its records stand on the disk alone; it knows where they end.
+///
+/// Contracts see it as the offset of the gate at which it ends.
+#[derive(Debug, Drop)]
+pub struct Log {
+    end: usize,
+}
+
+impl Model for Log {
+    ghost use Rattle.std.specs.Prelude.{ℕ, ◌+◌, ◌<◌, ◌^◌};
+
+    ghost Value = { ℕ };
+
+    ghost view = { λ log. log.end };
+
+    ghost invariant = { λ log. log.end + 1 < 2 ^ 64 };
+}
+
+// All bytes of the log.
+fn read_all<D: Disk>(alloc: Global, disk: &mut D) -> Result<Vec<u8>, LogFault>
+    ensures bytes { IsTrue D.tells → IfOk result (λ bytes.
+        bytes.items ≡ reads (D.past disk.old) which.Log) }
+    ensures past { IsTrue D.tells → D.past disk.new ≡ D.past disk.old }
+    ensures rule { (at : ℕ) (rule : LogRule) → result ≡ Err (LogFault.NotLog at rule) → ⊥ }
+    ensures failed { IsErrOf result LogFault.Disk → HasRisen (D.faults disk.old) (D.faults disk.new) }
+    ensures later { D.faults disk.old ≤ D.faults disk.new }
+{
+    let size = disk.length(Which::Log)?;
+    let mut bytes = vec![in alloc; 0; size as usize]?;
+    disk.read(Which::Log, 0, &mut bytes)?;
+    Ok(bytes)
+}
+
+// A gate that is closed, and one that is open.
+const CLOSED: &[u8] = &[0];
+
+const OPEN: &[u8] = &[1];
+
+/// Opens the log of a disk: gives the effects of its records, in their order. It begins with a
+/// sync, and brings a log of one byte at most to the state of one without records.
+///
+/// `NotLog`: the bytes are no log; the place and the rule are those of its first fault. `Disk`: the
+/// count of faults rose in this call. `NoMemory` may come in place of any answer.
+pub fn open_log<D: Disk>(alloc: Global, disk: &mut D) -> Result<(Log, Vec<Effect>), LogFault>
+    ensures records { IsTrue D.tells → GivesLog (λ x. x.1.items)
+        (log_of (reads (D.past disk.old) which.Log)) result }
+    ensures at_rest { IsTrue D.tells → IfOk result (λ x.
+        IsAtRest (D.past disk.new) x.1.items x.0) }
+    ensures any_moment { (effects : List Effect) → IsTrue D.tells
+        → log_of (reads (D.past disk.old) which.Log) ≡ Ok effects
+        → AllHold (D.past disk.old) effects
+        → LeavesOnly (D.past disk.old) (D.past disk.new) (Holds (D.past disk.old) effects) }
+    ensures failed { IsErrOf result LogFault.Disk
+        → HasRisen (D.faults disk.old) (D.faults disk.new) }
+    ensures later { D.faults disk.old ≤ D.faults disk.new }
+{
+    disk.sync(Which::Log)?;
+    let bytes = read_all(alloc, disk)?;
+    let (effects, end) = read_log(alloc, &bytes)?;
+    if bytes.len() > 1 {
+        return Ok((Log { end }, effects));
+    }
+    write_through(disk, 0, CLOSED)?;
+    Ok((Log { end }, effects))
+}
+
+/// The greatest length of a log: that of its records and of the gate behind them.
+pub const LOG_LIMIT: u64 = 67_108_864;
+
+/// Why a record wasn't added.
+#[derive(Clone, Copy, Debug, PartialEq, Eq)]
+pub enum AppendFault {
+    /// The log would be longer than `LOG_LIMIT`. Nothing was done.
+    Full {
+        /// The log's length: the offset of the gate at which it ends, and one more.
+        length: u64,
+        /// The record's size.
+        size: u64,
+    },
+    /// The disk failed. The record is in the log or isn't; the log has to be opened again.
+    Disk,
+}
+
+impl From<Failed> for AppendFault {
+    ghost use Rattle.tran_log.specs.declared.log.AppendFault.TheVariants as faults;
+
+    ghost from_gives = { λ _ e. e ≡ faults.Disk };
+
+    fn from(_e: Failed) -> AppendFault {
+        AppendFault::Disk
+    }
+}
+
+impl Log {
+    /// Adds the record of this body, which `spell_body` gives. It makes four calls of the disk, and
+    /// takes no memory.
+    ///
+    /// `Full`: exactly where the log's length and the body's exceed `LOG_LIMIT`; no call was made.
+    /// `Disk`: the count of faults rose in this call; the log is opened anew before it is used.
+    pub fn append<D: Disk>(&mut self, disk: &mut D, body: &[u8]) -> Result<(), AppendFault>
+        requires { IsTrue D.tells → (effects : List Effect) × (effect : Effect)
+            × MayAppend (D.past disk.old) self.old body.now effects effect }
+        ensures any_moment { (effects : List Effect) (effect : Effect) → IsTrue D.tells
+            → MayAppend (D.past disk.old) self.old body.now effects effect
+            → LeavesOnly (D.past disk.old) (D.past disk.new)
+            (HoldsEither (D.past disk.old) effects effect) }
+        ensures acknowledged { (effects : List Effect) (effect : Effect) → IsTrue D.tells
+            → MayAppend (D.past disk.old) self.old body.now effects effect
+            → OnOk result (IsAtRest (D.past disk.new) (effects ++ effect ∷ []) self.new) }
+        ensures full { (size : ℕ) (bytes : ℕ) → IsErrOf result (AppendFault.Full size bytes)
+            ↔ ((LOG_LIMIT < self.old + 1 + length body.now) × (size ≡ self.old + 1)
+            × (bytes ≡ length body.now)) }
+        ensures longer { OnOk result (self.new ≡ self.old + length body.now) }
+        ensures failed { IsErrOf result AppendFault.Disk
+            → HasRisen (D.faults disk.old) (D.faults disk.new) }
+        ensures later { D.faults disk.old ≤ D.faults disk.new }
+    {
+        let length = self.end as u64 + 1;
+        let size = body.len() as u64;
+        if length.saturating_add(size) > LOG_LIMIT {
+            return Err(AppendFault::Full { length, size });
+        }
+        write_through(disk, length, body)?;
+        write_through(disk, self.end as u64, OPEN)?;
+        self.end += body.len();
+        Ok(())
+    }
+
+    /// Empties the log: no record is left in it. Of a log without records it makes no call of the
+    /// disk, since bytes that are no record may stand behind its gate. It takes no memory.
+    ///
+    /// `Failed` tells only that the count of faults rose in this call; the log is opened anew before
+    /// it is used.
+    pub fn restart_empty<D: Disk>(&mut self, disk: &mut D) -> Result<(), Failed>
+        requires { IsTrue D.tells → (effects : List Effect)
+            × IsAtRest (D.past disk.old) effects self.old }
+        ensures any_moment { (effects : List Effect) → IsTrue D.tells
+            → IsAtRest (D.past disk.old) effects self.old
+            → LeavesOnly (D.past disk.old) (D.past disk.new)
+            (HoldsOrNone (D.past disk.old) effects) }
+        ensures emptied { (effects : List Effect) → IsTrue D.tells
+            → IsAtRest (D.past disk.old) effects self.old
+            → OnOk result (IsAtRest (D.past disk.new) [] self.new) }
+        ensures untouched { self.old ≡ 0 → disk.new ≡ disk.old }
+        ensures empty { OnOk result (self.new ≡ 0) }
+        ensures faults { HasCause (D.faults disk.old) (D.faults disk.new) result }
+    {
+        if self.end == 0 {
+            return Ok(());
+        }
+        write_through(disk, 0, CLOSED)?;
+        self.end = 0;
+        Ok(())
+    }
+}
