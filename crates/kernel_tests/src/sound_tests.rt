@@ -128,11 +128,7 @@ fn check_kernel_classes<R: Abort, L: Ledger>(
 }
 
 // I5: a class without instances, no segment, and an owner who is no user.
-fn check_fit<R: Abort, L: Ledger>(
-    rt: &R,
-    alloc: Global,
-    steps: &mut Steps<L>,
-) -> Result<(), Fail> {
+fn check_fit<R: Abort, L: Ledger>(rt: &R, alloc: Global, steps: &mut Steps<L>) -> Result<(), Fail> {
     assert!(rt; breaks(alloc, NEW, plain(alloc, 4, 29), Some((40, 5)), steps)?);
     assert!(rt; breaks(alloc, NEW, plain(alloc, 1, 27), Some((40, 5)), steps)?);
     assert!(rt; breaks(alloc, NEW, segment(alloc, 23, 35), Some((40, 5)), steps)?);
