@@ -5,7 +5,7 @@ ghost use Rattle.gem_object.specs.Spelling.{IsSpelled};
 use crate::objects::{class, class_with, name, names, plain, primitive, segment, sourced, user};
 use gem_image::Image;
 use gem_object::{Kind, Object};
-use kernel_image::{SoundFault, kernel, sound};
+use kernel_image::{kernel, sound};
 use radix_pages::Steps;
 use std::alloc::{AllocError, Global};
 use std::marker::Brand;
@@ -16,12 +16,11 @@ use std::test::Fail;
 /// The counter of an object that the kernel doesn't have.
 const NEW: u32 = 40;
 
-/// The number of the name and of the rule, where one is broken.
-fn broken(alloc: Global, image: &Image) -> Result<Option<(u64, u8)>, AllocError> {
+/// What is said of the image: nothing where it is sound.
+fn told(alloc: Global, image: &Image) -> Result<String, AllocError> {
     match sound(alloc, image) {
-        Ok(()) => Ok(None),
-        Err(SoundFault::Broken { oid, rule }) => Ok(Some((oid.number(), rule.number()))),
-        Err(SoundFault::NoMemory) => Err(AllocError),
+        Ok(()) => Ok(String::new(alloc)),
+        Err(fault) => format!(in alloc; "{fault}"),
     }
 }
 
@@ -30,14 +29,14 @@ fn breaks<L: Ledger>(
     alloc: Global,
     counter: u32,
     object: Object,
-    want: Option<(u64, u8)>,
+    want: &str,
     steps: &mut Steps<L>,
 ) -> Result<bool, AllocError>
     requires counter { counter < 2 ^ 24 }
     requires spelled { IsSpelled object }
 {
     let image = kernel(alloc, steps)?.with(alloc, name(counter), object, steps)?;
-    Ok(broken(alloc, &image)? == want)
+    Ok(told(alloc, &image)?.as_str() == want)
 }
 
 fn check_kernel<R: Abort, L: Ledger>(
@@ -47,9 +46,9 @@ fn check_kernel<R: Abort, L: Ledger>(
 ) -> Result<(), Fail> {
     let image = kernel(alloc, steps)?;
     assert_eq!(rt; image.count(), 35);
-    assert_eq!(rt; broken(alloc, &image)?, None);
+    assert_eq!(rt; told(alloc, &image)?.as_str(), "");
     // Where nothing is there, Object is the first that misses.
-    assert_eq!(rt; broken(alloc, &Image::empty())?, Some((1, 4)));
+    assert_eq!(rt; told(alloc, &Image::empty())?.as_str(), "I4 at 0:1");
     Ok(())
 }
 
@@ -59,10 +58,10 @@ fn check_references<R: Abort, L: Ledger>(
     alloc: Global,
     steps: &mut Steps<L>,
 ) -> Result<(), Fail> {
-    assert!(rt; breaks(alloc, 0, plain(alloc, 1, 29), Some((0, 1)), steps)?);
-    assert!(rt; breaks(alloc, NEW, plain(alloc, 99, 29), Some((40, 1)), steps)?);
-    assert!(rt; breaks(alloc, NEW, plain(alloc, 1, 99), Some((40, 1)), steps)?);
-    assert!(rt; breaks(alloc, NEW, plain(alloc, 1, 29), None, steps)?);
+    assert!(rt; breaks(alloc, 0, plain(alloc, 1, 29), "I1 at 0:0", steps)?);
+    assert!(rt; breaks(alloc, NEW, plain(alloc, 99, 29), "I1 at 0:40", steps)?);
+    assert!(rt; breaks(alloc, NEW, plain(alloc, 1, 99), "I1 at 0:40", steps)?);
+    assert!(rt; breaks(alloc, NEW, plain(alloc, 1, 29), "", steps)?);
     Ok(())
 }
 
@@ -73,13 +72,13 @@ fn check_methods<R: Abort, L: Ledger>(
     steps: &mut Steps<L>,
 ) -> Result<(), Fail> {
     let good = class_with(alloc, sourced(alloc, b"a ^1")?)?;
-    assert!(rt; breaks(alloc, NEW, good, None, steps)?);
+    assert!(rt; breaks(alloc, NEW, good, "", steps)?);
     let other = class_with(alloc, sourced(alloc, b"b ^1")?)?;
-    assert!(rt; breaks(alloc, NEW, other, Some((40, 2)), steps)?);
+    assert!(rt; breaks(alloc, NEW, other, "I2 at 0:40", steps)?);
     let ends = class_with(alloc, sourced(alloc, b"a ^")?)?;
-    assert!(rt; breaks(alloc, NEW, ends, Some((40, 2)), steps)?);
+    assert!(rt; breaks(alloc, NEW, ends, "I2 at 0:40", steps)?);
     let primitive = class_with(alloc, primitive(alloc)?)?;
-    assert!(rt; breaks(alloc, NEW, primitive, Some((40, 2)), steps)?);
+    assert!(rt; breaks(alloc, NEW, primitive, "I2 at 0:40", steps)?);
     Ok(())
 }
 
@@ -90,11 +89,11 @@ fn check_superclasses<R: Abort, L: Ledger>(
     steps: &mut Steps<L>,
 ) -> Result<(), Fail> {
     let circle = class(alloc, NEW, Kind::Plain, names(alloc, 0)?)?;
-    assert!(rt; breaks(alloc, NEW, circle, Some((40, 3)), steps)?);
+    assert!(rt; breaks(alloc, NEW, circle, "I3 at 0:40", steps)?);
     let under_nothing = class(alloc, 35, Kind::Plain, names(alloc, 0)?)?;
-    assert!(rt; breaks(alloc, NEW, under_nothing, Some((40, 3)), steps)?);
+    assert!(rt; breaks(alloc, NEW, under_nothing, "I3 at 0:40", steps)?);
     let other_kind = class(alloc, 1, Kind::Bytes, names(alloc, 0)?)?;
-    assert!(rt; breaks(alloc, NEW, other_kind, Some((40, 3)), steps)?);
+    assert!(rt; breaks(alloc, NEW, other_kind, "I3 at 0:40", steps)?);
     Ok(())
 }
 
@@ -105,11 +104,11 @@ fn check_names<R: Abort, L: Ledger>(
     steps: &mut Steps<L>,
 ) -> Result<(), Fail> {
     let most = class(alloc, 1, Kind::Plain, names(alloc, 200)?)?;
-    assert!(rt; breaks(alloc, NEW, most, None, steps)?);
+    assert!(rt; breaks(alloc, NEW, most, "", steps)?);
     let more = class(alloc, 1, Kind::Plain, names(alloc, 201)?)?;
-    assert!(rt; breaks(alloc, NEW, more, Some((40, 3)), steps)?);
+    assert!(rt; breaks(alloc, NEW, more, "I3 at 0:40", steps)?);
     let of_bytes = class(alloc, 15, Kind::Bytes, names(alloc, 1)?)?;
-    assert!(rt; breaks(alloc, NEW, of_bytes, Some((40, 3)), steps)?);
+    assert!(rt; breaks(alloc, NEW, of_bytes, "I3 at 0:40", steps)?);
     Ok(())
 }
 
@@ -120,23 +119,19 @@ fn check_kernel_classes<R: Abort, L: Ledger>(
     steps: &mut Steps<L>,
 ) -> Result<(), Fail> {
     let named = class(alloc, 1, Kind::Plain, names(alloc, 1)?)?;
-    assert!(rt; breaks(alloc, 7, named, Some((7, 3)), steps)?);
+    assert!(rt; breaks(alloc, 7, named, "I3 at 0:7", steps)?);
     let elsewhere = class(alloc, 7, Kind::Dict, names(alloc, 0)?)?;
-    assert!(rt; breaks(alloc, 18, elsewhere, Some((18, 3)), steps)?);
-    assert!(rt; breaks(alloc, 35, segment(alloc, 23, 31), Some((35, 4)), steps)?);
+    assert!(rt; breaks(alloc, 18, elsewhere, "I3 at 0:18", steps)?);
+    assert!(rt; breaks(alloc, 35, segment(alloc, 23, 31), "I4 at 0:35", steps)?);
     Ok(())
 }
 
 // I5: a class without instances, no segment, and an owner who is no user.
-fn check_fit<R: Abort, L: Ledger>(
-    rt: &R,
-    alloc: Global,
-    steps: &mut Steps<L>,
-) -> Result<(), Fail> {
-    assert!(rt; breaks(alloc, NEW, plain(alloc, 4, 29), Some((40, 5)), steps)?);
-    assert!(rt; breaks(alloc, NEW, plain(alloc, 1, 27), Some((40, 5)), steps)?);
-    assert!(rt; breaks(alloc, NEW, segment(alloc, 23, 35), Some((40, 5)), steps)?);
-    assert!(rt; breaks(alloc, NEW, segment(alloc, 23, 31), None, steps)?);
+fn check_fit<R: Abort, L: Ledger>(rt: &R, alloc: Global, steps: &mut Steps<L>) -> Result<(), Fail> {
+    assert!(rt; breaks(alloc, NEW, plain(alloc, 4, 29), "I5 at 0:40", steps)?);
+    assert!(rt; breaks(alloc, NEW, plain(alloc, 1, 27), "I5 at 0:40", steps)?);
+    assert!(rt; breaks(alloc, NEW, segment(alloc, 23, 35), "I5 at 0:40", steps)?);
+    assert!(rt; breaks(alloc, NEW, segment(alloc, 23, 31), "", steps)?);
     Ok(())
 }
 
@@ -146,9 +141,9 @@ fn check_users<R: Abort, L: Ledger>(
     alloc: Global,
     steps: &mut Steps<L>,
 ) -> Result<(), Fail> {
-    assert!(rt; breaks(alloc, NEW, user(alloc, 29, 33)?, None, steps)?);
-    assert!(rt; breaks(alloc, NEW, user(alloc, 27, 33)?, Some((40, 5)), steps)?);
-    assert!(rt; breaks(alloc, NEW, user(alloc, 29, 35)?, Some((40, 5)), steps)?);
+    assert!(rt; breaks(alloc, NEW, user(alloc, 29, 33)?, "", steps)?);
+    assert!(rt; breaks(alloc, NEW, user(alloc, 27, 33)?, "I5 at 0:40", steps)?);
+    assert!(rt; breaks(alloc, NEW, user(alloc, 29, 35)?, "I5 at 0:40", steps)?);
     Ok(())
 }
 
@@ -162,7 +157,7 @@ fn check_slots<R: Abort, L: Ledger>(
     let named = class(alloc, 1, Kind::Plain, names(alloc, 1)?)?;
     let image = image.with(alloc, name(41), named, steps)?;
     let image = image.with(alloc, name(NEW), plain(alloc, 41, 29), steps)?;
-    assert_eq!(rt; broken(alloc, &image)?, Some((40, 5)));
+    assert_eq!(rt; told(alloc, &image)?.as_str(), "I5 at 0:40");
     Ok(())
 }
 
