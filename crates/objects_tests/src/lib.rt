@@ -4,6 +4,8 @@
 #![tactic(auto)]
 
 #[cfg(test)]
+mod body_codec_reading_tests;
+#[cfg(test)]
 mod body_codec_tests;
 #[cfg(test)]
 mod gem_object_tests;

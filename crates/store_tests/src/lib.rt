@@ -1,0 +1,9 @@
+//! Room: store. Tests `tran_log`.
+//!
+//! No crate has tests of its own, as it would be proved once more with them.
+#![tactic(auto)]
+
+#[cfg(test)]
+mod tran_log_tests;
+#[cfg(test)]
+mod untold;

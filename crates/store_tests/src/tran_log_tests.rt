@@ -1,0 +1,169 @@
+// The log: the example's bytes, appends that stop, and each byte of a log changed or cut off.
+use crate::untold::Untold;
+use gem_disk::Pick;
+use std::alloc::Global;
+use std::test::Fail;
+use tran_log::{Log, LogFault, LogRule, open_log, spell_body};
+
+// The effect that sets the counter 1:3, of the class 0:19 and in the segment 0:30, to 20.
+const EFFECT: &[u8] = b"\x01\0\0\0\x03\0\0\x01\0\0\0\0\x13\0\0\0\0\0\0\0\x1e\0\0\0\0\0\0\0\
+    \x06\x14\0\0\0\0\0\0\0";
+
+// The size of its record in the log.
+const RECORD: u64 = 50;
+
+// What a log is opened to.
+#[derive(Clone, Copy, Debug, PartialEq, Eq)]
+enum Opened {
+    Records(u64),
+    Bad(u64, LogRule),
+    Other,
+}
+
+// A log of this number of records, of the commits from 3 on.
+fn log_bytes(alloc: Global, records: u64) -> Result<Vec<u8>, Fail> {
+    let mut bytes = vec![in alloc; 0]?;
+    for number in 3..records.saturating_add(3) {
+        let body = spell_body(alloc, number, EFFECT)?;
+        if let Some(gate) = bytes.last_mut() {
+            *gate = 1;
+        }
+        bytes.extend_from_slice(&body)?;
+    }
+    Ok(bytes)
+}
+
+fn open_disk(alloc: Global, disk: &mut Untold) -> Opened {
+    match open_log(alloc, disk) {
+        Ok((_, effects)) => Opened::Records(effects.len() as u64),
+        Err(LogFault::NotLog { at, rule }) => Opened::Bad(at, rule),
+        Err(_) => Opened::Other,
+    }
+}
+
+fn open_bytes(alloc: Global, log: Vec<u8>) -> Opened {
+    let mut disk = Untold::new(log, Vec::new(alloc));
+    open_disk(alloc, &mut disk)
+}
+
+#[test]
+fn example_bytes(rt: HostRuntime) -> Result<(), Fail> {
+    let alloc = rt.alloc();
+    let bytes = log_bytes(alloc, 1)?;
+    let head = b"\x01\x25\0\0\0\x03\0\0\0\0\0\0\0".as_slice();
+    assert_eq!(rt; bytes.len() as u64, RECORD + 1);
+    assert!(rt; bytes.starts_with(head));
+    assert!(rt; bytes.ends_with(b"\0"));
+    Ok(())
+}
+
+// What a cut to so many bytes, of 151, leaves.
+fn after_cut(size: u64) -> Opened {
+    if size <= 1 {
+        Opened::Records(0)
+    } else if size == 3 * RECORD + 1 {
+        Opened::Records(3)
+    } else if size % RECORD == 0 {
+        Opened::Bad(size, LogRule::Gate)
+    } else {
+        Opened::Bad(size - size % RECORD, LogRule::Length)
+    }
+}
+
+fn is_cut_so(alloc: Global, size: u64) -> Result<bool, Fail> {
+    let mut log = log_bytes(alloc, 3)?;
+    log.truncate(size as usize);
+    Ok(open_bytes(alloc, log) == after_cut(size))
+}
+
+#[test]
+fn each_cut(rt: HostRuntime) -> Result<(), Fail> {
+    for size in 0..=3 * RECORD + 1 {
+        assert!(rt; is_cut_so(rt.alloc(), size)?, "{size}");
+    }
+    Ok(())
+}
+
+// What a change of the byte at this place of a record, whose gate is at an offset, leaves of three
+// records.
+fn after_flip(gate: u64, place: u64) -> Opened {
+    match place {
+        0 => Opened::Records(gate / RECORD),
+        1..=4 => Opened::Bad(gate, LogRule::Length),
+        // another number is one that the next record doesn't follow
+        5..=11 if gate == 0 => Opened::Bad(RECORD, LogRule::Number),
+        5..=12 => Opened::Bad(gate, LogRule::Number),
+        // the count of objects, numbers of names past 2^48, and the tag of the body
+        13..=16 | 23..=24 | 31..=32 | 39..=41 => Opened::Bad(gate, LogRule::Effect),
+        _ => Opened::Records(3),
+    }
+}
+
+fn is_flipped_so(alloc: Global, at: u64) -> Result<bool, Fail> {
+    let mut log = log_bytes(alloc, 3)?;
+    if let Some(byte) = log.get_mut(at as usize) {
+        *byte = 255 - *byte;
+    }
+    let place = at % RECORD;
+    Ok(open_bytes(alloc, log) == after_flip(at - place, place))
+}
+
+#[test]
+fn each_flip(rt: HostRuntime) -> Result<(), Fail> {
+    for at in 0..=3 * RECORD {
+        assert!(rt; is_flipped_so(rt.alloc(), at)?, "{at}");
+    }
+    Ok(())
+}
+
+// Adds a record in so many calls of the disk, and says whether it was added.
+fn is_added(disk: &mut Untold, log: &mut Log, body: &[u8], calls: u64) -> bool {
+    disk.stop_after(calls);
+    log.append(disk, body).is_ok()
+}
+
+// The same to the log of a disk.
+fn is_added_to(alloc: Global, disk: &mut Untold, body: &[u8], calls: u64) -> bool {
+    match open_log(alloc, disk) {
+        Ok(opened) => {
+            let mut log = opened.0;
+            is_added(disk, &mut log, body, calls)
+        }
+        Err(_) => false,
+    }
+}
+
+// How many records a log of one has after a second was added, in so many calls, and a crash.
+fn after_append(alloc: Global, calls: u64, pick: Pick) -> Result<Opened, Fail> {
+    let mut disk = Untold::new(log_bytes(alloc, 1)?, Vec::new(alloc));
+    let body = spell_body(alloc, 4, EFFECT)?;
+    if is_added_to(alloc, &mut disk, &body, calls) != (calls >= 4) {
+        return Ok(Opened::Other);
+    }
+    let images = disk.crash(pick)?;
+    Ok(open_bytes(alloc, images.log))
+}
+
+// Only once the gate is open the second record is there, and until then none of it.
+fn is_all_or_none(alloc: Global, calls: u64) -> Result<bool, Fail> {
+    let open = if calls >= 3 { 2 } else { 1 };
+    let synced = if calls >= 4 { 2 } else { 1 };
+    let old = after_append(alloc, calls, Pick::Old)?;
+    let new = after_append(alloc, calls, Pick::New)?;
+    let torn = after_append(alloc, calls, Pick::Torn(7))?;
+    let torn_open = after_append(alloc, calls, Pick::Torn(1))?;
+    Ok(
+        old == Opened::Records(synced)
+            && new == Opened::Records(open)
+            && torn == Opened::Records(synced)
+            && torn_open == Opened::Records(open),
+    )
+}
+
+#[test]
+fn appends_that_stop(rt: HostRuntime) -> Result<(), Fail> {
+    for calls in 0..=4 {
+        assert!(rt; is_all_or_none(rt.alloc(), calls)?, "{calls}");
+    }
+    Ok(())
+}
