@@ -1,6 +1,5 @@
 -- What the tests make is in order, and has a spelling.
 use Rattle.std.proofs.Common.{◌≡◌, ◌<◌, ◌^◌, ℕ, true, pos, List, [], ◌∷◌, refl, sym, subst, arith}
-use Rattle.std.specs.List.{All}
 use Rattle.std.specs.List.Sorted.{IsStrictlySortedBy}
 use Rattle.std.specs.Cmp.{nat_cmp_is}
 use Rattle.std.specs.declared.cmp.Ordering.TheVariants.{Less}

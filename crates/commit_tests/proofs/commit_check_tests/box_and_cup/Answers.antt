@@ -1,4 +1,4 @@
-use Rattle.std.proofs.Common.{◌<◌, arith}
+use Rattle.std.proofs.Common.{arith}
 use Rattle.commit_tests.proofs.Samples.{two_ascend}
 use Rattle.commit_tests.proofs.commit_check_tests.box_and_cup.Goals as goal
 
