@@ -1,7 +1,8 @@
-// What stands against commits over images made by hand: changes and locks by one table, and merges
-// by another.
-ghost use Rattle.std.specs.Prelude.{◌≡◌, ◌<◌, ◌^◌, ◌+◌, IfOk};
-ghost use Rattle.gem_object.specs.Spelling.{IsOid, IsItems, IsKeyDictionary, IsSpelled, IsSpelledBody};
+// What stands against commits over images and records made by hand, and what their merges leave:
+// changes and locks by one table, and merges by another.
+ghost use Rattle.std.specs.Prelude.{◌≡◌, ◌<◌, ◌^◌, IfOk};
+ghost use Rattle.gem_value.specs.Oid.{oid_number};
+ghost use Rattle.gem_object.specs.Spelling.{IsOid, IsStorable, IsItems, IsKeyDictionary, IsSpelled, IsSpelledBody};
 
 use commit_check::{Judgement, conflicts};
 use gem_image::Image;
@@ -30,7 +31,8 @@ const SHARED: u32 = 3;
 
 fn name(counter: u32) -> Oid
     requires { counter < 2 ^ 24 }
-    ensures { IsOid result }
+    ensures number { result ≡ oid_number 1 counter }
+    ensures oid { IsOid result }
 {
     Oid::from_parts(1, counter)
 }
@@ -53,33 +55,21 @@ fn plain(alloc: Global) -> Body
     Body::Plain(Values::of(Vec::new(alloc)))
 }
 
-fn counter(value: i64) -> Body
-    ensures { IsSpelledBody result }
-{
-    Body::Counter(Counter {
-        value: value.clamp(SMALLEST_INTEGER, LARGEST_INTEGER),
-    })
-}
-
 fn by_name<T: Drop>(rt: &impl Abort, entries: Vec<(Oid, T)>) -> ByName<T> {
     assert!(rt; ascend(&entries));
     ByName::of(entries)
-}
-
-// The list of this name, or of none.
-fn names(alloc: Global, name: Option<Oid>) -> Result<OidList, AllocError> {
-    match name {
-        None => no_names(alloc),
-        Some(name) => one_name(alloc, name),
-    }
 }
 
 fn no_names(alloc: Global) -> Result<OidList, AllocError> {
     Ok(OidList::of(Vec::new(alloc)))
 }
 
-fn one_name(alloc: Global, name: Oid) -> Result<OidList, AllocError> {
-    Ok(OidList::of(vec![in alloc; name]?))
+fn box_alone(alloc: Global) -> Result<OidList, AllocError> {
+    Ok(OidList::of(vec![in alloc; name(BOX)]?))
+}
+
+fn box_and_cup(alloc: Global) -> Result<OidList, AllocError> {
+    Ok(OidList::of(vec![in alloc; name(BOX), name(CUP)]?))
 }
 
 // What session 2 asks to commit at view 1.
@@ -106,17 +96,36 @@ fn record(
     }
 }
 
-fn is_judged(judgement: &Judgement, want: Option<Conflict>, merged: usize) -> bool {
-    let found = judgement.conflicts.as_slice();
-    let as_many = found.len() == want.is_some() as usize;
-    as_many && found.first().copied() == want && judgement.merged.as_slice().len() == merged
+// A commit of session 2 that wrote the box: what it meets, and what stands against it.
+#[derive(Drop)]
+struct Write<'a> {
+    // The commits that changed the box and the cup last.
+    changed: (u64, u64),
+    // Whether the session read the cup too.
+    reads_cup: bool,
+    // The sessions that hold the box.
+    holders: &'a [(u32, LockKind)],
+    // The objects of the conflicts, with what is shown.
+    want: &'a [(u32, ConflictKind, u64)],
 }
 
-fn conflict(counter: u32, kind: ConflictKind, shown: u64) -> Option<Conflict>
-    requires { counter < 2 ^ 24 }
-{
-    let oid = name(counter);
-    Some(Conflict { oid, kind, shown })
+macro_rules! writes {
+    ($($changed:expr, $reads_cup:expr, $holders:expr => $want:expr;)*) => {
+        [$(Write {
+            changed: $changed,
+            reads_cup: $reads_cup,
+            holders: $holders,
+            want: $want,
+        }),*]
+    };
+}
+
+fn are_conflicts(found: &[Conflict], want: &[(u32, ConflictKind, u64)]) -> bool {
+    found.len() == want.len()
+        && found.iter().zip(want).all(|(conflict, (counter, kind, shown))| {
+            let is_named = conflict.oid.serial() == 1 && conflict.oid.counter() == *counter;
+            is_named && conflict.kind == *kind && conflict.shown == *shown
+        })
 }
 
 // The image of two plain objects, which these commits changed last.
@@ -131,15 +140,28 @@ fn boxes<L: Ledger>(
     Ok(image)
 }
 
-fn write_of_box<R: Abort>(rt: &R, alloc: Global, touched: Option<Oid>) -> Result<TxnRecord, Fail> {
+fn write_of_box<R: Abort>(rt: &R, alloc: Global, reads_cup: bool) -> Result<TxnRecord, Fail> {
     let written = vec![in alloc; (name(BOX), object(1, plain(alloc)))]?;
+    let touched = if reads_cup {
+        box_and_cup(alloc)
+    } else {
+        box_alone(alloc)
+    };
     Ok(record(
         Image::empty(),
-        names(alloc, touched)?,
+        touched?,
         by_name(rt, written),
         by_name(rt, Vec::new(alloc)),
         by_name(rt, Vec::new(alloc)),
     ))
+}
+
+fn locks_of(alloc: Global, holders: &[(u32, LockKind)]) -> Locks {
+    let mut locks = Locks::new(alloc);
+    for (session, kind) in holders {
+        locks.request(*session, name(BOX).number(), *kind);
+    }
+    locks
 }
 
 fn check_writes<R: Abort, L: Ledger>(rt: &R, alloc: Global, blank: Blank) -> Result<(), Fail>
@@ -148,48 +170,32 @@ fn check_writes<R: Abort, L: Ledger>(rt: &R, alloc: Global, blank: Blank) -> Res
     requires some_parts { 0 < L.parts }
 {
     let mut steps = Steps::<L>::start(blank);
-    // The commits that changed the box and the cup last, whether the cup was touched, the session
-    // that holds the box and how, and what stands against the write of the box.
-    let rows = [
-        ((1, 1), true, None, None),
-        // The box was changed after the view, or the cup that was only read.
-        (
-            (2, 1),
-            false,
-            None,
-            conflict(BOX, ConflictKind::WriteWrite, 2),
-        ),
-        (
-            (1, 2),
-            true,
-            None,
-            conflict(CUP, ConflictKind::ReadWrite, 2),
-        ),
-        ((1, 2), false, None, None),
-        // Another session holds the box.
-        (
-            (1, 1),
-            true,
-            Some((1, LockKind::Read)),
-            conflict(BOX, ConflictKind::WriteReadLock, 1),
-        ),
-        (
-            (1, 1),
-            true,
-            Some((3, LockKind::Write)),
-            conflict(BOX, ConflictKind::WriteWriteLock, 3),
-        ),
-        ((1, 1), true, Some((2, LockKind::Write)), None),
-    ];
-    for (changed, touched, held, want) in rows {
-        let image = boxes(alloc, changed, &mut steps)?;
-        let transaction = write_of_box(rt, alloc, touched.then_some(name(CUP)))?;
-        let mut locks = Locks::new(alloc);
-        if let Some((session, kind)) = held {
-            locks.request(session, name(BOX).number(), kind);
-        }
+    let rows = writes! {
+        (1, 1), true, &[] => &[];
+        // Another session has changed the box, or the cup that this one only read.
+        (2, 1), false, &[] => &[(BOX, ConflictKind::WriteWrite, 2)];
+        (1, 2), true, &[] => &[(CUP, ConflictKind::ReadWrite, 2)];
+        (1, 2), false, &[] => &[];
+        // This session may hold the box. Of others that hold it the lowest is told.
+        (1, 1), true, &[(2, LockKind::Write)] => &[];
+        (1, 1), false, &[(1, LockKind::Read), (2, LockKind::Read)]
+            => &[(BOX, ConflictKind::WriteReadLock, 1)];
+        (1, 1), false, &[(4, LockKind::Read), (2, LockKind::Read), (3, LockKind::Read)]
+            => &[(BOX, ConflictKind::WriteReadLock, 3)];
+        // All at once, by object and then by kind.
+        (3, 2), true, &[(3, LockKind::Write)] => &[
+            (BOX, ConflictKind::WriteWrite, 3),
+            (BOX, ConflictKind::WriteWriteLock, 3),
+            (CUP, ConflictKind::ReadWrite, 2),
+        ];
+    };
+    for (number, row) in rows.iter().enumerate() {
+        let image = boxes(alloc, row.changed, &mut steps)?;
+        let transaction = write_of_box(rt, alloc, row.reads_cup)?;
+        let locks = locks_of(alloc, row.holders);
         let judgement = conflicts(alloc, &image, &transaction, &locks)?;
-        assert!(rt; is_judged(&judgement, want, 0), "{changed:?} {held:?}");
+        let found = judgement.conflicts.as_slice();
+        assert!(rt; are_conflicts(found, row.want), "row {number}");
     }
     Ok(())
 }
@@ -197,6 +203,141 @@ fn check_writes<R: Abort, L: Ledger>(rt: &R, alloc: Global, blank: Blank) -> Res
 #[test]
 fn writes(rt: HostRuntime) -> Result<(), Fail> {
     check_writes::<HostRuntime, Brand>(&rt, rt.alloc(), Blank::new(1))
+}
+
+// What an object holds whose updates are merged.
+#[derive(Clone, Copy)]
+enum Contents {
+    Counter(i64),
+    // The letter x so often.
+    Bag(u8),
+    // The first so many of the entries `a: 1` and `b: 2`.
+    Dict(u8),
+    // A line that the numbers from 1 on joined: so many left it, and so many are there.
+    Queue(u8, u8),
+}
+
+fn integer(number: i64) -> Value
+    ensures { IsStorable result }
+{
+    Value::Int(number.clamp(SMALLEST_INTEGER, LARGEST_INTEGER))
+}
+
+fn counter(value: i64) -> Body
+    ensures { IsSpelledBody result }
+{
+    Body::Counter(Counter {
+        value: value.clamp(SMALLEST_INTEGER, LARGEST_INTEGER),
+    })
+}
+
+fn bag_of(pairs: Vec<(Value, u64)>) -> Result<Body, Fail>
+    requires { IsItems pairs.items }
+    ensures { IfOk result IsSpelledBody }
+{
+    Ok(Body::Bag(Bag::of_pairs(pairs).ok_or("pairs of a bag")?))
+}
+
+fn bag(alloc: Global, occurrences: u8) -> Result<Body, Fail>
+    ensures { IfOk result IsSpelledBody }
+{
+    if occurrences == 0 {
+        return bag_of(Vec::new(alloc));
+    }
+    bag_of(vec![in alloc; (Value::Char(b'x'), occurrences as u64)]?)
+}
+
+fn dict_of(pairs: Vec<(Value, Value)>) -> Result<Body, Fail>
+    requires { IsKeyDictionary pairs.items }
+    ensures { IfOk result IsSpelledBody }
+{
+    Ok(Body::RcDict(KeyDict::of_pairs(pairs).ok_or("pairs of a dictionary")?))
+}
+
+fn dict(alloc: Global, size: u8) -> Result<Body, Fail>
+    ensures { IfOk result IsSpelledBody }
+{
+    let a = (Value::Char(b'a'), Value::Int(1));
+    let b = (Value::Char(b'b'), Value::Int(2));
+    match size {
+        0 => dict_of(Vec::new(alloc)),
+        1 => dict_of(vec![in alloc; a]?),
+        _ => dict_of(vec![in alloc; a, b]?),
+    }
+}
+
+fn queue(alloc: Global, removed: u8, size: u8) -> Result<Body, AllocError>
+    ensures { IfOk result IsSpelledBody }
+{
+    let mut items = Vec::new(alloc);
+    for at in 0..size {
+        items.push(integer(removed as i64 + at as i64 + 1))?;
+    }
+    Ok(Body::Queue(Queue::of_items(removed as u64, items)))
+}
+
+fn body(alloc: Global, contents: Contents) -> Result<Body, Fail>
+    ensures { IfOk result IsSpelledBody }
+{
+    match contents {
+        Contents::Counter(value) => Ok(counter(value)),
+        Contents::Bag(occurrences) => bag(alloc, occurrences),
+        Contents::Dict(size) => dict(alloc, size),
+        Contents::Queue(removed, size) => Ok(queue(alloc, removed, size)?),
+    }
+}
+
+// What the session did with it.
+#[derive(Clone, Copy)]
+enum Change {
+    Count(i64),
+    Add,
+    Remove,
+    Put(u8, i64),
+    Join(i64),
+    Leave(i64),
+}
+
+fn update(change: Change) -> Update {
+    match change {
+        Change::Count(by) => Update::Counter(by),
+        Change::Add => Update::Bag(BagUpdate::Add(Value::Char(b'x'))),
+        Change::Remove => Update::Bag(BagUpdate::Remove(Value::Char(b'x'))),
+        Change::Put(letter, number) => {
+            Update::RcDict(DictUpdate::Put(Value::Char(letter), Value::Int(number)))
+        }
+        Change::Join(number) => Update::Queue(QueueUpdate::Add(Value::Int(number))),
+        Change::Leave(number) => Update::Queue(QueueUpdate::Remove(Value::Int(number))),
+    }
+}
+
+fn updates(alloc: Global, changes: &[Change]) -> Result<Vec<Update>, AllocError> {
+    let mut updates = Vec::new(alloc);
+    for change in changes {
+        updates.push(update(*change))?;
+    }
+    Ok(updates)
+}
+
+// A commit of updates: the object at the view and at the place, what the session did with it, and
+// the object that the merge leaves, or the conflict.
+#[derive(Drop)]
+struct Merge<'a> {
+    view: Contents,
+    place: Contents,
+    changes: &'a [Change],
+    want: Result<Contents, ConflictKind>,
+}
+
+macro_rules! merges {
+    ($($view:expr, $place:expr, $changes:expr => $want:expr;)*) => {
+        [$(Merge {
+            view: $view,
+            place: $place,
+            changes: $changes,
+            want: $want,
+        }),*]
+    };
 }
 
 // The image of one object.
@@ -238,222 +379,89 @@ fn judged<R: Abort, L: Ledger>(
     Ok(conflicts(alloc, &image, &transaction, &Locks::new(alloc))?)
 }
 
-// The value of the only merged object, where that is a counter.
-fn merged_value(judgement: &Judgement) -> Option<i64> {
-    match judgement.merged.as_slice().first() {
-        Some((_, object)) => value_of(&object.body),
-        None => None,
+fn is_same_body(body: &Body, want: &Body) -> bool {
+    match (body, want) {
+        (Body::Counter(counter), Body::Counter(want)) => counter.value == want.value,
+        (Body::Bag(bag), Body::Bag(want)) => bag.pairs() == want.pairs(),
+        (Body::RcDict(dict), Body::RcDict(want)) => dict.pairs() == want.pairs(),
+        (Body::Queue(queue), Body::Queue(want)) => is_same_queue(queue, want),
+        _ => false,
     }
 }
 
-fn value_of(body: &Body) -> Option<i64> {
-    match body {
-        Body::Counter(counter) => Some(counter.value),
-        _ => None,
+fn is_same_queue(queue: &Queue<Value>, want: &Queue<Value>) -> bool {
+    queue.removed() == want.removed()
+        && queue.size() == want.size()
+        && (0..want.size()).all(|at| queue.item(at) == want.item(at))
+}
+
+// Whether the merge leaves the object of the place with this body.
+fn leaves(merged: &[(Oid, Object)], body: &Body) -> bool {
+    let Some((oid, object)) = merged.first() else {
+        return false;
+    };
+    let as_before = object.class == name(10) && object.segment == name(11) && object.changed == 3;
+    *oid == name(SHARED) && as_before && is_same_body(&object.body, body) && merged.len() == 1
+}
+
+fn is_wanted(
+    alloc: Global,
+    judgement: &Judgement,
+    want: Result<Contents, ConflictKind>,
+) -> Result<bool, Fail> {
+    let found = judgement.conflicts.as_slice();
+    let merged = judgement.merged.as_slice();
+    match want {
+        Ok(contents) => {
+            let body = body(alloc, contents)?;
+            Ok(found.is_empty() && leaves(merged, &body))
+        }
+        Err(kind) => Ok(merged.is_empty() && are_conflicts(found, &[(SHARED, kind, 3)])),
     }
 }
 
-fn check_counters<R: Abort, L: Ledger>(rt: &R, alloc: Global, blank: Blank) -> Result<(), Fail>
+fn check_merges<R: Abort, L: Ledger>(rt: &R, alloc: Global, blank: Blank) -> Result<(), Fail>
     requires name { blank.name ≡ L.name }
     requires parts { blank.parts ≡ L.parts }
     requires some_parts { 0 < L.parts }
 {
     let mut steps = Steps::<L>::start(blank);
-    // The value at the view and at the place, what is added, and the value that follows, or None
-    // where the merge is refused.
-    let rows = [
-        (0, 10, 10, Some(20)),
-        (LARGEST_INTEGER - 1, LARGEST_INTEGER, 1, None),
-    ];
-    for (view, place, by, want) in rows {
-        let updates = vec![in alloc; Update::Counter(by)]?;
-        let bodies = (counter(view), counter(place));
-        let judgement = judged(rt, alloc, bodies, updates, &mut steps)?;
-        let refusal = match want {
-            Some(_) => None,
-            None => conflict(SHARED, ConflictKind::CounterRange, 3),
-        };
-        assert!(rt;
-            is_judged(&judgement, refusal, want.is_some() as usize),
-            "at {place}"
-        );
-        assert_eq!(rt; merged_value(&judgement), want);
-    }
-    Ok(())
-}
-
-#[test]
-fn counters(rt: HostRuntime) -> Result<(), Fail> {
-    check_counters::<HostRuntime, Brand>(&rt, rt.alloc(), Blank::new(1))
-}
-
-fn bag_of(pairs: Vec<(Value, u64)>) -> Result<Body, Fail>
-    requires { IsItems pairs.items }
-    ensures { IfOk result IsSpelledBody }
-{
-    Ok(Body::Bag(Bag::of_pairs(pairs).ok_or("pairs of a bag")?))
-}
-
-// A bag without items, and one in which `true` occurs once and so often more.
-fn empty_bag(alloc: Global) -> Result<Body, Fail>
-    ensures { IfOk result IsSpelledBody }
-{
-    bag_of(Vec::new(alloc))
-}
-
-fn bag(alloc: Global, more: u32) -> Result<Body, Fail>
-    ensures { IfOk result IsSpelledBody }
-{
-    bag_of(vec![in alloc; (Value::True, more as u64 + 1)]?)
-}
-
-fn dict_of(pairs: Vec<(Value, Value)>) -> Result<Body, Fail>
-    requires { IsKeyDictionary pairs.items }
-    ensures { IfOk result IsSpelledBody }
-{
-    Ok(Body::RcDict(KeyDict::of_pairs(pairs).ok_or("pairs of a dictionary")?))
-}
-
-// A dictionary without keys, and one with the key `true`.
-fn empty_dict(alloc: Global) -> Result<Body, Fail>
-    ensures { IfOk result IsSpelledBody }
-{
-    dict_of(Vec::new(alloc))
-}
-
-fn dict(alloc: Global) -> Result<Body, Fail>
-    ensures { IfOk result IsSpelledBody }
-{
-    dict_of(vec![in alloc; (Value::True, Value::Nil)]?)
-}
-
-// A queue whose front was removed so often, and in which `true` stands so often now.
-fn queue(alloc: Global, removed: u64, size: u8) -> Result<Body, AllocError>
-    ensures { IfOk result IsSpelledBody }
-{
-    let items = vec![in alloc; Value::True; size as usize]?;
-    Ok(Body::Queue(Queue::of_items(removed, items)))
-}
-
-#[derive(Clone, Copy)]
-enum Sample {
-    EmptyBag,
-    Bag(u32),
-    EmptyDict,
-    Dict,
-    Queue(u64, u8),
-}
-
-fn body(alloc: Global, sample: Sample) -> Result<Body, Fail>
-    ensures { IfOk result IsSpelledBody }
-{
-    match sample {
-        Sample::EmptyBag => empty_bag(alloc),
-        Sample::Bag(more) => bag(alloc, more),
-        Sample::EmptyDict => empty_dict(alloc),
-        Sample::Dict => dict(alloc),
-        Sample::Queue(removed, size) => Ok(queue(alloc, removed, size)?),
-    }
-}
-
-const fn put(key: Value) -> Update {
-    Update::RcDict(DictUpdate::Put(key, Value::Nil))
-}
-
-const fn add(item: Value) -> Update {
-    Update::Queue(QueueUpdate::Add(item))
-}
-
-const fn take(item: Value) -> Update {
-    Update::Queue(QueueUpdate::Remove(item))
-}
-
-const fn remove() -> Update {
-    Update::Bag(BagUpdate::Remove(Value::True))
-}
-
-fn refusal(kind: Option<ConflictKind>) -> Option<Conflict> {
-    match kind {
-        None => None,
-        Some(kind) => conflict(SHARED, kind, 3),
-    }
-}
-
-const fn add_to_bag() -> Update {
-    Update::Bag(BagUpdate::Add(Value::True))
-}
-
-fn check_items<R: Abort, L: Ledger>(rt: &R, alloc: Global, blank: Blank) -> Result<(), Fail>
-    requires name { blank.name ≡ L.name }
-    requires parts { blank.parts ≡ L.parts }
-    requires some_parts { 0 < L.parts }
-{
-    let mut steps = Steps::<L>::start(blank);
-    // The object at the view and at the place, two updates of the session, and the conflict, if
-    // the merge is refused.
-    let rows = [
+    let rows = merges! {
+        // Two sessions count to ten. Two add one below the end of the range.
+        Contents::Counter(0), Contents::Counter(10), &[Change::Count(4), Change::Count(6)]
+            => Ok(Contents::Counter(20));
+        Contents::Counter(LARGEST_INTEGER - 1), Contents::Counter(LARGEST_INTEGER),
+            &[Change::Count(1)] => Err(ConflictKind::CounterRange);
         // Two sessions remove the only occurrence, and one of two.
-        (
-            Sample::Bag(0),
-            Sample::EmptyBag,
-            remove(),
-            add_to_bag(),
-            Some(ConflictKind::BagRemove),
-        ),
-        (Sample::Bag(1), Sample::Bag(0), remove(), add_to_bag(), None),
+        Contents::Bag(1), Contents::Bag(0), &[Change::Remove] => Err(ConflictKind::BagRemove);
+        Contents::Bag(2), Contents::Bag(1), &[Change::Remove] => Ok(Contents::Bag(0));
+        Contents::Bag(2), Contents::Bag(1), &[Change::Add, Change::Add] => Ok(Contents::Bag(3));
+        // 1 and 2 wait. One session adds 3 and another takes the front, in either order.
+        Contents::Queue(0, 2), Contents::Queue(0, 3), &[Change::Leave(1)]
+            => Ok(Contents::Queue(1, 2));
+        Contents::Queue(0, 2), Contents::Queue(1, 1), &[Change::Join(3)]
+            => Ok(Contents::Queue(1, 2));
+        // Both take the front.
+        Contents::Queue(0, 2), Contents::Queue(1, 1), &[Change::Leave(1)]
+            => Err(ConflictKind::QueueRemove);
+        // Both add to an empty queue, and the second takes what it added.
+        Contents::Queue(0, 0), Contents::Queue(0, 1), &[Change::Join(7), Change::Leave(7)]
+            => Err(ConflictKind::QueueRemove);
         // Two sessions put at two keys, and at one.
-        (
-            Sample::EmptyDict,
-            Sample::Dict,
-            put(Value::False),
-            put(Value::False),
-            None,
-        ),
-        (
-            Sample::EmptyDict,
-            Sample::Dict,
-            put(Value::False),
-            put(Value::True),
-            Some(ConflictKind::DictionaryKey),
-        ),
-        // One session adds and the other takes the front; both take it; each adds to an empty
-        // queue, and this one takes what it added.
-        (
-            Sample::Queue(0, 2),
-            Sample::Queue(0, 3),
-            take(Value::True),
-            add(Value::False),
-            None,
-        ),
-        (
-            Sample::Queue(0, 2),
-            Sample::Queue(1, 1),
-            take(Value::True),
-            add(Value::False),
-            Some(ConflictKind::QueueRemove),
-        ),
-        (
-            Sample::Queue(0, 0),
-            Sample::Queue(0, 1),
-            add(Value::False),
-            take(Value::False),
-            Some(ConflictKind::QueueRemove),
-        ),
-    ];
-    for (view, place, first, second, kind) in rows {
-        let bodies = (body(alloc, view)?, body(alloc, place)?);
-        let updates = vec![in alloc; first, second]?;
+        Contents::Dict(0), Contents::Dict(1), &[Change::Put(b'b', 2)] => Ok(Contents::Dict(2));
+        Contents::Dict(0), Contents::Dict(1), &[Change::Put(b'a', 1)]
+            => Err(ConflictKind::DictionaryKey);
+    };
+    for (number, row) in rows.iter().enumerate() {
+        let bodies = (body(alloc, row.view)?, body(alloc, row.place)?);
+        let updates = updates(alloc, row.changes)?;
         let judgement = judged(rt, alloc, bodies, updates, &mut steps)?;
-        let want = refusal(kind);
-        assert!(rt;
-            is_judged(&judgement, want, kind.is_none() as usize),
-            "{kind:?}"
-        );
+        assert!(rt; is_wanted(alloc, &judgement, row.want)?, "row {number}");
     }
     Ok(())
 }
 
 #[test]
-fn items(rt: HostRuntime) -> Result<(), Fail> {
-    check_items::<HostRuntime, Brand>(&rt, rt.alloc(), Blank::new(1))
+fn merges(rt: HostRuntime) -> Result<(), Fail> {
+    check_merges::<HostRuntime, Brand>(&rt, rt.alloc(), Blank::new(1))
 }
