@@ -6,15 +6,15 @@ ghost use Rattle.gem_object.specs.declared.body.Body.TheVariants.{Plain};
 ghost use Rattle.kernel_image.specs.Objects.{kernel_object, shared_objects, profiles, last_objects, kernel_list, entry, entries_from, other_entries, globals_entries, users_entries, dictionary, own_globals, segment_object, user_object, named_from};
 ghost use Rattle.kernel_image.specs.Rows.{method_of_row, methods_of_rows, class_of_row, names_of_rows, entry_of_row};
 
-use gem_sound::names::{
-    ALL_USERS, CLASS_CLASS, DATA_CURATOR_GLOBALS, DATA_CURATOR_SEGMENT, SEGMENT_CLASS,
-    SYMBOL_DICTIONARY_CLASS, SYSTEM_SEGMENT, SYSTEM_USER, SYSTEM_USER_GLOBALS, TRANSCRIPT,
-    TRANSCRIPT_STREAM_CLASS, USER_PROFILE_CLASS,
-};
 use crate::table::{ClassRow, CodeRow, MethodRow, class_rows};
 use gem_object::{
     Body, ClassBody, Dictionary, Method, MethodCode, Methods, Names, Object, UserBody, Value,
     Values,
+};
+use gem_sound::names::{
+    ALL_USERS, CLASS_CLASS, DATA_CURATOR_GLOBALS, DATA_CURATOR_SEGMENT, SEGMENT_CLASS,
+    SYMBOL_DICTIONARY_CLASS, SYSTEM_SEGMENT, SYSTEM_USER, SYSTEM_USER_GLOBALS, TRANSCRIPT,
+    TRANSCRIPT_STREAM_CLASS, USER_PROFILE_CLASS,
 };
 use gem_value::Oid;
 use profile::{DATA_CURATOR_COUNTER, GLOBALS_COUNTER, KERNEL_SERIAL};

@@ -13,9 +13,9 @@ ghost use Rattle.kernel_image.specs.Chains.{AreCounts};
 ghost use Rattle.kernel_image.specs.Bodies.{body_of, IsSpecial};
 
 use crate::chains::{Counts, class_at, count_names};
-use gem_sound::names::{CLASS_CLASS, TRANSCRIPT_STREAM_CLASS};
 use gem_image::Image;
 use gem_object::{Body, Object};
+use gem_sound::names::{CLASS_CLASS, TRANSCRIPT_STREAM_CLASS};
 use gem_value::Oid;
 use std::alloc::{AllocError, Global};
 

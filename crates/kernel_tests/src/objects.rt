@@ -5,8 +5,8 @@ ghost use Rattle.gem_object.specs.Spelling.{IsOid, IsText, IsSource, IsMethod, I
 use gem_object::{
     Body, ClassBody, Kind, Method, MethodCode, Methods, Names, Object, UserBody, Values,
 };
-use gem_value::Oid;
 use gem_sound::names::{CLASS_CLASS, SYSTEM_SEGMENT};
+use gem_value::Oid;
 use profile::KERNEL_SERIAL;
 use seg_rights::{Groups, Right, Rights};
 use std::alloc::{AllocError, Global};

@@ -161,6 +161,19 @@ fn check_slots<R: Abort, L: Ledger>(
     Ok(())
 }
 
+// The lowest name counts, whatever its rule.
+fn check_order<R: Abort, L: Ledger>(
+    rt: &R,
+    alloc: Global,
+    steps: &mut Steps<L>,
+) -> Result<(), Fail> {
+    let image = kernel(alloc, steps)?;
+    let image = image.with(alloc, name(41), plain(alloc, 99, 29), steps)?;
+    let image = image.with(alloc, name(NEW), plain(alloc, 4, 29), steps)?;
+    assert_eq!(rt; broken(alloc, &image)?, Some((40, 5)));
+    Ok(())
+}
+
 fn check_all<R: Abort, L: Ledger>(rt: &R, alloc: Global, blank: Blank) -> Result<(), Fail>
     requires name { blank.name ≡ L.name }
     requires parts { blank.parts ≡ L.parts }
@@ -175,7 +188,8 @@ fn check_all<R: Abort, L: Ledger>(rt: &R, alloc: Global, blank: Blank) -> Result
     check_kernel_classes(rt, alloc, &mut steps)?;
     check_fit(rt, alloc, &mut steps)?;
     check_users(rt, alloc, &mut steps)?;
-    check_slots(rt, alloc, &mut steps)
+    check_slots(rt, alloc, &mut steps)?;
+    check_order(rt, alloc, &mut steps)
 }
 
 #[test]
