@@ -170,7 +170,7 @@ fn check_order<R: Abort, L: Ledger>(
     let image = kernel(alloc, steps)?;
     let image = image.with(alloc, name(41), plain(alloc, 99, 29), steps)?;
     let image = image.with(alloc, name(NEW), plain(alloc, 4, 29), steps)?;
-    assert_eq!(rt; broken(alloc, &image)?, Some((40, 5)));
+    assert_eq!(rt; told(alloc, &image)?.as_str(), "I5 at 0:40");
     Ok(())
 }
 
