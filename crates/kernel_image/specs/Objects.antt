@@ -1,4 +1,4 @@
--- The objects of the kernel, under the names 0:1, 0:2 and so on. None of them was changed by a commit.
+-- The objects of the kernel, under the names 0:1, 0:2 and so on. No commit has changed any of them.
 use Rattle.std.specs.Prelude.{ℕ, ◌+◌, List, [], ◌∷◌, ◌++◌, take, codes, Option}
 use Rattle.std.specs.FinMap.{empty}
 use Rattle.texts.specs.Bytes.{Bytes as Text}
@@ -56,7 +56,10 @@ protocols =
     ∷ instances methods_of_rc_key_value_dictionary  -- RcKeyValueDictionary
     ∷ instances methods_of_rc_queue  -- RcQueue
     ∷ instances methods_of_segment  -- Segment
-    ∷ record { methods = methods_of_user_profile; class_methods = class_side_of_user_profile }  -- UserProfile
+    ∷ record {  -- UserProfile
+      methods = methods_of_user_profile;
+      class_methods = class_side_of_user_profile;
+    }
     ∷ record { methods = []; class_methods = class_side_of_system }  -- System
     ∷ instances methods_of_transcript_stream  -- TranscriptStream
     ∷ []
