@@ -8,7 +8,7 @@ ghost use Rattle.gem_disk.specs.Runs.{LeavesOnly};
 ghost use Rattle.tran_log.specs.declared.fault.LogRule.{LogRule};
 ghost use Rattle.tran_log.specs.Log.{log_of};
 ghost use Rattle.tran_log.specs.Reads.{GivesLog, EndsAt};
-ghost use Rattle.tran_log.specs.Resting.{IsAtRest, Holds, AllHold, MayAppend, HoldsEither, HoldsOrNone};
+ghost use Rattle.tran_log.specs.Resting.{SameExtent, IsAtRest, Holds, AllHold, MayAppend, HoldsEither, HoldsOrNone};
 
 use crate::fault::LogFault;
 use crate::read::read_log;
@@ -71,6 +71,7 @@ pub fn open_log<D: Disk>(alloc: Global, disk: &mut D) -> Result<(Log, Vec<Effect
         → log_of (reads (D.past disk.old) which.Log) ≡ Ok effects
         → AllHold (D.past disk.old) effects
         → LeavesOnly (D.past disk.old) (D.past disk.new) (Holds (D.past disk.old) effects) }
+    ensures extent { IsTrue D.tells → SameExtent (D.past disk.old) (D.past disk.new) }
     ensures failed { IsErrOf result LogFault.Disk
         → HasRisen (D.faults disk.old) (D.faults disk.new) }
     ensures later { D.faults disk.old ≤ D.faults disk.new }
@@ -128,6 +129,8 @@ impl Log {
         ensures acknowledged { (effects : List Effect) (effect : Effect) → IsTrue D.tells
             → MayAppend (D.past disk.old) self.old body.now effects effect
             → OnOk result (IsAtRest (D.past disk.new) (effects ++ effect ∷ []) self.new) }
+        ensures extent { IsTrue D.tells
+            → SameExtent (D.past disk.old) (D.past disk.new) }
         ensures full { (size : ℕ) (bytes : ℕ) → IsErrOf result (AppendFault.Full size bytes)
             ↔ ((LOG_LIMIT < self.old + 1 + length body.now) × (size ≡ self.old + 1)
             × (bytes ≡ length body.now)) }
@@ -162,6 +165,8 @@ impl Log {
         ensures emptied { (effects : List Effect) → IsTrue D.tells
             → IsAtRest (D.past disk.old) effects self.old
             → OnOk result (IsAtRest (D.past disk.new) [] self.new) }
+        ensures extent { IsTrue D.tells
+            → SameExtent (D.past disk.old) (D.past disk.new) }
         ensures untouched { self.old ≡ 0 → disk.new ≡ disk.old }
         ensures empty { OnOk result (self.new ≡ 0) }
         ensures faults { HasCause (D.faults disk.old) (D.faults disk.new) result }
