@@ -17,6 +17,8 @@ use gem_disk::{Disk, Which};
 use gem_io::Failed;
 use gem_record::Effect;
 use std::alloc::Global;
+use std::error::Error;
+use std::fmt;
 use std::marker::Model;
 
 /// A log on a disk. Its records stand on the disk alone; it knows where they end.
@@ -102,6 +104,24 @@ pub enum AppendFault {
     /// The disk failed. The record is in the log or isn't; the log has to be opened again.
     Disk,
 }
+
+impl fmt::Display for AppendFault {
+    ghost use Rattle.std.specs.Prelude.{Some};
+    ghost use Rattle.tran_log.specs.FaultText.{append_text};
+
+    ghost output = { λ fault. Some (append_text fault) };
+
+    fn fmt<W: fmt::Write>(&self, f: &mut fmt::Formatter<W>) -> fmt::Result {
+        match *self {
+            AppendFault::Full { length, size } => {
+                write!(f, "the log of {length} bytes has no room for {size}")
+            }
+            AppendFault::Disk => f.write_str("disk fault"),
+        }
+    }
+}
+
+impl Error for AppendFault {}
 
 impl From<Failed> for AppendFault {
     ghost use Rattle.tran_log.specs.declared.log.AppendFault.TheVariants as faults;
