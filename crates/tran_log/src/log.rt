@@ -1,5 +1,5 @@
 //! A log on a disk, and how it is opened.
-ghost use Rattle.std.specs.Prelude.{◌≡◌, ◌↔◌, ◌+◌, ◌<◌, ◌≤◌, ℕ, List, [], ◌∷◌, ◌++◌, length, Ok, Err, IsTrue, IfOk, OnOk, IsErrOf};
+ghost use Rattle.std.specs.Prelude.{◌≡◌, ◌↔◌, ◌⊎◌, ◌+◌, ◌<◌, ◌≤◌, ℕ, List, [], ◌∷◌, ◌++◌, length, Ok, Err, IsTrue, IfOk, OnOk, IsErrOf};
 ghost use Rattle.gem_io.specs.Faults.{HasRisen, HasCause};
 ghost use Rattle.gem_record.specs.declared.effect.Effect.{Effect};
 ghost use Rattle.gem_disk.specs.declared.disk.Which.TheVariants as which;
@@ -134,14 +134,16 @@ impl From<Failed> for AppendFault {
 }
 
 impl Log {
-    /// Adds the record of this body, which `spell_body` gives. It makes four calls of the disk, and
-    /// takes no memory.
+    /// Adds the record of this body, which `spell_body` gives for the next number; a body that is
+    /// too long for any log may be of anything. It makes four calls of the disk, and takes no
+    /// memory.
     ///
     /// `Full`: exactly where the log's length and the body's exceed `LOG_LIMIT`; no call was made.
     /// `Disk`: the count of faults rose in this call; the log is opened anew before it is used.
     pub fn append<D: Disk>(&mut self, disk: &mut D, body: &[u8]) -> Result<(), AppendFault>
-        requires { IsTrue D.tells → (effects : List Effect) × (effect : Effect)
-            × MayAppend (D.past disk.old) self.old body.now effects effect }
+        requires { IsTrue D.tells → (LOG_LIMIT < self.old + 1 + length body.now)
+            ⊎ ((effects : List Effect) × (effect : Effect)
+            × MayAppend (D.past disk.old) self.old body.now effects effect) }
         ensures any_moment { (effects : List Effect) (effect : Effect) → IsTrue D.tells
             → MayAppend (D.past disk.old) self.old body.now effects effect
             → LeavesOnly (D.past disk.old) (D.past disk.new)
