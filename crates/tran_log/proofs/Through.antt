@@ -1,11 +1,11 @@
 -- What a crash leaves of a log during a write that is brought to the disk.
 use Rattle.std.proofs.Common.{◌≡◌, ◌⊎◌, ℕ, ◌≤◌, List, length, Result, Ok, Err, OnOk, refl, sym, ap, subst, ◌∙◌, inl, inr, ⊎_elim, arith}
-use Rattle.gem_disk.specs.declared.disk.Which.TheVariants.{Log}
+use Rattle.gem_disk.specs.declared.disk.Which.TheVariants.{Extent, Log}
 use Rattle.gem_disk.specs.Disk.{Files, Wrote, Synced, Past, reads, stepped, placed, Torn, FileImages, Syncs}
 use Rattle.gem_disk.specs.Runs.{LeavesOnly}
 use Rattle.gem_disk.proofs.Moments.{started, goes_on}
 use Rattle.gem_disk.proofs.Leaves.{torn_by_placing}
-use Rattle.tran_log.specs.Resting.{IsDurable, IsTornAt, IsWritten}
+use Rattle.tran_log.specs.Resting.{SameExtent, IsDurable, IsTornAt, IsWritten}
 
 -- a run that leaves less
 pub leaves_less : (old new : Past) (P Q : Files → Type 0) → ((images : Files) → P images → Q images)
@@ -79,3 +79,13 @@ module _ (old middle new : Past) (at : ℕ) (bytes : List ℕ) (inside : at ≤ 
   sync_writes (Ok x) is = subst (λ (p : Past). IsWritten at bytes old p)
       (sym (is ∙ ap (λ (p : Past). stepped p Log Synced (reads p Log)) written)) (is_written old at bytes inside)
   sync_writes (Err x) is = tt
+
+  pub sync_extent : {T E : Type 0} → (result : Result T E) → Syncs Log middle result new → SameExtent old new
+  sync_extent (Ok x) is = ap (λ (p : Past). reads p Extent) (is ∙ ap (λ (p : Past). stepped p Log Synced (reads p Log)) written)
+  sync_extent (Err x) is = ap (λ (p : Past). reads p Extent) (is ∙ written)
+
+pub write_extent : (old new : Past) (at n : ℕ)
+    → (new ≡ old) ⊎ ((now : List ℕ) × Torn at n (reads old Log) now × (new ≡ stepped old Log (Wrote at n) now))
+    → SameExtent old new
+write_extent old new at n (inl same) = ap (λ (p : Past). reads p Extent) same
+write_extent old new at n (inr (now, torn, is)) = ap (λ (p : Past). reads p Extent) is

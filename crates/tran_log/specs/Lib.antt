@@ -1,3 +1,4 @@
 pub mod Log
 pub mod Resting
 pub mod Reads
+pub mod FaultText

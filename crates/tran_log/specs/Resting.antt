@@ -11,6 +11,10 @@ abbrev pub IsDurable : Past → Type 0
 IsDurable past = (image : List ℕ) → FileImages past.first past.steps Log image
     → image ≡ reads past Log
 
+-- the extent reads as before
+abbrev pub SameExtent : Past → Past → Type 0
+SameExtent old new = reads new Extent ≡ reads old Extent
+
 -- The log holds these effects and ends at a closed gate at this offset; all of it is on the disk.
 pub record IsAtRest (past : Past) (effects : List Effect) (end : ℕ) : Type 0 where
   pub ends : EndsAt (reads past Log) effects end

@@ -4,6 +4,8 @@ ghost use Rattle.tran_log.specs.declared.fault.ReadError.TheVariants.{NoMemory};
 
 use gem_io::Failed;
 use std::alloc::{AllocError, AllocFailed};
+use std::error::Error;
+use std::fmt;
 
 /// What a log must keep. The order is that of the numbers, from 1 to 4.
 #[derive(Clone, Copy, Debug, PartialEq, Eq)]
@@ -16,6 +18,17 @@ pub enum LogRule {
     Effect = 3,
     /// L4: a byte stands where a gate is due.
     Gate = 4,
+}
+
+impl LogRule {
+    ghost use Rattle.tran_log.specs.FaultText.{rule_number};
+
+    /// The number, from 1 to 4.
+    pub fn number(self) -> u8
+        ensures { result ≡ rule_number self }
+    {
+        self as u8
+    }
 }
 
 /// Why a log can't be opened.
@@ -33,6 +46,26 @@ pub enum LogFault {
     /// Memory ran out.
     NoMemory,
 }
+
+impl fmt::Display for LogFault {
+    ghost use Rattle.std.specs.Prelude.{Some};
+    ghost use Rattle.tran_log.specs.FaultText.{fault_text};
+
+    ghost output = { λ fault. Some (fault_text fault) };
+
+    fn fmt<W: fmt::Write>(&self, f: &mut fmt::Formatter<W>) -> fmt::Result {
+        match *self {
+            LogFault::NotLog { at, rule } => {
+                let rule = rule.number();
+                write!(f, "log byte {at} rule L{rule}")
+            }
+            LogFault::Disk => f.write_str("disk fault"),
+            LogFault::NoMemory => f.write_str("out of memory"),
+        }
+    }
+}
+
+impl Error for LogFault {}
 
 impl From<Failed> for LogFault {
     ghost use Rattle.tran_log.specs.declared.fault.LogFault.TheVariants as faults;

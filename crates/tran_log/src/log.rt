@@ -1,5 +1,5 @@
 //! A log on a disk, and how it is opened.
-ghost use Rattle.std.specs.Prelude.{◌≡◌, ◌↔◌, ◌+◌, ◌<◌, ◌≤◌, ℕ, List, [], ◌∷◌, ◌++◌, length, Ok, Err, IsTrue, IfOk, OnOk, IsErrOf};
+ghost use Rattle.std.specs.Prelude.{◌≡◌, ◌↔◌, ◌⊎◌, ◌+◌, ◌<◌, ◌≤◌, ℕ, List, [], ◌∷◌, ◌++◌, length, Ok, Err, IsTrue, IfOk, OnOk, IsErrOf};
 ghost use Rattle.gem_io.specs.Faults.{HasRisen, HasCause};
 ghost use Rattle.gem_record.specs.declared.effect.Effect.{Effect};
 ghost use Rattle.gem_disk.specs.declared.disk.Which.TheVariants as which;
@@ -8,7 +8,7 @@ ghost use Rattle.gem_disk.specs.Runs.{LeavesOnly};
 ghost use Rattle.tran_log.specs.declared.fault.LogRule.{LogRule};
 ghost use Rattle.tran_log.specs.Log.{log_of};
 ghost use Rattle.tran_log.specs.Reads.{GivesLog, EndsAt};
-ghost use Rattle.tran_log.specs.Resting.{IsAtRest, Holds, AllHold, MayAppend, HoldsEither, HoldsOrNone};
+ghost use Rattle.tran_log.specs.Resting.{SameExtent, IsAtRest, Holds, AllHold, MayAppend, HoldsEither, HoldsOrNone};
 
 use crate::fault::LogFault;
 use crate::read::read_log;
@@ -17,6 +17,8 @@ use gem_disk::{Disk, Which};
 use gem_io::Failed;
 use gem_record::Effect;
 use std::alloc::Global;
+use std::error::Error;
+use std::fmt;
 use std::marker::Model;
 
 /// A log on a disk. Its records stand on the disk alone; it knows where they end.
@@ -71,6 +73,7 @@ pub fn open_log<D: Disk>(alloc: Global, disk: &mut D) -> Result<(Log, Vec<Effect
         → log_of (reads (D.past disk.old) which.Log) ≡ Ok effects
         → AllHold (D.past disk.old) effects
         → LeavesOnly (D.past disk.old) (D.past disk.new) (Holds (D.past disk.old) effects) }
+    ensures extent { IsTrue D.tells → SameExtent (D.past disk.old) (D.past disk.new) }
     ensures failed { IsErrOf result LogFault.Disk
         → HasRisen (D.faults disk.old) (D.faults disk.new) }
     ensures later { D.faults disk.old ≤ D.faults disk.new }
@@ -102,6 +105,24 @@ pub enum AppendFault {
     Disk,
 }
 
+impl fmt::Display for AppendFault {
+    ghost use Rattle.std.specs.Prelude.{Some};
+    ghost use Rattle.tran_log.specs.FaultText.{append_text};
+
+    ghost output = { λ fault. Some (append_text fault) };
+
+    fn fmt<W: fmt::Write>(&self, f: &mut fmt::Formatter<W>) -> fmt::Result {
+        match *self {
+            AppendFault::Full { length, size } => {
+                write!(f, "the log of {length} bytes has no room for {size}")
+            }
+            AppendFault::Disk => f.write_str("disk fault"),
+        }
+    }
+}
+
+impl Error for AppendFault {}
+
 impl From<Failed> for AppendFault {
     ghost use Rattle.tran_log.specs.declared.log.AppendFault.TheVariants as faults;
 
@@ -113,14 +134,16 @@ impl From<Failed> for AppendFault {
 }
 
 impl Log {
-    /// Adds the record of this body, which `spell_body` gives. It makes four calls of the disk, and
-    /// takes no memory.
+    /// Adds the record of this body, which `spell_body` gives for the next number; a body that is
+    /// too long for any log may be of anything. It makes four calls of the disk, and takes no
+    /// memory.
     ///
     /// `Full`: exactly where the log's length and the body's exceed `LOG_LIMIT`; no call was made.
     /// `Disk`: the count of faults rose in this call; the log is opened anew before it is used.
     pub fn append<D: Disk>(&mut self, disk: &mut D, body: &[u8]) -> Result<(), AppendFault>
-        requires { IsTrue D.tells → (effects : List Effect) × (effect : Effect)
-            × MayAppend (D.past disk.old) self.old body.now effects effect }
+        requires { IsTrue D.tells → (LOG_LIMIT < self.old + 1 + length body.now)
+            ⊎ ((effects : List Effect) × (effect : Effect)
+            × MayAppend (D.past disk.old) self.old body.now effects effect) }
         ensures any_moment { (effects : List Effect) (effect : Effect) → IsTrue D.tells
             → MayAppend (D.past disk.old) self.old body.now effects effect
             → LeavesOnly (D.past disk.old) (D.past disk.new)
@@ -128,6 +151,8 @@ impl Log {
         ensures acknowledged { (effects : List Effect) (effect : Effect) → IsTrue D.tells
             → MayAppend (D.past disk.old) self.old body.now effects effect
             → OnOk result (IsAtRest (D.past disk.new) (effects ++ effect ∷ []) self.new) }
+        ensures extent { IsTrue D.tells
+            → SameExtent (D.past disk.old) (D.past disk.new) }
         ensures full { (size : ℕ) (bytes : ℕ) → IsErrOf result (AppendFault.Full size bytes)
             ↔ ((LOG_LIMIT < self.old + 1 + length body.now) × (size ≡ self.old + 1)
             × (bytes ≡ length body.now)) }
@@ -162,6 +187,8 @@ impl Log {
         ensures emptied { (effects : List Effect) → IsTrue D.tells
             → IsAtRest (D.past disk.old) effects self.old
             → OnOk result (IsAtRest (D.past disk.new) [] self.new) }
+        ensures extent { IsTrue D.tells
+            → SameExtent (D.past disk.old) (D.past disk.new) }
         ensures untouched { self.old ≡ 0 → disk.new ≡ disk.old }
         ensures empty { OnOk result (self.new ≡ 0) }
         ensures faults { HasCause (D.faults disk.old) (D.faults disk.new) result }

@@ -1,4 +1,4 @@
-use Rattle.tran_log.proofs.Through.{write_failed, sync_leaves}
+use Rattle.tran_log.proofs.Through.{write_failed, sync_leaves, sync_extent, write_extent}
 use Rattle.std.proofs.Common.{length}
 use Rattle.tran_log.proofs.writing.write_through.Goals as goal
 
@@ -10,3 +10,12 @@ pub returns-clause-any_moment : goal.returns-clause-any_moment
 returns-clause-any_moment g c tells durable = sync_leaves (g.D.Disk.past c.args.disk.now)
     (g.D.Disk.past c.write_at.new.self) (g.D.Disk.past c.sync.new.self) c.args.at c.args.bytes.now
     (c.requires tells) (c.in_ok-write_at.ensures.past tells) durable c.sync.result (c.sync.ensures.past tells)
+
+pub returns-in_err-write_at-clause-extent : goal.returns-in_err-write_at-clause-extent
+returns-in_err-write_at-clause-extent g c tells = write_extent (g.D.Disk.past c.args.disk.now)
+    (g.D.Disk.past c.write_at.new.self) c.args.at (length c.args.bytes.now) (c.in_err-write_at.ensures.past tells)
+
+pub returns-clause-extent : goal.returns-clause-extent
+returns-clause-extent g c tells = sync_extent (g.D.Disk.past c.args.disk.now)
+    (g.D.Disk.past c.write_at.new.self) (g.D.Disk.past c.sync.new.self) c.args.at c.args.bytes.now
+    (c.requires tells) (c.in_ok-write_at.ensures.past tells) c.sync.result (c.sync.ensures.past tells)
