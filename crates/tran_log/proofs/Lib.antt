@@ -4,3 +4,4 @@ mod Through
 mod Opening
 mod Appending
 mod Restarting
+mod Places
