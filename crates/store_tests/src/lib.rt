@@ -3,6 +3,7 @@
 //! No crate has tests of its own, as it would be proved once more with them.
 #![tactic(auto)]
 
+pub mod again;
 #[cfg(test)]
 mod tran_log_tests;
 #[cfg(test)]
