@@ -5,6 +5,8 @@
 
 pub mod again;
 #[cfg(test)]
+mod sink;
+#[cfg(test)]
 mod tran_log_tests;
 #[cfg(test)]
 mod untold;

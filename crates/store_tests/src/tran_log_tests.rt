@@ -1,13 +1,14 @@
 // The log: the example's bytes, appends and openings that stop, an emptied log that is used again,
 // and each byte of a log changed or cut off.
 use crate::again::add_two;
+use crate::sink::Sink;
 use crate::untold::Untold;
 use body_codec::read_effect;
 use gem_disk::Pick;
 use gem_record::Effect;
 use std::alloc::Global;
 use std::test::Fail;
-use tran_log::{Log, LogFault, LogRule, open_log, spell_body};
+use tran_log::{AppendFault, Log, LogFault, LogRule, open_log, spell_body};
 
 // The effect that sets the counter 1:3, of the class 0:19 and in the segment 0:30, to 20.
 const EFFECT: &[u8] = b"\x01\0\0\0\x03\0\0\x01\0\0\0\0\x13\0\0\0\0\0\0\0\x1e\0\0\0\0\0\0\0\
@@ -247,5 +248,45 @@ fn with_two(alloc: Global, one: u64, two: u64) -> Option<usize> {
 fn two_added(rt: HostRuntime) -> Result<(), Fail> {
     assert_eq!(rt; with_two(rt.alloc(), 0, 1), Some(2));
     assert_eq!(rt; with_two(rt.alloc(), 5, 7), None);
+    Ok(())
+}
+
+const MEBIBYTE: u64 = 1 << 20;
+
+fn full(length: u64, size: u64) -> Result<(), AppendFault> {
+    Err(AppendFault::Full { length, size })
+}
+
+// A log behind so many bodies of this length.
+fn behind_bodies(disk: &mut Sink, mut log: Log, count: u64, body: &[u8]) -> Option<Log> {
+    for _ in 0..count {
+        if log.append(disk, body).is_err() {
+            return None;
+        }
+    }
+    Some(log)
+}
+
+// Whether a log is filled up to 67,108,864 bytes and no further, and takes a shorter record after
+// one that had no room.
+fn is_filled(alloc: Global) -> Result<bool, Fail> {
+    let mut disk = Sink;
+    let mut body = vec![in alloc; 0; MEBIBYTE as usize]?;
+    let Ok(opened) = open_log(alloc, &mut disk) else {
+        return Ok(false);
+    };
+    let Some(mut log) = behind_bodies(&mut disk, opened.0, 63, &body) else {
+        return Ok(false);
+    };
+    let above = log.append(&mut disk, &body);
+    body.truncate(MEBIBYTE as usize - 1);
+    let last = log.append(&mut disk, &body);
+    let more = log.append(&mut disk, b"\0");
+    Ok(above == full(66_060_289, MEBIBYTE) && last == Ok(()) && more == full(67_108_864, 1))
+}
+
+#[test]
+fn filled_log(rt: HostRuntime) -> Result<(), Fail> {
+    assert!(rt; is_filled(rt.alloc())?);
     Ok(())
 }
