@@ -1,8 +1,11 @@
-//! Room: store. Tests `tran_log`.
+//! Room: store. Tests `tran_log`, and shows what a log promises over several calls.
 //!
 //! No crate has tests of its own, as it would be proved once more with them.
 #![tactic(auto)]
 
+pub mod again;
+#[cfg(test)]
+mod sink;
 #[cfg(test)]
 mod tran_log_tests;
 #[cfg(test)]

@@ -1,9 +1,14 @@
-// The log: the example's bytes, appends that stop, and each byte of a log changed or cut off.
+// The log: the example's bytes, appends and openings that stop, an emptied log that is used again,
+// and each byte of a log changed or cut off.
+use crate::again::add_two;
+use crate::sink::Sink;
 use crate::untold::Untold;
+use body_codec::read_effect;
 use gem_disk::Pick;
+use gem_record::Effect;
 use std::alloc::Global;
 use std::test::Fail;
-use tran_log::{Log, LogFault, LogRule, open_log, spell_body};
+use tran_log::{AppendFault, Log, LogFault, LogRule, open_log, spell_body};
 
 // The effect that sets the counter 1:3, of the class 0:19 and in the segment 0:30, to 20.
 const EFFECT: &[u8] = b"\x01\0\0\0\x03\0\0\x01\0\0\0\0\x13\0\0\0\0\0\0\0\x1e\0\0\0\0\0\0\0\
@@ -165,5 +170,123 @@ fn appends_that_stop(rt: HostRuntime) -> Result<(), Fail> {
     for calls in 0..=4 {
         assert!(rt; is_all_or_none(rt.alloc(), calls)?, "{calls}");
     }
+    Ok(())
+}
+
+// Whether a log of one byte at most is opened in so many calls of the disk, to one closed gate, and
+// opens without a record after a crash.
+fn is_opened_small(alloc: Global, log: Vec<u8>, calls: u64, pick: Pick) -> Result<bool, Fail> {
+    let mut disk = Untold::new(log, Vec::new(alloc));
+    disk.stop_after(calls);
+    let is_open = open_disk(alloc, &mut disk) == Opened::Records(0);
+    let images = disk.crash(pick)?;
+    let is_closed = images.log.starts_with(b"\0") && images.log.len() == 1;
+    let is_small = open_bytes(alloc, images.log) == Opened::Records(0);
+    Ok(is_small && is_open == (calls >= 5) && (is_closed || !is_open))
+}
+
+// The same of the three that tell most: no byte, a closed gate and an open one.
+fn are_opened_small(alloc: Global, calls: u64, pick: Pick) -> Result<bool, Fail> {
+    let none = is_opened_small(alloc, Vec::new(alloc), calls, pick)?;
+    let closed = is_opened_small(alloc, vec![in alloc; 0]?, calls, pick)?;
+    let open = is_opened_small(alloc, vec![in alloc; 1]?, calls, pick)?;
+    Ok(none && closed && open)
+}
+
+#[test]
+fn small_logs(rt: HostRuntime) -> Result<(), Fail> {
+    for calls in 0..=5 {
+        assert!(rt; are_opened_small(rt.alloc(), calls, Pick::Old)?, "{calls}");
+        assert!(rt; are_opened_small(rt.alloc(), calls, Pick::New)?, "{calls}");
+        assert!(rt;
+            are_opened_small(rt.alloc(), calls, Pick::Torn(1))?,
+            "{calls}"
+        );
+    }
+    Ok(())
+}
+
+// Whether a log of two records, once emptied, holds none, and after an append over the first of
+// them that one alone.
+fn is_used_again(alloc: Global) -> Result<bool, Fail> {
+    let mut disk = Untold::new(log_bytes(alloc, 2)?, Vec::new(alloc));
+    let body = spell_body(alloc, 9, EFFECT)?;
+    let Ok(opened) = open_log(alloc, &mut disk) else {
+        return Ok(false);
+    };
+    let mut log = opened.0;
+    let is_emptied = log.restart_empty(&mut disk).is_ok();
+    let emptied = open_disk(alloc, &mut disk);
+    let is_added = log.append(&mut disk, &body).is_ok();
+    let added = open_disk(alloc, &mut disk);
+    Ok(is_emptied && emptied == Opened::Records(0) && is_added && added == Opened::Records(1))
+}
+
+#[test]
+fn emptied_log(rt: HostRuntime) -> Result<(), Fail> {
+    assert!(rt; is_used_again(rt.alloc())?);
+    Ok(())
+}
+
+fn effect_of(alloc: Global, number: u64) -> Option<Effect> {
+    match read_effect(alloc, EFFECT, number) {
+        Ok((effect, _)) => Some(effect),
+        Err(_) => None,
+    }
+}
+
+// How many records a log has to which the commits of these numbers were added.
+fn with_two(alloc: Global, one: u64, two: u64) -> Option<usize> {
+    let mut disk = Untold::new(Vec::new(alloc), Vec::new(alloc));
+    let one = effect_of(alloc, one)?;
+    let two = effect_of(alloc, two)?;
+    let found = add_two(alloc, &mut disk, &one, &two).ok()?;
+    Some(found.len())
+}
+
+#[test]
+fn two_added(rt: HostRuntime) -> Result<(), Fail> {
+    assert_eq!(rt; with_two(rt.alloc(), 0, 1), Some(2));
+    assert_eq!(rt; with_two(rt.alloc(), 5, 7), None);
+    Ok(())
+}
+
+const MEBIBYTE: u64 = 1 << 20;
+
+fn full(length: u64, size: u64) -> Result<(), AppendFault> {
+    Err(AppendFault::Full { length, size })
+}
+
+// A log behind so many bodies of this length.
+fn behind_bodies(disk: &mut Sink, mut log: Log, count: u64, body: &[u8]) -> Option<Log> {
+    for _ in 0..count {
+        if log.append(disk, body).is_err() {
+            return None;
+        }
+    }
+    Some(log)
+}
+
+// Whether a log is filled up to 67,108,864 bytes and no further, and takes a shorter record after
+// one that had no room.
+fn is_filled(alloc: Global) -> Result<bool, Fail> {
+    let mut disk = Sink;
+    let mut body = vec![in alloc; 0; MEBIBYTE as usize]?;
+    let Ok(opened) = open_log(alloc, &mut disk) else {
+        return Ok(false);
+    };
+    let Some(mut log) = behind_bodies(&mut disk, opened.0, 63, &body) else {
+        return Ok(false);
+    };
+    let above = log.append(&mut disk, &body);
+    body.truncate(MEBIBYTE as usize - 1);
+    let last = log.append(&mut disk, &body);
+    let more = log.append(&mut disk, b"\0");
+    Ok(above == full(66_060_289, MEBIBYTE) && last == Ok(()) && more == full(67_108_864, 1))
+}
+
+#[test]
+fn filled_log(rt: HostRuntime) -> Result<(), Fail> {
+    assert!(rt; is_filled(rt.alloc())?);
     Ok(())
 }

@@ -1,6 +1,7 @@
-mod Walks
-mod Again
-mod Through
-mod Opening
-mod Appending
-mod Restarting
+pub mod Walks
+pub mod Again
+pub mod Through
+pub mod Opening
+pub mod Appending
+pub mod Restarting
+pub mod Places

@@ -64,6 +64,15 @@ write_failed old new at n durable (inl same) =
 write_failed old new at n durable (inr (now, torn, is)) =
     subst (λ (p : Past). LeavesOnly old p (IsTornAt old at n)) (sym is) (some_written old at n durable now)
 
+-- what the log reads as, failed or not
+pub write_torn : (old new : Past) (at n : ℕ)
+    → (new ≡ old) ⊎ ((now : List ℕ) × Torn at n (reads old Log) now × (new ≡ stepped old Log (Wrote at n) now))
+    → Torn at n (reads old Log) (reads new Log)
+write_torn old new at n (inl same) =
+    subst (λ (p : Past). Torn at n (reads old Log) (reads p Log)) (sym same) (torn_none at n (reads old Log))
+write_torn old new at n (inr (now, torn, is)) =
+    subst (λ (p : Past). Torn at n (reads old Log) (reads p Log)) (sym is) torn
+
 module _ (old middle new : Past) (at : ℕ) (bytes : List ℕ) (inside : at ≤ length (reads old Log))
     (written : middle ≡ stepped old Log (Wrote at (length bytes)) (placed at bytes (reads old Log))) where
   abbrev all_torn : Past → Type 0
@@ -79,6 +88,14 @@ module _ (old middle new : Past) (at : ℕ) (bytes : List ℕ) (inside : at ≤ 
   sync_writes (Ok x) is = subst (λ (p : Past). IsWritten at bytes old p)
       (sym (is ∙ ap (λ (p : Past). stepped p Log Synced (reads p Log)) written)) (is_written old at bytes inside)
   sync_writes (Err x) is = tt
+
+  abbrev reads_torn : Past → Type 0
+  reads_torn p = Torn at (length bytes) (reads old Log) (reads p Log)
+
+  pub sync_torn : {T E : Type 0} → (result : Result T E) → Syncs Log middle result new → reads_torn new
+  sync_torn (Ok x) is = subst reads_torn (sym (is ∙ ap (λ (p : Past). stepped p Log Synced (reads p Log)) written))
+      (torn_by_placing at bytes (reads old Log) inside)
+  sync_torn (Err x) is = subst reads_torn (sym (is ∙ written)) (torn_by_placing at bytes (reads old Log) inside)
 
   pub sync_extent : {T E : Type 0} → (result : Result T E) → Syncs Log middle result new → SameExtent old new
   sync_extent (Ok x) is = ap (λ (p : Past). reads p Extent) (is ∙ ap (λ (p : Past). stepped p Log Synced (reads p Log)) written)

@@ -151,7 +151,7 @@ pub records_more : (last : Option ℕ) (effects : List Effect) (effect : Effect)
 records_more last [] effect are next = (next, tt)
 records_more last (first ∷ effects) effect are next = (are.0, records_more (Some first.number) effects effect are.1 next)
 
-last_more : (last : Option ℕ) (effects : List Effect) (effect : Effect)
+pub last_more : (last : Option ℕ) (effects : List Effect) (effect : Effect)
     → last_number last (effects ++ effect ∷ []) ≡ Some effect.number
 last_more last [] effect = refl
 last_more last (first ∷ effects) effect = last_more (Some first.number) effects effect

@@ -25,6 +25,15 @@ pub record Holds (past : Past) (effects : List Effect) (images : Files) : Type 0
   pub log : log_of images.log ≡ Ok effects
   pub extent : FileImages past.first past.steps Extent images.extent
 
+-- a crash leaves what the log read as, and of the extent what it might have left before
+pub record HoldsAsRead (past : Past) (images : Files) : Type 0 where
+  pub log : log_of images.log ≡ log_of (reads past Log)
+  pub extent : FileImages past.first past.steps Extent images.extent
+
+-- a crash leaves what it might have left before, or a log that holds what this one read as
+abbrev pub IsOldOrRead : Past → Files → Type 0
+IsOldOrRead past images = CrashImages past images ⊎ HoldsAsRead past images
+
 -- at this moment a crash leaves these effects in the log
 abbrev pub AllHold : Past → List Effect → Type 0
 AllHold past effects = (images : Files) → CrashImages past images → log_of images.log ≡ Ok effects

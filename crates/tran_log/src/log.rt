@@ -8,7 +8,7 @@ ghost use Rattle.gem_disk.specs.Runs.{LeavesOnly};
 ghost use Rattle.tran_log.specs.declared.fault.LogRule.{LogRule};
 ghost use Rattle.tran_log.specs.Log.{log_of};
 ghost use Rattle.tran_log.specs.Reads.{GivesLog, EndsAt};
-ghost use Rattle.tran_log.specs.Resting.{SameExtent, IsAtRest, Holds, AllHold, MayAppend, HoldsEither, HoldsOrNone};
+ghost use Rattle.tran_log.specs.Resting.{SameExtent, IsAtRest, Holds, IsOldOrRead, AllHold, MayAppend, HoldsEither, HoldsOrNone};
 
 use crate::fault::LogFault;
 use crate::read::read_log;
@@ -60,7 +60,11 @@ const CLOSED: &[u8] = &[0];
 const OPEN: &[u8] = &[1];
 
 /// Opens the log of a disk: gives the effects of its records, in their order. It begins with a
-/// sync, and brings a log of one byte at most to the state of one without records.
+/// sync, and brings a log of one byte at most to the state of one without records. A longer log
+/// reads as before, whatever the answer is.
+///
+/// A crash meanwhile leaves what it might have left before, or a log that holds what this one read
+/// as.
 ///
 /// `NotLog`: the bytes are no log; the place and the rule are those of its first fault. `Disk`: the
 /// count of faults rose in this call. `NoMemory` may come in place of any answer.
@@ -73,6 +77,14 @@ pub fn open_log<D: Disk>(alloc: Global, disk: &mut D) -> Result<(Log, Vec<Effect
         → log_of (reads (D.past disk.old) which.Log) ≡ Ok effects
         → AllHold (D.past disk.old) effects
         → LeavesOnly (D.past disk.old) (D.past disk.new) (Holds (D.past disk.old) effects) }
+    ensures each_image { IsTrue D.tells → LeavesOnly (D.past disk.old) (D.past disk.new)
+        (IsOldOrRead (D.past disk.old)) }
+    ensures kept { IsTrue D.tells → 1 < length (reads (D.past disk.old) which.Log)
+        → reads (D.past disk.new) which.Log ≡ reads (D.past disk.old) which.Log }
+    ensures short { IsTrue D.tells → length (reads (D.past disk.old) which.Log) ≤ 1
+        → length (reads (D.past disk.new) which.Log) ≤ 1 }
+    ensures closed { IsTrue D.tells → length (reads (D.past disk.old) which.Log) ≤ 1
+        → OnOk result (reads (D.past disk.new) which.Log ≡ 0 ∷ []) }
     ensures extent { IsTrue D.tells → SameExtent (D.past disk.old) (D.past disk.new) }
     ensures failed { IsErrOf result LogFault.Disk
         → HasRisen (D.faults disk.old) (D.faults disk.new) }
@@ -156,6 +168,8 @@ impl Log {
         ensures full { (size : ℕ) (bytes : ℕ) → IsErrOf result (AppendFault.Full size bytes)
             ↔ ((LOG_LIMIT < self.old + 1 + length body.now) × (size ≡ self.old + 1)
             × (bytes ≡ length body.now)) }
+        ensures untouched { (size : ℕ) (bytes : ℕ) → IsErrOf result (AppendFault.Full size bytes)
+            → (disk.new ≡ disk.old) × (self.new ≡ self.old) }
         ensures longer { OnOk result (self.new ≡ self.old + length body.now) }
         ensures failed { IsErrOf result AppendFault.Disk
             → HasRisen (D.faults disk.old) (D.faults disk.new) }

@@ -2,7 +2,7 @@
 ghost use Rattle.std.specs.Prelude.{◌≡◌, ◌≤◌, length, IsTrue, OnOk};
 ghost use Rattle.gem_io.specs.Faults.{HasCause};
 ghost use Rattle.gem_disk.specs.declared.disk.Which.TheVariants as which;
-ghost use Rattle.gem_disk.specs.Disk.{reads};
+ghost use Rattle.gem_disk.specs.Disk.{reads, Torn};
 ghost use Rattle.gem_disk.specs.Runs.{LeavesOnly};
 ghost use Rattle.tran_log.specs.Resting.{SameExtent, IsDurable, IsTornAt, IsWritten};
 
@@ -17,6 +17,8 @@ pub(crate) fn write_through<D: Disk>(disk: &mut D, at: u64, bytes: &[u8]) -> Res
         (IsTornAt (D.past disk.old) at (length bytes.now)) }
     ensures written { IsTrue D.tells → OnOk result
         (IsWritten at bytes.now (D.past disk.old) (D.past disk.new)) }
+    ensures torn { IsTrue D.tells → Torn at (length bytes.now)
+        (reads (D.past disk.old) which.Log) (reads (D.past disk.new) which.Log) }
     ensures extent { IsTrue D.tells → SameExtent (D.past disk.old) (D.past disk.new) }
     ensures faults { HasCause (D.faults disk.old) (D.faults disk.new) result }
 {

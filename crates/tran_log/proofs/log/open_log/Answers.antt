@@ -3,26 +3,93 @@ use Rattle.std.proofs.lemmas.Result.{err_from_is_err_and}
 use Rattle.gem_disk.specs.declared.disk.Which.TheVariants.{Log}
 use Rattle.gem_disk.specs.Disk.{reads}
 use Rattle.gem_disk.specs.Runs.{LeavesOnly}
-use Rattle.tran_log.specs.Resting.{IsDurable, Holds, IsTornAt}
-use Rattle.tran_log.proofs.Opening.{fault_is, synced, sync_durable, before_sync, after_sync, while_closed}
+use Rattle.tran_log.specs.Resting.{IsDurable, IsOldOrRead, IsTornAt}
+use Rattle.tran_log.proofs.Opening.{fault_is, synced, sync_durable, before_sync, after_sync, while_closed, all_held, same_length, torn_short, one_gate}
 use Rattle.tran_log.proofs.log.open_log.Goals as goal
 
 pub returns-in_err-sync-clause-any_moment : goal.returns-in_err-sync-clause-any_moment
 returns-in_err-sync-clause-any_moment g c effects tells read all =
     let old = g.D.Disk.past c.args.disk.now in
-    subst (λ p. LeavesOnly old p (Holds old effects)) (sym (c.in_err-sync.ensures.past tells)) (before_sync old effects read all)
+    let new = g.D.Disk.past c.sync.new.self in
+    let same : new ≡ old = c.in_err-sync.ensures.past tells in
+    all_held old effects read all new (subst (λ p. LeavesOnly old p (IsOldOrRead old)) (sym same) (before_sync old))
+
+pub returns-in_err-sync-clause-each_image : goal.returns-in_err-sync-clause-each_image
+returns-in_err-sync-clause-each_image g c tells =
+    let old = g.D.Disk.past c.args.disk.now in
+    let new = g.D.Disk.past c.sync.new.self in
+    let same : new ≡ old = c.in_err-sync.ensures.past tells in
+    subst (λ p. LeavesOnly old p (IsOldOrRead old)) (sym same) (before_sync old)
+
+pub returns-in_err-sync-clause-kept : goal.returns-in_err-sync-clause-kept
+returns-in_err-sync-clause-kept g c tells long =
+    let old = g.D.Disk.past c.args.disk.now in
+    let new = g.D.Disk.past c.sync.new.self in
+    let same : new ≡ old = c.in_err-sync.ensures.past tells in
+    ap (λ p. reads p Log) same
+
+pub returns-in_err-sync-clause-short : goal.returns-in_err-sync-clause-short
+returns-in_err-sync-clause-short g c tells small =
+    let old = g.D.Disk.past c.args.disk.now in
+    let new = g.D.Disk.past c.sync.new.self in
+    let same : new ≡ old = c.in_err-sync.ensures.past tells in
+    omega (arith, small, ap (λ p. length (reads p Log)) same)
 
 pub returns-in_err-bytes-clause-any_moment : goal.returns-in_err-bytes-clause-any_moment
 returns-in_err-bytes-clause-any_moment g c effects tells read all =
     let old = g.D.Disk.past c.args.disk.now in
-    let same : g.D.Disk.past c.read_all.new.disk ≡ synced old = c.in_err-bytes.ensures.past tells ∙ c.in_ok-sync.ensures.past tells in
-    subst (λ p. LeavesOnly old p (Holds old effects)) (sym same) (after_sync old effects read all)
+    let new = g.D.Disk.past c.read_all.new.disk in
+    let same : new ≡ synced old = c.in_err-bytes.ensures.past tells ∙ c.in_ok-sync.ensures.past tells in
+    all_held old effects read all new (subst (λ p. LeavesOnly old p (IsOldOrRead old)) (sym same) (after_sync old))
+
+pub returns-in_err-bytes-clause-each_image : goal.returns-in_err-bytes-clause-each_image
+returns-in_err-bytes-clause-each_image g c tells =
+    let old = g.D.Disk.past c.args.disk.now in
+    let new = g.D.Disk.past c.read_all.new.disk in
+    let same : new ≡ synced old = c.in_err-bytes.ensures.past tells ∙ c.in_ok-sync.ensures.past tells in
+    subst (λ p. LeavesOnly old p (IsOldOrRead old)) (sym same) (after_sync old)
+
+pub returns-in_err-bytes-clause-kept : goal.returns-in_err-bytes-clause-kept
+returns-in_err-bytes-clause-kept g c tells long =
+    let old = g.D.Disk.past c.args.disk.now in
+    let new = g.D.Disk.past c.read_all.new.disk in
+    let same : new ≡ synced old = c.in_err-bytes.ensures.past tells ∙ c.in_ok-sync.ensures.past tells in
+    ap (λ p. reads p Log) same
+
+pub returns-in_err-bytes-clause-short : goal.returns-in_err-bytes-clause-short
+returns-in_err-bytes-clause-short g c tells small =
+    let old = g.D.Disk.past c.args.disk.now in
+    let new = g.D.Disk.past c.read_all.new.disk in
+    let same : new ≡ synced old = c.in_err-bytes.ensures.past tells ∙ c.in_ok-sync.ensures.past tells in
+    same_length old new same small
 
 pub returns-in_err-effects-clause-any_moment : goal.returns-in_err-effects-clause-any_moment
 returns-in_err-effects-clause-any_moment g c effects tells read all =
     let old = g.D.Disk.past c.args.disk.now in
-    let same : g.D.Disk.past c.read_all.new.disk ≡ synced old = c.in_ok-bytes.ensures.past tells ∙ c.in_ok-sync.ensures.past tells in
-    subst (λ p. LeavesOnly old p (Holds old effects)) (sym same) (after_sync old effects read all)
+    let new = g.D.Disk.past c.read_all.new.disk in
+    let same : new ≡ synced old = c.in_ok-bytes.ensures.past tells ∙ c.in_ok-sync.ensures.past tells in
+    all_held old effects read all new (subst (λ p. LeavesOnly old p (IsOldOrRead old)) (sym same) (after_sync old))
+
+pub returns-in_err-effects-clause-each_image : goal.returns-in_err-effects-clause-each_image
+returns-in_err-effects-clause-each_image g c tells =
+    let old = g.D.Disk.past c.args.disk.now in
+    let new = g.D.Disk.past c.read_all.new.disk in
+    let same : new ≡ synced old = c.in_ok-bytes.ensures.past tells ∙ c.in_ok-sync.ensures.past tells in
+    subst (λ p. LeavesOnly old p (IsOldOrRead old)) (sym same) (after_sync old)
+
+pub returns-in_err-effects-clause-kept : goal.returns-in_err-effects-clause-kept
+returns-in_err-effects-clause-kept g c tells long =
+    let old = g.D.Disk.past c.args.disk.now in
+    let new = g.D.Disk.past c.read_all.new.disk in
+    let same : new ≡ synced old = c.in_ok-bytes.ensures.past tells ∙ c.in_ok-sync.ensures.past tells in
+    ap (λ p. reads p Log) same
+
+pub returns-in_err-effects-clause-short : goal.returns-in_err-effects-clause-short
+returns-in_err-effects-clause-short g c tells small =
+    let old = g.D.Disk.past c.args.disk.now in
+    let new = g.D.Disk.past c.read_all.new.disk in
+    let same : new ≡ synced old = c.in_ok-bytes.ensures.past tells ∙ c.in_ok-sync.ensures.past tells in
+    same_length old new same small
 
 pub returns-in_err-effects-clause-failed : goal.returns-in_err-effects-clause-failed
 returns-in_err-effects-clause-failed g c =
@@ -32,29 +99,120 @@ returns-in_err-effects-clause-failed g c =
 pub returns-then-len-gt1-clause-any_moment : goal.returns-then-len-gt1-clause-any_moment
 returns-then-len-gt1-clause-any_moment g c effects tells read all =
     let old = g.D.Disk.past c.args.disk.now in
-    let same : g.D.Disk.past c.read_all.new.disk ≡ synced old = c.in_ok-bytes.ensures.past tells ∙ c.in_ok-sync.ensures.past tells in
-    subst (λ p. LeavesOnly old p (Holds old effects)) (sym same) (after_sync old effects read all)
+    let new = g.D.Disk.past c.read_all.new.disk in
+    let same : new ≡ synced old = c.in_ok-bytes.ensures.past tells ∙ c.in_ok-sync.ensures.past tells in
+    all_held old effects read all new (subst (λ p. LeavesOnly old p (IsOldOrRead old)) (sym same) (after_sync old))
+
+pub returns-then-len-gt1-clause-each_image : goal.returns-then-len-gt1-clause-each_image
+returns-then-len-gt1-clause-each_image g c tells =
+    let old = g.D.Disk.past c.args.disk.now in
+    let new = g.D.Disk.past c.read_all.new.disk in
+    let same : new ≡ synced old = c.in_ok-bytes.ensures.past tells ∙ c.in_ok-sync.ensures.past tells in
+    subst (λ p. LeavesOnly old p (IsOldOrRead old)) (sym same) (after_sync old)
+
+pub returns-then-len-gt1-clause-kept : goal.returns-then-len-gt1-clause-kept
+returns-then-len-gt1-clause-kept g c tells long =
+    let old = g.D.Disk.past c.args.disk.now in
+    let new = g.D.Disk.past c.read_all.new.disk in
+    let same : new ≡ synced old = c.in_ok-bytes.ensures.past tells ∙ c.in_ok-sync.ensures.past tells in
+    ap (λ p. reads p Log) same
+
+pub returns-then-len-gt1-clause-short : goal.returns-then-len-gt1-clause-short
+returns-then-len-gt1-clause-short g c tells small =
+    let old = g.D.Disk.past c.args.disk.now in
+    let new = g.D.Disk.past c.read_all.new.disk in
+    let same : new ≡ synced old = c.in_ok-bytes.ensures.past tells ∙ c.in_ok-sync.ensures.past tells in
+    same_length old new same small
+
+pub returns-then-len-gt1-clause-closed : goal.returns-then-len-gt1-clause-closed
+returns-then-len-gt1-clause-closed g c tells small =
+    let old = g.D.Disk.past c.args.disk.now in
+    let bytes_are : c.in_ok-bytes.bytes.items ≡ reads old Log = c.in_ok-bytes.ensures.bytes tells
+    ∙ ap (λ p. reads p Log) (c.in_ok-sync.ensures.past tells) in
+    absurd (omega (arith, small, c.if-len-gt1.true, ap length bytes_are))
 
 pub returns-in_err-write_through-clause-any_moment : goal.returns-in_err-write_through-clause-any_moment
 returns-in_err-write_through-clause-any_moment g c effects tells read all =
     let old = g.D.Disk.past c.args.disk.now in
-    let same : g.D.Disk.past c.read_all.new.disk ≡ synced old = c.in_ok-bytes.ensures.past tells ∙ c.in_ok-sync.ensures.past tells in
+    let mid = g.D.Disk.past c.read_all.new.disk in
+    let new = g.D.Disk.past c.write_through.new.disk in
+    let same : mid ≡ synced old = c.in_ok-bytes.ensures.past tells ∙ c.in_ok-sync.ensures.past tells in
     let bytes_are : c.in_ok-bytes.bytes.items ≡ reads old Log = c.in_ok-bytes.ensures.bytes tells
     ∙ ap (λ p. reads p Log) (c.in_ok-sync.ensures.past tells) in
     let small : length (reads old Log) ≤ 1 = omega (arith, c.if-len-gt1.false, ap length bytes_are) in
+    let durable : IsDurable mid = subst IsDurable (sym same) (sync_durable old) in
+    all_held old effects read all new (while_closed old small new (subst (λ p. LeavesOnly p new (IsTornAt p 0 1)) same (c.in_err-write_through.ensures.any_moment tells durable)))
+
+pub returns-in_err-write_through-clause-each_image : goal.returns-in_err-write_through-clause-each_image
+returns-in_err-write_through-clause-each_image g c tells =
+    let old = g.D.Disk.past c.args.disk.now in
+    let mid = g.D.Disk.past c.read_all.new.disk in
     let new = g.D.Disk.past c.write_through.new.disk in
-    let durable : IsDurable (g.D.Disk.past c.read_all.new.disk) = subst IsDurable (sym same) (sync_durable old) in
-    while_closed old effects read all small new (subst (λ p. LeavesOnly p new (IsTornAt p 0 1)) same
-    (c.in_err-write_through.ensures.any_moment tells durable))
+    let same : mid ≡ synced old = c.in_ok-bytes.ensures.past tells ∙ c.in_ok-sync.ensures.past tells in
+    let bytes_are : c.in_ok-bytes.bytes.items ≡ reads old Log = c.in_ok-bytes.ensures.bytes tells
+    ∙ ap (λ p. reads p Log) (c.in_ok-sync.ensures.past tells) in
+    let small : length (reads old Log) ≤ 1 = omega (arith, c.if-len-gt1.false, ap length bytes_are) in
+    let durable : IsDurable mid = subst IsDurable (sym same) (sync_durable old) in
+    while_closed old small new (subst (λ p. LeavesOnly p new (IsTornAt p 0 1)) same (c.in_err-write_through.ensures.any_moment tells durable))
+
+pub returns-in_err-write_through-clause-kept : goal.returns-in_err-write_through-clause-kept
+returns-in_err-write_through-clause-kept g c tells long =
+    let old = g.D.Disk.past c.args.disk.now in
+    let bytes_are : c.in_ok-bytes.bytes.items ≡ reads old Log = c.in_ok-bytes.ensures.bytes tells
+    ∙ ap (λ p. reads p Log) (c.in_ok-sync.ensures.past tells) in
+    absurd (omega (arith, long, c.if-len-gt1.false, ap length bytes_are))
+
+pub returns-in_err-write_through-clause-short : goal.returns-in_err-write_through-clause-short
+returns-in_err-write_through-clause-short g c tells small =
+    let old = g.D.Disk.past c.args.disk.now in
+    let mid = g.D.Disk.past c.read_all.new.disk in
+    let new = g.D.Disk.past c.write_through.new.disk in
+    let same : mid ≡ synced old = c.in_ok-bytes.ensures.past tells ∙ c.in_ok-sync.ensures.past tells in
+    torn_short old new mid same small (c.in_err-write_through.ensures.torn tells)
 
 pub returns-clause-any_moment : goal.returns-clause-any_moment
 returns-clause-any_moment g c effects tells read all =
     let old = g.D.Disk.past c.args.disk.now in
-    let same : g.D.Disk.past c.read_all.new.disk ≡ synced old = c.in_ok-bytes.ensures.past tells ∙ c.in_ok-sync.ensures.past tells in
+    let mid = g.D.Disk.past c.read_all.new.disk in
+    let new = g.D.Disk.past c.write_through.new.disk in
+    let same : mid ≡ synced old = c.in_ok-bytes.ensures.past tells ∙ c.in_ok-sync.ensures.past tells in
     let bytes_are : c.in_ok-bytes.bytes.items ≡ reads old Log = c.in_ok-bytes.ensures.bytes tells
     ∙ ap (λ p. reads p Log) (c.in_ok-sync.ensures.past tells) in
     let small : length (reads old Log) ≤ 1 = omega (arith, c.if-len-gt1.false, ap length bytes_are) in
+    let durable : IsDurable mid = subst IsDurable (sym same) (sync_durable old) in
+    all_held old effects read all new (while_closed old small new (subst (λ p. LeavesOnly p new (IsTornAt p 0 1)) same (c.in_ok-write_through.ensures.any_moment tells durable)))
+
+pub returns-clause-each_image : goal.returns-clause-each_image
+returns-clause-each_image g c tells =
+    let old = g.D.Disk.past c.args.disk.now in
+    let mid = g.D.Disk.past c.read_all.new.disk in
     let new = g.D.Disk.past c.write_through.new.disk in
-    let durable : IsDurable (g.D.Disk.past c.read_all.new.disk) = subst IsDurable (sym same) (sync_durable old) in
-    while_closed old effects read all small new (subst (λ p. LeavesOnly p new (IsTornAt p 0 1)) same
-    (c.in_ok-write_through.ensures.any_moment tells durable))
+    let same : mid ≡ synced old = c.in_ok-bytes.ensures.past tells ∙ c.in_ok-sync.ensures.past tells in
+    let bytes_are : c.in_ok-bytes.bytes.items ≡ reads old Log = c.in_ok-bytes.ensures.bytes tells
+    ∙ ap (λ p. reads p Log) (c.in_ok-sync.ensures.past tells) in
+    let small : length (reads old Log) ≤ 1 = omega (arith, c.if-len-gt1.false, ap length bytes_are) in
+    let durable : IsDurable mid = subst IsDurable (sym same) (sync_durable old) in
+    while_closed old small new (subst (λ p. LeavesOnly p new (IsTornAt p 0 1)) same (c.in_ok-write_through.ensures.any_moment tells durable))
+
+pub returns-clause-kept : goal.returns-clause-kept
+returns-clause-kept g c tells long =
+    let old = g.D.Disk.past c.args.disk.now in
+    let bytes_are : c.in_ok-bytes.bytes.items ≡ reads old Log = c.in_ok-bytes.ensures.bytes tells
+    ∙ ap (λ p. reads p Log) (c.in_ok-sync.ensures.past tells) in
+    absurd (omega (arith, long, c.if-len-gt1.false, ap length bytes_are))
+
+pub returns-clause-short : goal.returns-clause-short
+returns-clause-short g c tells small =
+    let old = g.D.Disk.past c.args.disk.now in
+    let mid = g.D.Disk.past c.read_all.new.disk in
+    let new = g.D.Disk.past c.write_through.new.disk in
+    let same : mid ≡ synced old = c.in_ok-bytes.ensures.past tells ∙ c.in_ok-sync.ensures.past tells in
+    torn_short old new mid same small (c.in_ok-write_through.ensures.torn tells)
+
+pub returns-clause-closed : goal.returns-clause-closed
+returns-clause-closed g c tells small =
+    let old = g.D.Disk.past c.args.disk.now in
+    let mid = g.D.Disk.past c.read_all.new.disk in
+    let new = g.D.Disk.past c.write_through.new.disk in
+    let same : mid ≡ synced old = c.in_ok-bytes.ensures.past tells ∙ c.in_ok-sync.ensures.past tells in
+    one_gate old mid new same small (c.in_ok-write_through.ensures.written tells)

@@ -1,4 +1,4 @@
-use Rattle.tran_log.proofs.Through.{write_failed, sync_leaves, sync_extent, write_extent}
+use Rattle.tran_log.proofs.Through.{write_failed, write_torn, sync_leaves, sync_torn, sync_extent, write_extent}
 use Rattle.std.proofs.Common.{length}
 use Rattle.tran_log.proofs.writing.write_through.Goals as goal
 
@@ -17,5 +17,14 @@ returns-in_err-write_at-clause-extent g c tells = write_extent (g.D.Disk.past c.
 
 pub returns-clause-extent : goal.returns-clause-extent
 returns-clause-extent g c tells = sync_extent (g.D.Disk.past c.args.disk.now)
+    (g.D.Disk.past c.write_at.new.self) (g.D.Disk.past c.sync.new.self) c.args.at c.args.bytes.now
+    (c.requires tells) (c.in_ok-write_at.ensures.past tells) c.sync.result (c.sync.ensures.past tells)
+
+pub returns-in_err-write_at-clause-torn : goal.returns-in_err-write_at-clause-torn
+returns-in_err-write_at-clause-torn g c tells = write_torn (g.D.Disk.past c.args.disk.now)
+    (g.D.Disk.past c.write_at.new.self) c.args.at (length c.args.bytes.now) (c.in_err-write_at.ensures.past tells)
+
+pub returns-clause-torn : goal.returns-clause-torn
+returns-clause-torn g c tells = sync_torn (g.D.Disk.past c.args.disk.now)
     (g.D.Disk.past c.write_at.new.self) (g.D.Disk.past c.sync.new.self) c.args.at c.args.bytes.now
     (c.requires tells) (c.in_ok-write_at.ensures.past tells) c.sync.result (c.sync.ensures.past tells)
