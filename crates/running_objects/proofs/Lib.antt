@@ -1,0 +1,3 @@
+pub mod Running
+pub mod Edits
+pub mod Puts

@@ -1,0 +1,5 @@
+pub mod Seen
+pub mod Ran
+pub mod Acted
+pub mod Codes
+pub mod Fitting

@@ -1,0 +1,10 @@
+//! Room: running. Gives what a running transaction may do to objects, for code that is written once
+//! over several states. Knows nothing of the Stone and of other sessions.
+#![tactic(auto)]
+
+pub mod laws;
+mod objects;
+mod stop;
+
+pub use objects::Objects;
+pub use stop::Stop;
