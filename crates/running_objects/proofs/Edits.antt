@@ -1,16 +1,15 @@
 -- What the guard asks of an object whose body is edited, where all objects that are seen are sound.
-use Rattle.std.proofs.Common.{◌≡◌, ◌∙◌, refl, sym, ap, ap₂, subst, ℕ, zero, suc, ◌+◌, ◌^◌, ◌<◌, ◌≤◌, Bool, true, false, ◌&&◌, ◌||◌, cond, nat_eq, nat_lt, nat_le, Option, Some, None, List, [], ◌∷◌, ◌++◌, length, take, drop, slice_set, option_map, arith}
+use Rattle.std.proofs.Common.{◌≡◌, ◌∙◌, refl, sym, ap, ap₂, ℕ, suc, ◌+◌, ◌<◌, Bool, true, false, ◌&&◌, ◌||◌, cond, nat_eq, nat_lt, nat_le, Option, Some, None, List, [], ◌∷◌, ◌++◌, length, take, drop, slice_set, option_map, arith}
 use Rattle.std.proofs.Math.Path.{fun_ext}
 use Rattle.std.proofs.lemmas.Bool.{and_parts, and_from, eqb-true, eq-eqb}
 use Rattle.std.proofs.lemmas.List.{length-set, set_split, take-append-drop}
 use Rattle.std.proofs.lemmas.List.Folds.{list_all-append}
-use Rattle.std.specs.List.{list_all, filter_map}
+use Rattle.std.specs.List.{list_all}
 use Rattle.std.specs.Cmp.Lexicographic.{pointwise}
 use Rattle.std.specs.Prelude.{bytes_eq}
 use Rattle.texts.specs.Bytes.{Bytes as Text}
-use Rattle.gem_object.specs.Edits.{with_slot}
 use Rattle.gem_object.specs.Kinds as kinds
-use Rattle.gem_object.specs.References.{reference_of, names_in as names_in_values, names_in_pairs, names_in_body}
+use Rattle.gem_object.specs.References.{names_in as names_in_values, names_in_pairs, names_in_body}
 use Rattle.gem_object.specs.declared.kind.Kind.{Kind}
 use Rattle.gem_object.specs.declared.kind.Kind.TheVariants as kind
 use Rattle.gem_object.specs.declared.value.Value.{Value}
@@ -20,10 +19,10 @@ use Rattle.gem_object.specs.declared.body.Body.TheVariants as body
 use Rattle.gem_image.specs.Image.{Contents}
 use Rattle.gem_world.specs.World.{Setting, World, shown}
 use Rattle.gem_world.specs.Changes.{with_body}
-use Rattle.gem_sound.specs.Kernel.{KernelBody, a_class, a_dictionary, a_segment, a_user, no_slots, kernel_body, has_kind}
+use Rattle.gem_sound.specs.Kernel.{KernelBody, a_class, a_dictionary, a_segment, a_user, no_slots, kernel_body}
 use Rattle.gem_sound.specs.Sound.{names_in}
-use Rattle.object_programs.specs.Fixed.{BodyKind, PlainKind, BytesKind, DictKind, ClassKind, SegmentKind, UserKind, CounterKind, BagKind, RcDictKind, QueueKind, body_kind, ClassPart, class_part, Fixed, fixed_of, fixed_by, same_body_kind, same_kind, same_number, same_part, same_fixed}
-use Rattle.object_programs.specs.Guard.{Parts, with_part, parts_with, holds_of, is_known, is_segment_at, names_at, has_slots, is_class_object, is_transcript, accepts_by, accepts, named_fit, kernel_fits_by, kernel_fits, place_fits, fits, may_replace}
+use Rattle.object_programs.specs.Fixed.{BodyKind, PlainKind, BytesKind, DictKind, ClassKind, SegmentKind, UserKind, CounterKind, BagKind, RcDictKind, QueueKind, ClassPart, class_part, Fixed, fixed_of, fixed_by, same_body_kind, same_number, same_part, same_fixed}
+use Rattle.object_programs.specs.Guard.{Parts, parts_with, holds_of, is_known, is_segment_at, names_at, has_slots, is_transcript, accepts_by, accepts, named_fit, kernel_fits_by, kernel_fits, place_fits, fits, may_replace}
 use Rattle.object_programs.specs.Methods.{methods_fit}
 use Rattle.object_programs.specs.Spelled.{is_plain_byte, is_storable, is_dictionary_body, is_spelled}
 use Rattle.object_programs.specs.Laws.{AreSound}

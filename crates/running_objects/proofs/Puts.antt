@@ -1,29 +1,28 @@
 -- What puts leave where all objects that are seen are sound: which names they lack, and what a put of the same body does.
-use Rattle.std.proofs.Common.{◌≡◌, ◌∙◌, refl, sym, ap, ap₂, subst, ℕ, zero, suc, ◌^◌, Bool, true, false, ◌&&◌, cond, nat_eq, nat_lt, Option, Some, None, List, [], ◌∷◌, ◌++◌, fold, is_some, option_map, Result, Ok, Err}
+use Rattle.std.proofs.Common.{◌≡◌, ◌∙◌, refl, sym, ap, ℕ, zero, suc, Bool, true, false, ◌&&◌, cond, nat_eq, nat_lt, Option, Some, None, List, [], ◌∷◌, ◌++◌, fold, is_some, option_map, Ok}
 use Rattle.std.proofs.lemmas.Bool.{false≢true, and_parts, and_from, eqb-true, eqb-false}
 use Rattle.std.specs.Ordering.{nat_cmp}
 use Rattle.std.specs.FinMap.{FinMap, get, insert}
 use Rattle.std.specs.List.{list_all}
-use Rattle.std.specs.Option.{option_or, option_to_list}
+use Rattle.std.specs.Option.{option_to_list}
 use Rattle.std.proofs.lemmas.List.Folds.{list_all-append}
 use Rattle.radix_pages.proofs.Tables.{same_keys, get-insert_same, get-insert_other}
-use Rattle.gem_object.specs.Kinds.{is_shared}
 use Rattle.gem_object.specs.References.{names_in_body}
 use Rattle.gem_object.specs.declared.body.Body.{Body}
 use Rattle.gem_object.specs.declared.body.Body.TheVariants as body
 use Rattle.gem_image.specs.Image.{Contents}
-use Rattle.gem_world.specs.World.{Setting, World, shown, is_made, before_changes, with_name}
+use Rattle.gem_world.specs.World.{Setting, World, shown, with_name}
 use Rattle.gem_world.specs.Changes.{with_body, put}
 use Rattle.gem_sound.specs.Sound.{names_in}
 use Rattle.object_programs.specs.Fixed.{ClassPart, class_part, Fixed, fixed_of, fixed_by}
-use Rattle.object_programs.specs.Guard.{Parts, parts_with, holds_of, is_there, is_known, asked_names, line_above, line_of_class, line_of_part, line_within, line_at, chain_limit, fits, may_change, may_replace}
-use Rattle.object_programs.specs.Atom.{Put, done, with_missing, touch_missing, replaced_where, edited_at, edited}
-use Rattle.object_programs.specs.Laws.{AreSound, answered, lacking}
+use Rattle.object_programs.specs.Guard.{Parts, holds_of, is_there, is_known, asked_names, line_above, line_of_class, line_of_part, line_within, line_at, chain_limit, fits, may_change, may_replace}
+use Rattle.object_programs.specs.Atom.{Put, with_missing, touch_missing, replaced_where, edited_at, edited}
+use Rattle.object_programs.specs.Laws.{AreSound, answered}
 use Rattle.object_programs.proofs.Worlds.{changed_shown}
-use Rattle.running_objects.specs.Seen.{Seen, object_at, IsSoundState}
+use Rattle.running_objects.specs.Seen.{Seen, IsSoundState}
 use Rattle.running_objects.specs.Acted.{Acted, Edited}
 use Rattle.running_objects.proofs.Running.{acted_says, seen_twice}
-use Rattle.running_objects.proofs.Edits.{parts_stay, replace_is}
+use Rattle.running_objects.proofs.Edits.{parts_stay}
 
 -- an object that is put where it stands changes nothing
 pub insert_same : (m : FinMap nat_cmp Contents) (k : ℕ) (v : Contents) → get m k ≡ Some v → insert m k v ≡ m

@@ -5,14 +5,14 @@ use Rattle.gem_object.specs.declared.value.Value.{Value}
 use Rattle.gem_object.specs.declared.body.Body.{Body}
 use Rattle.gem_image.specs.Image.{Contents}
 use Rattle.gem_world.specs.Access.{Access}
-use Rattle.gem_world.specs.World.{Setting, World}
+use Rattle.gem_world.specs.World.{Setting}
 use Rattle.object_programs.specs.Budget.{Budget}
 use Rattle.object_programs.specs.Local.{Local}
 use Rattle.object_programs.specs.Laws.{Falls, AreSound}
 use Rattle.object_programs.specs.Atom.{Atom, Ask, Put, says, refuses, Answer, Done, done}
 use Rattle.object_programs.specs.Run.{Run, give, fail, return_to, atom, seeing, become, and_then, ending, Ending, gives, returns, fails, State, Outcome, outcome_of, onward, perform}
 use Rattle.object_programs.specs.declared.fault.Fault.{Fault}
-use Rattle.object_programs.proofs.Kept.{Kept, kept}
+use Rattle.object_programs.proofs.Kept.{kept}
 use Rattle.object_programs.proofs.Falling.{budgets_fall}
 use Rattle.object_programs.proofs.Objects.{soundness_stays}
 use Rattle.running_objects.specs.Seen.{Seen, object_at, with_local, IsSoundState, Keeps}

@@ -1,12 +1,12 @@
 -- That a call did what an atom does. An atom leaves what is local, so nothing is said of it.
-use Rattle.std.specs.Prelude.{◌≡◌, ◌≤◌, ◌<◌, ◌+◌, ◌-◌, ◌^◌, ℕ, min, map, List, Option, Some, Result, Ok, Err, is_some}
+use Rattle.std.specs.Prelude.{◌≡◌, ◌-◌, ◌^◌, ℕ, min, map, List, Some, Result, Ok, Err}
 use Rattle.gem_object.specs.Sizes.{fields_size}
 use Rattle.gem_object.specs.declared.body.Body.{Body}
 use Rattle.gem_object.specs.declared.object.Object.{Object}
 use Rattle.gem_image.specs.Image.{Contents, contents_of}
 use Rattle.gem_world.specs.World.{next_name}
 use Rattle.gem_world.specs.Access.{Access}
-use Rattle.object_programs.specs.Fixed.{Fixed, fixed_by}
+use Rattle.object_programs.specs.Fixed.{fixed_by}
 use Rattle.object_programs.specs.Atom.{Atom, Ask, Own, Kind, Put, Make, says, refuses, Done, done}
 use Rattle.running_objects.specs.Seen.{Seen, object_at, Keeps}
 use Rattle.running_objects.specs.declared.stop.Stop.{Stop}

@@ -34,8 +34,8 @@ pub fn runs_compose()
         (local later : Local (Unit {0})) (ended : Stop)
         → Ran (step_program step) before local (Err ended) after later
         → Ran (steps_program (step ∷ rest)) before local (Err ended) after later }
-    ensures atom { (before after : Seen) (local : Local (Unit {0})) (result : Result (Unit {0}) Stop)
-        → Acted Tick before result after
+    ensures atom { (before after : Seen) (local : Local (Unit {0}))
+        (result : Result (Unit {0}) Stop) → Acted Tick before result after
         → Ran (step_program spending) before local result after local }
     ensures keeps { (steps : List Step) (before after : Seen) (local later : Local (Unit {0}))
         (end : Ending (Unit {0})) → after.setting ≡ before.setting
@@ -46,11 +46,11 @@ pub fn runs_compose()
 /// A value may come into a slot of a sound object that is there exactly where it can be stored and
 /// the object is there to which it refers.
 pub fn slots_fit()
-    ensures { (name at : ℕ) (value : Value) (values : List Value) (setting : Setting) (world : World)
-        (old : Contents) → AreSound setting world → shown name setting world ≡ Some old
-        → old.body ≡ body.Plain values → at < length values
-        → may_replace name old (with_body (body.Plain (slice_set values at value)) old) setting world
-        ≡ may_enter (fixed_by setting world) value }
+    ensures { (name at : ℕ) (value : Value) (values : List Value) (setting : Setting)
+        (world : World) (old : Contents) → AreSound setting world
+        → shown name setting world ≡ Some old → old.body ≡ body.Plain values → at < length values
+        → may_replace name old (with_body (body.Plain (slice_set values at value)) old) setting
+        world ≡ may_enter (fixed_by setting world) value }
 {}
 
 /// An edit that leaves the body of a written object as it is changes nothing.

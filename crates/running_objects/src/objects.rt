@@ -40,9 +40,9 @@ pub trait Objects {
         ensures { SomeIff result ((seen self.now).world.next < COUNTER_LIMIT)
             (next_name (seen self.now).setting (seen self.now).world) };
 
-    /// The object of this name, if there is one, as it is now. It takes no memory, asks for no right
-    /// and touches nothing: it serves to see what an access or `know` has allowed. What it says of
-    /// the number of the last commit isn't claimed.
+    /// The object of this name, if there is one, as it is now. It takes no memory, asks for no
+    /// right and touches nothing: it serves to see what an access or `know` has allowed. What it
+    /// says of the number of the last commit isn't claimed.
     fn object(&self, oid: Oid) -> Option<&Object>
         ensures { option_map contents_of (option_copied result) ≡ object_at oid (seen self.now) };
 
@@ -73,14 +73,14 @@ pub trait Objects {
     fn show(&mut self, text: &[u8]) -> Result<(), Stop>
         ensures { Acted (Show text.now) (seen self.old) result (seen self.new) };
 
-    /// Reads the object of this name: E10 where the user may not, or where there is none. The object
-    /// is then asked for by `object`.
+    /// Reads the object of this name: E10 where the user may not, or where there is none. The
+    /// object is then asked for by `object`.
     fn read(&mut self, oid: Oid) -> Result<(), Stop>
         ensures { Accessed a_read oid (seen self.old) result (seen self.new) };
 
     /// Writes the object of this name: E11 where the user may not, or where there is none. The
-    /// object is then asked for by `object`; an ordinary one is among the written ones, and its body
-    /// has been copied once.
+    /// object is then asked for by `object`; an ordinary one is among the written ones, and its
+    /// body has been copied once.
     fn write(&mut self, oid: Oid) -> Result<(), Stop>
         ensures { Accessed a_write oid (seen self.old) result (seen self.new) };
 
@@ -88,9 +88,9 @@ pub trait Objects {
     fn own(&mut self) -> Result<(), Stop>
         ensures { Owned (seen self.old) result (seen self.new) };
 
-    /// Asks for the fixed part of the object of this name: its class, the kind of its body, and what
-    /// of a class is fixed. It is then seen in what `object` gives. Nothing is touched where the
-    /// object is there; a name without an object is touched.
+    /// Asks for the fixed part of the object of this name: its class, the kind of its body, and
+    /// what of a class is fixed. It is then seen in what `object` gives. Nothing is touched where
+    /// the object is there; a name without an object is touched.
     fn know(&mut self, oid: Oid) -> Result<(), Stop>
         ensures { Known oid (seen self.old) result (seen self.new) };
 
@@ -111,8 +111,8 @@ pub trait Objects {
     fn insert_slot(&mut self, oid: Oid, at: usize, value: Value) -> Result<(), Stop>
         ensures { Edited oid (with_slot_more at value) (seen self.old) result (seen self.new) };
 
-    /// Takes the slot at a place of an object away that was written or made; the slots after it move
-    /// down by one. Where there is no such slot nothing changes.
+    /// Takes the slot at a place of an object away that was written or made; the slots after it
+    /// move down by one. Where there is no such slot nothing changes.
     fn remove_slot(&mut self, oid: Oid, at: usize) -> Result<(), Stop>
         ensures { Edited oid (without_slot at) (seen self.old) result (seen self.new) };
 
@@ -121,8 +121,8 @@ pub trait Objects {
     fn set_byte(&mut self, oid: Oid, at: usize, byte: u8) -> Result<(), Stop>
         ensures { Edited oid (with_byte at byte) (seen self.old) result (seen self.new) };
 
-    /// Puts a value at a key of a dictionary that was written or made: a key that is there keeps its
-    /// place, and a new one comes last.
+    /// Puts a value at a key of a dictionary that was written or made: a key that is there keeps
+    /// its place, and a new one comes last.
     fn put_at(&mut self, oid: Oid, key: Value, value: Value) -> Result<(), Stop>
         ensures { Edited oid (with_value_at key value) (seen self.old) result (seen self.new) };
 
@@ -143,6 +143,7 @@ pub trait Objects {
     /// They may refer to one another by `next_name`. E17 where one is too large, E16 where there
     /// aren't so many names, E15 where there is too little space. A new class has no methods yet.
     fn make(&mut self, objects: Vec<Object>) -> Result<Oid, Stop>
-        requires { (name : ℕ) → list_all (λ object. methods_fit name object.body) objects.items ≡ true }
+        requires { (name : ℕ)
+            → list_all (λ object. methods_fit name object.body) objects.items ≡ true }
         ensures { Made objects.items (seen self.old) result (seen self.new) };
 }

@@ -1,4 +1,4 @@
-use Rattle.object_programs.specs.Steps.{step_program, steps_program}
+use Rattle.object_programs.specs.Steps.{steps_program}
 use Rattle.running_objects.proofs.Running.{keeps_perform, acted_ran, ran_then, ran_stop}
 use Rattle.running_objects.proofs.laws.runs_compose.Goals as goal
 

@@ -1,0 +1,8 @@
+use Rattle.std.proofs.Common.{◌∙◌, ap}
+use Rattle.plain_state.specs.Overlay.{contents_by_name}
+use Rattle.plain_state.proofs.Changes.{put_by_name}
+use Rattle.plain_state.proofs.overlay.Overlay.put.Goals as goal
+
+pub returns-clause-put : goal.returns-clause-put
+returns-clause-put c = rw (← c.self.view_is) (ap contents_by_name c.in_ok-insert.ensures.entries
+    ∙ put_by_name c.self.inside.entries.entries c.args.number c.args.object)

@@ -1,0 +1,4 @@
+pub mod Classes
+pub mod Edit
+pub mod Overlay
+pub mod Parts

@@ -1,0 +1,200 @@
+//! What the parts of a state do at edits in place.
+ghost use Rattle.std.specs.Prelude.{◌≡◌, nat_lt, OnOk, OnErr};
+ghost use Rattle.std.specs.FinMap.{get};
+ghost use Rattle.gem_object.specs.Edits.{plain_slots, body_bytes, with_slot, with_slot_more, without_slot, with_byte, without_value_at};
+ghost use Rattle.object_programs.specs.Fixed.{fixed_by};
+ghost use Rattle.object_programs.specs.Guard.{holds_of};
+ghost use Rattle.running_objects.specs.Seen.{IsSoundState};
+ghost use Rattle.running_objects.specs.Acted.{Edited};
+ghost use Rattle.running_objects.specs.Fitting.{may_enter, is_known_value};
+ghost use Rattle.plain_state.specs.Parts.{missed_value, edited_in};
+ghost use Rattle.plain_state.specs.Edit.{edited_by};
+ghost use Rattle.plain_state.specs.Classes.{slots_in, may_insert, has_pairs};
+ghost use Rattle.plain_state.specs.declared.edit.Edit.TheVariants as edit;
+
+use crate::classes::is_in_kernel;
+use crate::edit::{Edit, byte_count, slot_count};
+use crate::parts::Parts;
+use crate::spelled::is_storable;
+use gem_object::{Body, Value};
+use gem_value::Oid;
+use running_objects::Stop;
+use std::alloc::AllocError;
+
+impl Parts {
+    /// Whether a written object of this name has this slot.
+    fn has_slot(&self, oid: Oid, at: usize) -> bool
+        ensures { result ≡ holds_of (λ object. nat_lt at (plain_slots object.body))
+            (get self.now.world.changes oid) }
+    {
+        match self.changes.look(oid.number()) {
+            Some(object) => at < slot_count(&object.body),
+            None => false,
+        }
+    }
+
+    /// Whether the object is there to which the value refers, if it refers to one.
+    fn knows(&self, value: &Value) -> bool
+        ensures { result ≡ is_known_value (fixed_by self.now.setting self.now.world) value.now }
+    {
+        match value {
+            Value::Ref(oid) => self.is_there(*oid),
+            _ => true,
+        }
+    }
+
+    /// Whether the value may come into a slot.
+    fn may_enter(&self, value: &Value) -> bool
+        ensures { result ≡ may_enter (fixed_by self.now.setting self.now.world) value.now }
+    {
+        self.knows(value) && is_storable(value)
+    }
+
+    /// Touches the name to which the value refers, where there is no object.
+    pub(crate) fn miss_value(&mut self, value: &Value) -> Result<(), AllocError>
+        ensures missed { OnOk result (self.new ≡ missed_value value.now self.old) }
+        ensures unchanged { OnErr result (self.new ≡ self.old) }
+    {
+        let Value::Ref(oid) = value else {
+            return Ok(());
+        };
+        if self.is_there(*oid) {
+            return Ok(());
+        }
+        self.miss(*oid)
+    }
+
+    /// Edits a written object.
+    pub(crate) fn change(&mut self, oid: Oid, edit: Edit) -> Result<(), AllocError>
+        ensures edited { OnOk result (self.new ≡ edited_in oid (edited_by edit) self.old) }
+        ensures unchanged { OnErr result (self.new ≡ self.old) }
+    {
+        self.changes.edit(oid.number(), edit)
+    }
+
+    /// Puts a value in a slot.
+    pub(crate) fn set_slot(&mut self, oid: Oid, at: usize, value: Value) -> Result<(), Stop>
+        requires { IsSoundState self.old }
+        ensures { Edited oid (with_slot at value) self.old result self.new }
+    {
+        if !self.has_slot(oid, at) {
+            return Ok(());
+        }
+        if self.may_enter(&value) {
+            self.change(oid, Edit::SetSlot(at, value))?;
+            return Ok(());
+        }
+        self.miss_value(&value)?;
+        Ok(())
+    }
+
+    /// Whether a written object of this name has a byte at this place.
+    fn has_byte(&self, oid: Oid, at: usize) -> bool
+        ensures { result ≡ holds_of (λ object. nat_lt at (body_bytes object.body))
+            (get self.now.world.changes oid) }
+    {
+        match self.changes.look(oid.number()) {
+            Some(object) => at < byte_count(&object.body),
+            None => false,
+        }
+    }
+
+    /// Puts a byte at a place.
+    pub(crate) fn set_byte(&mut self, oid: Oid, at: usize, byte: u8) -> Result<(), Stop>
+        requires { IsSoundState self.old }
+        ensures { Edited oid (with_byte at byte) self.old result self.new }
+    {
+        if !self.has_byte(oid, at) {
+            return Ok(());
+        }
+        if byte >= 128 {
+            return Ok(());
+        }
+        self.change(oid, Edit::SetByte(at, byte))?;
+        Ok(())
+    }
+
+    /// The class and the number of slots of a written object of this name, where it has slots.
+    fn slots_at(&self, oid: Oid) -> Option<(Oid, usize)>
+        ensures { result ≡ slots_in (get self.now.world.changes oid) }
+    {
+        let object = self.changes.look(oid.number())?;
+        match &object.body {
+            Body::Plain(values) => Some((object.class, values.len())),
+            _ => None,
+        }
+    }
+
+    /// Whether an object with so many slots may get one more, with this value.
+    fn may_insert(&self, oid: Oid, class: Oid, count: usize, value: &Value) -> bool
+        ensures { result ≡ may_insert (fixed_by self.now.setting self.now.world) oid class count
+            value.now }
+    {
+        self.knows(value)
+            && count < u32::MAX as usize
+            && self.accepts_slots(class, count + 1)
+            && (count > 0 || !is_in_kernel(oid))
+            && is_storable(value)
+    }
+
+    /// Puts a slot at a place.
+    pub(crate) fn insert_slot(&mut self, oid: Oid, at: usize, value: Value) -> Result<(), Stop>
+        requires { IsSoundState self.old }
+        ensures { Edited oid (with_slot_more at value) self.old result self.new }
+    {
+        let Some(slots) = self.slots_at(oid) else {
+            return Ok(());
+        };
+        if self.may_insert(oid, slots.0, slots.1, &value) {
+            self.change(oid, Edit::InsertSlot(at, value))?;
+            return Ok(());
+        }
+        self.miss_value(&value)?;
+        Ok(())
+    }
+
+    /// Takes a slot away.
+    pub(crate) fn remove_slot(&mut self, oid: Oid, at: usize) -> Result<(), Stop>
+        requires { IsSoundState self.old }
+        ensures { Edited oid (without_slot at) self.old result self.new }
+    {
+        let Some(slots) = self.slots_at(oid) else {
+            return Ok(());
+        };
+        if at >= slots.1 {
+            return Ok(());
+        }
+        if !self.accepts_slots(slots.0, slots.1 - 1) {
+            return Ok(());
+        }
+        self.change(oid, Edit::RemoveSlot(at))?;
+        Ok(())
+    }
+
+    /// Whether there is a written dictionary of this name.
+    fn has_pairs(&self, oid: Oid) -> bool
+        ensures { result ≡ holds_of (λ object. has_pairs object.body)
+            (get self.now.world.changes oid) }
+    {
+        let Some(object) = self.changes.look(oid.number()) else {
+            return false;
+        };
+        match &object.body {
+            Body::Dict(_) => true,
+            _ => false,
+        }
+    }
+
+    /// Takes a key's pair away.
+    pub(crate) fn remove_at(&mut self, oid: Oid, key: &Value) -> Result<(), Stop>
+        requires { IsSoundState self.old }
+        ensures { Edited oid (without_value_at key.now) self.old result self.new }
+    {
+        if !self.has_pairs(oid) {
+            return Ok(());
+        }
+        let key = key.clone()?;
+        self.change(oid, Edit::RemoveAt(key))?;
+        Ok(())
+    }
+}

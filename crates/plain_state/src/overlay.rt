@@ -1,0 +1,88 @@
+//! What a transaction has changed.
+ghost use Rattle.std.specs.Prelude.{◌≡◌, option_map, option_copied, is_some, OnOk, OnErr};
+ghost use Rattle.std.specs.FinMap as map;
+ghost use Rattle.gem_image.specs.Image.{contents_of};
+ghost use Rattle.plain_state.specs.Edit.{edited_by};
+ghost use Rattle.plain_state.specs.Overlay.{changed};
+
+use crate::edit::Edit;
+use gem_object::Object;
+use indexmap::IndexMap;
+use std::alloc::{AllocError, Global};
+use std::marker::Model;
+
+/// Objects by their names. Contracts see the finite map from the numbers of the names to what the
+/// objects are, but for the number of the last commit.
+#[derive(Drop)]
+pub(crate) struct Overlay {
+    entries: IndexMap<u64, Object>,
+}
+
+impl Model for Overlay {
+    ghost use Rattle.std.specs.Coded.{coded_ℕ};
+    ghost use Rattle.std.specs.Ordering.{nat_cmp};
+    ghost use Rattle.std.specs.FinMap as map;
+    ghost use Rattle.gem_image.specs.Image.{Contents};
+    ghost use Rattle.gem_object.specs.contracts.body.Body as body;
+    ghost use Rattle.running_objects.specs.Codes.{contents_code};
+    ghost use Rattle.plain_state.specs.Overlay.{contents_by_name};
+
+    ghost Value = { map.FinMap nat_cmp Contents };
+
+    ghost coded = { map.code coded_ℕ (contents_code body.the_row.coded) };
+
+    ghost view = { λ overlay. contents_by_name overlay.entries.entries };
+}
+
+impl Overlay {
+    /// Without objects. It takes no memory.
+    pub(crate) fn new(alloc: Global) -> Overlay
+        ensures { result ≡ map.empty }
+    {
+        Overlay {
+            entries: IndexMap::new(alloc),
+        }
+    }
+
+    /// The object of this name, if there is one.
+    pub(crate) fn look(&self, number: u64) -> Option<&Object>
+        ensures { option_map contents_of (option_copied result) ≡ map.get self.now number }
+    {
+        self.entries.get(&number)
+    }
+
+    /// Whether there is an object of this name.
+    pub(crate) fn has(&self, number: u64) -> bool
+        ensures { result ≡ is_some (map.get self.now number) }
+    {
+        self.look(number).is_some()
+    }
+
+    /// Puts an object at this name.
+    ///
+    /// # Errors
+    ///
+    /// `AllocError` where memory ran out. All is as before.
+    pub(crate) fn put(&mut self, number: u64, object: Object) -> Result<(), AllocError>
+        ensures put { OnOk result (self.new ≡ map.insert self.old number (contents_of object)) }
+        ensures unchanged { OnErr result (self.new ≡ self.old) }
+    {
+        self.entries.insert(number, object)?;
+        Ok(())
+    }
+
+    /// Edits the object of this name, if there is one.
+    ///
+    /// # Errors
+    ///
+    /// `AllocError` where memory ran out. All is as before.
+    pub(crate) fn edit(&mut self, number: u64, edit: Edit) -> Result<(), AllocError>
+        ensures edited { OnOk result (self.new ≡ changed number (edited_by edit) self.old) }
+        ensures unchanged { OnErr result (self.new ≡ self.old) }
+    {
+        let Some(object) = self.entries.get_mut(&number) else {
+            return Ok(());
+        };
+        edit.apply(object)
+    }
+}

@@ -1,0 +1,265 @@
+//! The parts of a plain state, without the claim that its objects are sound.
+ghost use Rattle.std.specs.Prelude.{◌≡◌, option_map, option_copied, is_some, OnOk, OnErr};
+ghost use Rattle.gem_image.specs.Image.{contents_of, objects_in};
+ghost use Rattle.gem_image.specs.Rights.{rights_at, groups_at, right_in, right_on, right_on_segment};
+ghost use Rattle.gem_world.specs.World.{shown_objects, as_of, are_shared, is_made, is_private};
+ghost use Rattle.gem_world.specs.Access.{a_read, a_write, right_at, is_allowed};
+ghost use Rattle.running_objects.specs.Seen.{object_at};
+ghost use Rattle.plain_state.specs.Parts.{touched, missed, asked, held, SameObjects};
+
+use crate::overlay::Overlay;
+use gem_image::Image;
+use gem_object::{Body, Object};
+use gem_update::Update;
+use gem_value::Oid;
+use indexmap::IndexSet;
+use seg_rights::{Right, Rights, may_read, may_write};
+use std::alloc::{AllocError, Global};
+use std::marker::Model;
+use texts::Text;
+
+/// A state: what it began with, what has become of the objects, and what is left.
+#[derive(Drop)]
+pub(crate) struct Parts {
+    pub(crate) place: Image,
+    pub(crate) view: Image,
+    pub(crate) user: Oid,
+    pub(crate) serial: u32,
+    pub(crate) first: u32,
+    pub(crate) next: u32,
+    pub(crate) changes: Overlay,
+    pub(crate) updates: Vec<(Oid, Update)>,
+    pub(crate) touched: IndexSet<u64>,
+    pub(crate) units: u64,
+    pub(crate) slots: u64,
+    pub(crate) text: Vec<u8>,
+}
+
+impl Model for Parts {
+    ghost use Rattle.gem_object.specs.contracts.object.Object as object;
+    ghost use Rattle.gem_object.specs.contracts.body.Body as body;
+    ghost use Rattle.gem_update.specs.contracts.update.Update as update;
+    ghost use Rattle.running_objects.specs.Seen.{Seen};
+    ghost use Rattle.running_objects.specs.Codes.{seen_code};
+
+    ghost Value = { Seen };
+
+    ghost coded = { seen_code object.the_row.coded body.the_row.coded update.the_row.coded };
+
+    ghost view = { λ parts. record {
+      setting = record {
+        place = parts.place;
+        view = parts.view;
+        user = parts.user;
+        serial = parts.serial;
+        first = parts.first;
+      };
+      world = record {
+        next = parts.next;
+        changes = parts.changes;
+        updates = parts.updates.items;
+        touched = parts.touched.keys;
+      };
+      budget = record { units = parts.units; slots = parts.slots; text = parts.text.items };
+    } };
+}
+
+impl Parts {
+    /// The object of this name, if there is one, as it is now.
+    pub(crate) fn look(&self, oid: Oid) -> Option<&Object>
+        ensures { option_map contents_of (option_copied result) ≡ object_at oid self.now }
+    {
+        match self.changes.look(oid.number()) {
+            Some(object) => Some(object),
+            None => object_before(&self.place, &self.view, oid),
+        }
+    }
+
+    /// The name of the user.
+    pub(crate) fn user(&self) -> Oid
+        ensures { result ≡ self.now.setting.user }
+    {
+        self.user
+    }
+
+    /// Whether there is an object of this name.
+    pub(crate) fn is_there(&self, oid: Oid) -> bool
+        ensures { result ≡ is_some (object_at oid self.now) }
+    {
+        self.look(oid).is_some()
+    }
+
+    /// Whether the object of this name was made here.
+    #[tactic(auto, unfolding(gem_world::specs::World::is_made))]
+    pub(crate) fn is_made(&self, oid: Oid) -> bool
+        ensures { result ≡ is_made oid self.now.setting self.now.world }
+    {
+        let start = (self.serial as u64) * (1 << 24);
+        start + (self.first as u64) <= oid.number()
+            && oid.number() < start + (self.next as u64)
+            && self.changes.has(oid.number())
+    }
+
+    /// Whether no touch of the name is recorded.
+    #[tactic(auto, unfolding(gem_world::specs::World::is_private))]
+    fn is_private(&self, oid: Oid) -> bool
+        ensures { result ≡ is_private oid self.now.setting self.now.world }
+    {
+        self.is_made(oid) || are_shared(&self.place, &self.view, oid)
+    }
+
+    /// Touches the name.
+    #[tactic(auto, unfolding(gem_world::specs::World::touch))]
+    pub(crate) fn touch(&mut self, oid: Oid) -> Result<(), AllocError>
+        ensures touched { OnOk result (self.new ≡ touched oid self.old) }
+        ensures unchanged { OnErr result (self.new ≡ self.old) }
+    {
+        if !self.is_private(oid) {
+            self.touched.insert(oid.number())?;
+        }
+        Ok(())
+    }
+
+    /// Touches a name without an object.
+    pub(crate) fn miss(&mut self, oid: Oid) -> Result<(), AllocError>
+        ensures missed { OnOk result (self.new ≡ missed oid self.old) }
+        ensures unchanged { OnErr result (self.new ≡ self.old) }
+    {
+        self.touched.insert(oid.number())?;
+        Ok(())
+    }
+
+    /// Touches what an access touches.
+    #[tactic(auto, unfolding(gem_world::specs::World::touch, gem_world::specs::Access::with_touches))]
+    pub(crate) fn ask(&mut self, oid: Oid) -> Result<(), AllocError>
+        ensures asked { OnOk result (self.new ≡ asked oid self.old) }
+        ensures same { OnErr result (SameObjects self.old self.new) }
+    {
+        let Some(object) = self.look(oid) else {
+            return self.touch(oid);
+        };
+        let (segment, user) = (object.segment, self.user);
+        self.touch(oid)?;
+        self.touch(segment)?;
+        self.touch(user)
+    }
+
+    /// Puts an ordinary object of this name among those that are written.
+    pub(crate) fn hold(&mut self, oid: Oid) -> Result<(), AllocError>
+        ensures held { OnOk result (self.new ≡ held oid self.old) }
+        ensures unchanged { OnErr result (self.new ≡ self.old) }
+    {
+        if self.changes.has(oid.number()) {
+            return Ok(());
+        }
+        let Some(object) = object_before(&self.place, &self.view, oid) else {
+            return Ok(());
+        };
+        if object.body.is_shared() {
+            return Ok(());
+        }
+        let copy = object.clone()?;
+        self.changes.put(oid.number(), copy)
+    }
+
+    /// Whether the user may read the object of this name.
+    #[tactic(auto, unfolding(gem_world::specs::Access::is_allowed))]
+    pub(crate) fn may_read(&self, oid: Oid) -> bool
+        ensures { result ≡ is_allowed a_read oid self.now.setting self.now.world }
+    {
+        may_read(self.right_on(oid))
+    }
+
+    /// Whether the user may write the object of this name.
+    #[tactic(auto, unfolding(gem_world::specs::Access::is_allowed))]
+    pub(crate) fn may_write(&self, oid: Oid) -> bool
+        ensures { result ≡ is_allowed a_write oid self.now.setting self.now.world }
+    {
+        may_write(self.right_on(oid))
+    }
+
+    /// The user's right on the object of this name.
+    pub(crate) fn right_on(&self, oid: Oid) -> Right
+        ensures { result ≡ right_at oid self.now.setting self.now.world }
+    {
+        let Some(object) = self.look(oid) else {
+            return Right::None;
+        };
+        match &object.body {
+            Body::Segment(rights) => right_on_segment(rights, self.user),
+            _ => self.right_in(object.segment),
+        }
+    }
+
+    // The right that the segment gives the user on the objects that lie in it.
+    fn right_in(&self, segment: Oid) -> Right
+        ensures { result ≡ right_in (shown_objects self.now.setting self.now.world)
+            self.now.setting.user segment }
+    {
+        let Some(rights) = self.rights_at(segment) else {
+            return Right::None;
+        };
+        let Some(groups) = self.groups_at(self.user) else {
+            return Right::None;
+        };
+        rights.right_of(self.user.number(), groups)
+    }
+
+    // The rights that the segment of this name gives.
+    fn rights_at(&self, segment: Oid) -> Option<&Rights<Text>>
+        ensures { option_copied result
+            ≡ rights_at (shown_objects self.now.setting self.now.world) segment }
+    {
+        match &self.look(segment)?.body {
+            Body::Segment(rights) => Some(rights),
+            _ => None,
+        }
+    }
+
+    // The groups in which the user of this name is.
+    fn groups_at(&self, user: Oid) -> Option<&[Text]>
+        ensures { option_copied result
+            ≡ groups_at (shown_objects self.now.setting self.now.world) user }
+    {
+        match &self.look(user)?.body {
+            Body::User(user) => Some(user.groups.as_slice()),
+            _ => None,
+        }
+    }
+}
+
+// The right that the user has on a segment that gives these rights.
+fn right_on_segment(rights: &Rights<Text>, user: Oid) -> Right
+    ensures { result ≡ right_on_segment rights.now user }
+{
+    if user.number() == rights.owner {
+        Right::Write
+    } else {
+        Right::Read
+    }
+}
+
+/// The object of this name before anything was changed: a reduced-conflict one as of the view, any
+/// other as of the place.
+fn object_before<'a>(place: &'a Image, view: &'a Image, oid: Oid) -> Option<&'a Object>
+    ensures { option_map contents_of (option_copied result)
+        ≡ as_of (objects_in place.now oid) (objects_in view.now oid) }
+{
+    let object = place.look(oid)?;
+    if object.body.is_shared() {
+        if let Some(viewed) = view.look(oid) {
+            return Some(viewed);
+        }
+    }
+    Some(object)
+}
+
+/// Whether both have an object of this name, a reduced-conflict one.
+fn are_shared(place: &Image, view: &Image, oid: Oid) -> bool
+    ensures { result ≡ are_shared (objects_in place.now oid) (objects_in view.now oid) }
+{
+    match (place.look(oid), view.look(oid)) {
+        (Some(object), Some(_)) => object.body.is_shared(),
+        _ => false,
+    }
+}
