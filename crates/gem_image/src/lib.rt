@@ -9,3 +9,4 @@ mod rights;
 mod tests;
 
 pub use image::Image;
+pub use rights::{groups_of, right_on_segment, rights_of};

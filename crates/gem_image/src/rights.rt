@@ -1,7 +1,7 @@
 //! The rights that users have in an image.
 ghost use Rattle.std.specs.Prelude.{◌≡◌, option_copied};
 ghost use Rattle.gem_image.specs.Image.{objects_in};
-ghost use Rattle.gem_image.specs.Rights.{rights_at, groups_at, right_in, right_on, right_on_segment};
+ghost use Rattle.gem_image.specs.Rights.{rights_of, groups_of, rights_at, groups_at, right_in, right_on, right_on_segment};
 
 use crate::image::Image;
 use gem_object::Body;
@@ -45,25 +45,40 @@ impl Image {
     fn rights_at(&self, segment: Oid) -> Option<&Rights<Text>>
         ensures { option_copied result ≡ rights_at (objects_in self.now) segment }
     {
-        match &self.look(segment)?.body {
-            Body::Segment(rights) => Some(rights),
-            _ => None,
-        }
+        rights_of(&self.look(segment)?.body)
     }
 
     // The groups in which the user of this name is.
     fn groups_at(&self, user: Oid) -> Option<&[Text]>
         ensures { option_copied result ≡ groups_at (objects_in self.now) user }
     {
-        match &self.look(user)?.body {
-            Body::User(user) => Some(user.groups.as_slice()),
-            _ => None,
-        }
+        groups_of(&self.look(user)?.body)
     }
 }
 
-// The right that the user has on a segment that gives these rights.
-fn right_on_segment(rights: &Rights<Text>, user: Oid) -> Right
+/// The rights that a body gives: a segment gives some. It takes no memory.
+pub fn rights_of(body: &Body) -> Option<&Rights<Text>>
+    ensures { option_copied result ≡ rights_of body.now }
+{
+    match body {
+        Body::Segment(rights) => Some(rights),
+        _ => None,
+    }
+}
+
+/// The groups in which a body is: a user is in some. It takes no memory.
+pub fn groups_of(body: &Body) -> Option<&[Text]>
+    ensures { option_copied result ≡ groups_of body.now }
+{
+    match body {
+        Body::User(user) => Some(user.groups.as_slice()),
+        _ => None,
+    }
+}
+
+/// The right that the user has on a segment that gives these rights: Write for its owner, Read for
+/// all others. It takes no memory.
+pub fn right_on_segment(rights: &Rights<Text>, user: Oid) -> Right
     ensures { result ≡ right_on_segment rights.now user }
 {
     if user.number() == rights.owner {

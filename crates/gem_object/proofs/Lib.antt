@@ -1,6 +1,6 @@
 mod Equality
 pub mod Joined
-mod Ties
+pub mod Ties
 mod Sums
 mod Names
 mod Rooms

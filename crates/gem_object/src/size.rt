@@ -80,6 +80,16 @@ impl Encoded for (Text, Right) {
     }
 }
 
+impl Value {
+    /// The bytes of the value where it is stored, and none of a block. The number stays at 2^64 - 1
+    /// once it is there. It takes no memory.
+    pub fn stored_bytes(&self) -> u64
+        ensures { result ≡ min (value_size self.now) (2 ^ 64 - 1) }
+    {
+        self.size()
+    }
+}
+
 impl Body {
     /// The bytes of the body's fields where it is stored, without its tag. The number stays at
     /// 2^64 - 1 once it is there. It takes no memory.
