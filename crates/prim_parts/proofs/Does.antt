@@ -1,0 +1,93 @@
+-- How what code did in turn makes what a program does, where nothing local is seen or changed.
+use Rattle.std.proofs.Common.{◌≡◌, refl, sym, ap, ◌∙◌, subst, ℕ, Bool, true, false, Option, Some, None, Result, Ok, Err}
+use Rattle.gem_object.specs.declared.value.Value.{Value}
+use Rattle.gem_object.specs.declared.body.Body.{Body}
+use Rattle.gem_image.specs.Image.{Contents}
+use Rattle.gem_world.specs.World.{Setting}
+use Rattle.gem_world.specs.Access.{Access, a_read, a_write}
+use Rattle.tree_meaning.specs.Place.{MadeBlock}
+use Rattle.object_programs.specs.Local.{Local}
+use Rattle.object_programs.specs.Atom.{Atom, Ask, Put}
+use Rattle.object_programs.specs.Run.{Run, give, fail, atom, and_then, State, Outcome, onward, perform}
+use Rattle.object_programs.specs.Programs.{need, check}
+use Rattle.object_programs.specs.declared.fault.Fault.{Fault}
+use Rattle.running_objects.specs.Seen.{Seen, object_at, with_local, Keeps}
+use Rattle.running_objects.specs.Ran.{EndsSo, Ran}
+use Rattle.running_objects.specs.Acted.{Acted, Reached, Edited}
+use Rattle.running_objects.specs.declared.stop.Stop.{Stop}
+use Rattle.running_objects.specs.declared.stop.Stop.TheVariants as stop
+use Rattle.running_objects.proofs.Running.{keeps_same, acted_ran, ran_then, ran_stop, seen_twice}
+use Rattle.prim_parts.specs.Does.{Does, Computes}
+
+-- with what is local at hand, and back
+pub does_ran : {A : Type 0} {program : Run MadeBlock A} {before after : Seen} {result : Result A Stop}
+    → Does program before result after → (local : Local MadeBlock) → Ran program before local result after local
+does_ran does local = record { keeps = does.keeps; ends = does.ends local }
+
+ran_does : {A : Type 0} {program : Run MadeBlock A} {before after : Seen} {result : Result A Stop} → Keeps before after
+    → ((local : Local MadeBlock) → Ran program before local result after local) → Does program before result after
+ran_does keeps ran = record { keeps = keeps; ends = λ local. (ran local).ends }
+
+pub does_give : {A : Type 0} (answer : A) (seen : Seen) → Does (give answer) seen (Ok answer) seen
+does_give answer seen = record { keeps = keeps_same seen; ends = λ local. refl }
+
+pub does_fail : {A : Type 0} (fault : Fault) (seen : Seen) → Does (fail {A = A} fault) seen (Err (stop.Fails fault)) seen
+does_fail fault seen = record { keeps = keeps_same seen; ends = λ local. refl }
+
+-- where memory ran out
+pub does_nothing : {A : Type 0} (program : Run MadeBlock A) {before after : Seen} → Keeps before after
+    → Does program before (Err stop.NoMemory) after
+does_nothing program keeps = record { keeps = keeps; ends = λ local. tt }
+
+-- a call of the objects
+pub does_atom : {A : Type 0} {one : Atom A} {before after : Seen} {result : Result A Stop} → Acted one before result after
+    → Does (atom one) before result after
+does_atom acted = ran_does acted.keeps (λ local. acted_ran acted local)
+
+-- one after the other
+pub does_then : {A C : Type 0} {first : Run MadeBlock C} {second : C → Run MadeBlock A} {answer : C}
+    {before between after : Seen} {result : Result A Stop} → Does first before (Ok answer) between
+    → Does (second answer) between result after → Does (and_then first second) before result after
+does_then {A} {C} {first} {second} {answer} {before} {between} {after} {result} one rest = record {
+  keeps = (ran_then second (does_ran one nowhere) (does_ran rest nowhere)).keeps;
+  ends = λ local. (ran_then second (does_ran one local) (does_ran rest local)).ends;
+}
+  where
+    nowhere : Local MadeBlock
+    nowhere = record { scopes = []; blocks = []; living = [] }
+
+pub does_stop : {A C : Type 0} {first : Run MadeBlock C} {second : C → Run MadeBlock A} {ended : Stop}
+    {before after : Seen} → Does first before (Err ended) after → Does (and_then first second) before (Err ended) after
+does_stop {A} {C} {first} {second} {ended} {before} {after} one =
+    ran_does one.keeps (λ local. ran_stop second (does_ran one local))
+
+-- after an access that was allowed, with the object that was then asked for
+pub does_reached : {A : Type 0} {access : Access} {name : ℕ} {before between after : Seen} {held : Contents}
+    {result : Result A Stop} {rest : Contents → Run MadeBlock A} → Reached access name before between
+    → Some held ≡ object_at name between → Does (rest held) between result after
+    → Does (and_then (atom (Ask access name)) rest) before result after
+does_reached {A} {access} {name} {before} {between} {after} {held} {result} {rest} reached shown does =
+    let At : Contents → Type 0 = λ object. Does (rest object) between result after in
+    does_then (does_atom reached.acted) (subst At (sym (seen_twice reached.there shown)) does)
+
+-- what needs no objects
+pub computes_give : {A : Type 0} (answer : A) → Computes (give answer) (Ok answer)
+computes_give answer = record { ends = λ setting state. refl }
+
+pub computes_fail : {A : Type 0} (fault : Fault) → Computes (fail {A = A} fault) (Err (stop.Fails fault))
+computes_fail fault = record { ends = λ setting state. refl }
+
+pub does_compute : {A : Type 0} {program : Run MadeBlock A} {result : Result A Stop} (seen : Seen)
+    → Computes program result → Does program seen result seen
+does_compute seen computes =
+    record { keeps = keeps_same seen; ends = λ local. computes.ends seen.setting (with_local seen local) }
+
+pub computes_then : {A C : Type 0} {first : Run MadeBlock C} {second : C → Run MadeBlock A} {answer : C}
+    {before after : Seen} {result : Result A Stop} → Computes first (Ok answer)
+    → Does (second answer) before result after → Does (and_then first second) before result after
+computes_then {A} {C} {first} {second} {answer} {before} {after} {result} one rest =
+    does_then (does_compute before one) rest
+
+pub computes_stop : {A C : Type 0} {first : Run MadeBlock C} {second : C → Run MadeBlock A} {ended : Stop} (seen : Seen)
+    → Computes first (Err ended) → Does (and_then first second) seen (Err ended) seen
+computes_stop seen one = does_stop (does_compute seen one)

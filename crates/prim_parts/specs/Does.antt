@@ -1,0 +1,30 @@
+-- That code did what a program does that neither sees nor changes what is local.
+use Rattle.std.specs.Prelude.{Result, Ok, Err}
+use Rattle.std.specs.Borrow.{Bor}
+use Rattle.tree_meaning.specs.Place.{MadeBlock}
+use Rattle.gem_world.specs.World.{Setting}
+use Rattle.object_programs.specs.Local.{Local}
+use Rattle.object_programs.specs.Run.{Run, State, perform}
+use Rattle.running_objects.specs.Seen.{Seen, with_local, Keeps}
+use Rattle.running_objects.specs.Ran.{EndsSo}
+use Rattle.running_objects.specs.declared.stop.Stop.{Stop}
+
+module _ {A : Type 0} where
+  -- Code did what the program does: from what was seen before, to this result and what is seen
+  -- after, whatever is local. Where memory ran out only `keeps` is known.
+  pub record Does (program : Run MadeBlock A) (before : Seen) (result : Result A Stop)
+      (after : Seen) : Type 0 where
+    pub keeps : Keeps before after
+    pub ends : (local : Local MadeBlock)
+        → EndsSo (perform program before.setting (with_local before local)) result
+        (with_local after local)
+
+  -- The program comes to this result whatever is seen, and changes nothing.
+  pub record Computes (program : Run MadeBlock A) (result : Result A Stop) : Type 0 where
+    pub ends : (setting : Setting) (state : State MadeBlock)
+        → EndsSo (perform program setting state) result state
+
+-- what the reference points to, where there is one
+abbrev pub pointed : {A : Type 0} → Result (Bor A) Stop → Result A Stop
+pointed (Ok found) = Ok found.now
+pointed (Err ended) = Err ended
