@@ -1,11 +1,11 @@
 -- That code did what a program does that neither sees nor changes what is local.
-use Rattle.std.specs.Prelude.{Result, Ok, Err}
+use Rattle.std.specs.Prelude.{◌≡◌, ℕ, true, is_some, Result, Ok, Err}
 use Rattle.std.specs.Borrow.{Bor}
 use Rattle.tree_meaning.specs.Place.{MadeBlock}
 use Rattle.gem_world.specs.World.{Setting}
 use Rattle.object_programs.specs.Local.{Local}
 use Rattle.object_programs.specs.Run.{Run, State, perform}
-use Rattle.running_objects.specs.Seen.{Seen, with_local, Keeps}
+use Rattle.running_objects.specs.Seen.{Seen, object_at, with_local, Keeps}
 use Rattle.running_objects.specs.Ran.{EndsSo}
 use Rattle.running_objects.specs.declared.stop.Stop.{Stop}
 
@@ -28,3 +28,7 @@ module _ {A : Type 0} where
 abbrev pub pointed : {A : Type 0} → Result (Bor A) Stop → Result A Stop
 pointed (Ok found) = Ok found.now
 pointed (Err ended) = Err ended
+
+-- there is an object of this name
+abbrev pub IsThere : ℕ → Seen → Type 0
+IsThere name seen = is_some (object_at name seen) ≡ true

@@ -3,7 +3,8 @@
 ghost use Rattle.object_programs.specs.Programs.{known};
 ghost use Rattle.object_programs.specs.declared.fault.Fault.TheVariants as fault;
 ghost use Rattle.prim_rules.specs.Parts.{class_of_reference, class_of_value, is_under, is_kind_of, check_kind, named_slots};
-ghost use Rattle.prim_parts.specs.Does.{Does};
+ghost use Rattle.std.specs.Prelude.{Ok};
+ghost use Rattle.prim_parts.specs.Does.{Does, IsThere};
 
 use gem_object::Value;
 use gem_value::Oid;
@@ -28,11 +29,13 @@ pub fn class_of_value<O: Objects>(objects: &mut O, value: &Value) -> Result<Oid,
     Err(Stop::NoMemory)
 }
 
-/// Whether a class is this one or under it.
-pub fn is_under<O: Objects>(objects: &mut O, class: Oid, ancestor: Oid) -> Result<bool, Stop>
-    ensures { Does (is_under class ancestor) (O.seen objects.old) result (O.seen objects.new) }
+/// Whether a class that is there is this one or under it. It takes no memory.
+pub fn is_under<O: Objects>(objects: &O, class: Oid, ancestor: Oid) -> bool
+    requires { IsThere class (O.seen objects.now) }
+    ensures { Does (is_under class ancestor) (O.seen objects.now) (Ok result)
+        (O.seen objects.now) }
 {
-    Err(Stop::NoMemory)
+    TODO
 }
 
 /// Whether a value is an instance of this class or of one under it; E5 as for its class.
@@ -51,9 +54,10 @@ pub fn check_kind<O: Objects>(objects: &mut O, value: &Value, class: Oid) -> Res
     Err(Stop::NoMemory)
 }
 
-/// How many named slots the instances of a class have.
-pub fn named_slots<O: Objects>(objects: &mut O, class: Oid) -> Result<usize, Stop>
-    ensures { Does (named_slots class) (O.seen objects.old) result (O.seen objects.new) }
+/// How many named slots the instances of a class have that is there. It takes no memory.
+pub fn named_slots<O: Objects>(objects: &O, class: Oid) -> usize
+    requires { IsThere class (O.seen objects.now) }
+    ensures { Does (named_slots class) (O.seen objects.now) (Ok result) (O.seen objects.now) }
 {
-    Err(Stop::NoMemory)
+    TODO
 }
