@@ -1,1 +1,4 @@
 pub mod Does
+pub mod Sums
+pub mod Changes
+pub mod Replaced
