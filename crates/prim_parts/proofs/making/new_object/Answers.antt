@@ -1,13 +1,11 @@
-use Rattle.std.proofs.lemmas.Result.{err_from_is_err_and}
 use Rattle.prim_rules.specs.Parts.{new_object}
-use Rattle.prim_parts.proofs.Does.{does_then, does_stop}
+use Rattle.prim_parts.proofs.Does.{does_then, does_exit}
 use Rattle.prim_parts.proofs.making.new_object.Goals as goal
 
 pub returns-in_err-segment : goal.returns-in_err-segment
 unfolding new_object
 returns-in_err-segment g c =
-    let p = err_from_is_err_and c.from_residual.result c.from_residual.ensures.1 in
-    rw (p.1, p.2) (does_stop c.in_err-segment.ensures)
+    does_exit c.from_residual.result c.from_residual.ensures.1 c.in_err-segment.ensures
 
 pub returns : goal.returns
 unfolding new_object
