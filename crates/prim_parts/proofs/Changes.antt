@@ -84,8 +84,13 @@ module _ (at : ℕ) where
       record {
         slots = record {
           had = omega (arith, within);
-          is = omega (arith, within, length-append (take at values) (drop (at + 1) values), length-take at values,
-              length-drop (at + 1) values);
+          is = omega (
+            arith,
+            within,
+            length-append (take at values) (drop (at + 1) values),
+            length-take at values,
+            length-drop (at + 1) values,
+          );
         };
         few = omega arith;
         freed = value_size old;
@@ -108,8 +113,12 @@ module _ (at : ℕ) where
   slot_added (body.Plain values) _ is new taken more = record {
     slots = record {
       had = omega arith;
-      is = omega (arith, length-append (take at values) (new ∷ drop at values),
-          length-append (take at values) (drop at values), ap length (take-append-drop at values));
+      is = omega (
+        arith,
+        length-append (take at values) (new ∷ drop at values),
+        length-append (take at values) (drop at values),
+        ap length (take-append-drop at values),
+      );
     };
     few = omega arith;
     freed = 0;

@@ -178,6 +178,15 @@ module _ (growth : Body → ℕ) (name : ℕ) (edit : Body → Body) (held : Con
 
 -- ---- updates
 
+abbrev is_failed : {A : Type 0} → Ending A → Bool
+is_failed (fails fault) = true
+is_failed _ = false
+
+-- the error by which it ended, or another one
+abbrev failed_by : {A : Type 0} → Fault → Ending A → Fault
+failed_by other (fails fault) = fault
+failed_by other _ = other
+
 abbrev said : Ending Bool → Bool
 said (gives answer) = answer
 said _ = false
@@ -203,8 +212,14 @@ module _ (refusal : Fault) (growth name : ℕ) (change : Update) (held : Content
 
   stops_by : (found : Option Body) (ended : Stop) → Computes (limits_by refusal held found) (Err ended)
       → Does (update_by refusal growth name change held found) before (Err ended) before
-  stops_by None ended computes =
-      record { keeps = keeps_same before; ends = λ local. computes.ends before.setting (with_local before local) }
+  stops_by None (stop.Fails other) computes =
+      let same : refusal ≡ other = ap (λ (outcome : Outcome MadeBlock Bool). failed_by other outcome.end)
+      (computes.ends before.setting (with_local before nowhere)) in
+      subst (λ (one : Fault). Does (update_by refusal growth name change held None) before (Err (stop.Fails one)) before) same
+      (does_stop (does_fail refusal before))
+  stops_by None (stop.Returns value home) computes = absurd (false≢true (sym
+      (ap (λ (outcome : Outcome MadeBlock Bool). is_failed outcome.end) (computes.ends before.setting (with_local before nowhere)))))
+  stops_by None stop.NoMemory computes = does_nothing (update_by refusal growth name change held None) (keeps_same before)
   stops_by (Some new) (stop.Fails fault) computes = absurd (false≢true (sym
       (ap (λ (outcome : Outcome MadeBlock Bool). is_given outcome.end) (computes.ends before.setting (with_local before nowhere)))))
   stops_by (Some new) (stop.Returns value home) computes = absurd (false≢true (sym

@@ -21,8 +21,12 @@ module _ {X : Type 0} (f : X → ℕ) (xs : List X) (at : ℕ) where
       }
 
   pub item_inserted : (new : X) → sum_by f (take at xs ++ new ∷ drop at xs) ≡ sum_by f xs + f new
-  item_inserted new = omega (arith, sum_by-append f (take at xs) (new ∷ drop at xs), sum_by-cons f new (drop at xs),
-      sum_by-take-drop f xs at)
+  item_inserted new = omega (
+    arith,
+    sum_by-append f (take at xs) (new ∷ drop at xs),
+    sum_by-cons f new (drop at xs),
+    sum_by-take-drop f xs at,
+  )
 
   pub item_removed : (old : X) → slice_get xs at ≡ Some old
       → Shifts (sum_by f xs) (f old) 0 (sum_by f (take at xs ++ drop (at + 1) xs))
@@ -32,8 +36,13 @@ module _ {X : Type 0} (f : X → ℕ) (xs : List X) (at : ℕ) where
       let size : f (get_or xs at old) ≡ f old = ap f is in
       record {
         had = omega (arith, size, get_or-le-sum_by f xs at old within);
-        is = omega (arith, size, sum_by-append f (take at xs) (drop (at + 1) xs), sum_by-take-drop f xs at,
-            sum_by-drop_more f xs at old within);
+        is = omega (
+          arith,
+          size,
+          sum_by-append f (take at xs) (drop (at + 1) xs),
+          sum_by-take-drop f xs at,
+          sum_by-drop_more f xs at old within,
+        );
       }
 
 module _ (eq : Value → Value → Bool) (key : Value) where
@@ -58,8 +67,12 @@ module _ (eq : Value → Value → Bool) (key : Value) where
           let later = more here in
           record {
             had = omega (arith, later.had, sum_by-cons pair_size pair rest);
-            is = omega (arith, later.is, sum_by-cons pair_size pair rest,
-                sum_by-cons pair_size pair (with_pair eq key new rest));
+            is = omega (
+              arith,
+              later.is,
+              sum_by-cons pair_size pair rest,
+              sum_by-cons pair_size pair (with_pair eq key new rest),
+            );
           }
 
   pub value_put_long : (old new : Value) (pairs : List (Value × Value)) → entry_of eq key pairs ≡ Some old
@@ -83,8 +96,12 @@ module _ (eq : Value → Value → Bool) (key : Value) where
           → sum_by pair_size (if same then (pair.0, new) ∷ rest else pair ∷ with_pair eq key new rest)
           ≡ sum_by pair_size (pair ∷ rest) + (value_size key + value_size new)
       by true more here = cc
-      by false more here = omega (arith, more here, sum_by-cons pair_size pair rest,
-          sum_by-cons pair_size pair (with_pair eq key new rest))
+      by false more here = omega (
+        arith,
+        more here,
+        sum_by-cons pair_size pair rest,
+        sum_by-cons pair_size pair (with_pair eq key new rest),
+      )
 
   pub pair_added_long : (new : Value) (pairs : List (Value × Value)) → entry_of eq key pairs ≡ None
       → length (with_pair eq key new pairs) ≡ length pairs + 1
@@ -118,8 +135,12 @@ module _ (eq : Value → Value → Bool) (key : Value) where
           let later = more here in
           record {
             had = omega (arith, later.had, sum_by-cons pair_size pair rest);
-            is = omega (arith, later.is, sum_by-cons pair_size pair rest,
-                sum_by-cons pair_size pair (without_key eq key rest));
+            is = omega (
+              arith,
+              later.is,
+              sum_by-cons pair_size pair rest,
+              sum_by-cons pair_size pair (without_key eq key rest),
+            );
           }
 
   pub pair_gone_long : (old : Value) (pairs : List (Value × Value)) → entry_of eq key pairs ≡ Some old

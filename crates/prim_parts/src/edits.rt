@@ -73,12 +73,7 @@ pub fn remove_slot<O: Objects>(objects: &mut O, name: Oid, at: usize) -> Result<
 }
 
 /// A byte comes at a place. Where there is no such place nothing changes.
-pub fn replace_byte<O: Objects>(
-    objects: &mut O,
-    name: Oid,
-    at: usize,
-    byte: u8,
-) -> Result<(), Stop>
+pub fn replace_byte<O: Objects>(objects: &mut O, name: Oid, at: usize, byte: u8) -> Result<(), Stop>
     ensures { Replaces (λ body. 0) name (with_byte at byte) (O.seen objects.old) result
         (O.seen objects.new) }
 {
