@@ -102,3 +102,5 @@ pub is_out_of_scope : (name : Text) (scopes : List (List Text)) (depth : ℕ) (w
 is_out_of_scope name scopes depth whole past so_far =
     let outside : length (reverse scopes) ≤ depth = rw length-reverse past in
     so_far ∙ ap (deeper depth) (at_drop_all (variable_in name) (reverse scopes) depth outside)
+
+pub ruleset scopes_in_turn = (from_innermost, not_in_scope, is_in_scope, is_out_of_scope)
