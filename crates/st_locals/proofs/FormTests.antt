@@ -1,9 +1,15 @@
 -- The tests of special forms, one after the other.
-use Rattle.std.proofs.Common.{◌≡◌, refl, sym, false≢true, ℕ, ◌==◌, Bool, true, false, List, [], ◌∷◌, length, Option, None, Some}
+use Rattle.std.proofs.Common.{◌≡◌, refl, sym, ◌∙◌, ℕ, ◌==◌, Bool, true, false, List, [], ◌∷◌, length, Option, None, Some}
+use Rattle.std.proofs.lemmas.Bool.{false≢true}
+use Rattle.std.proofs.Math.Dec.{eqb-suc-zero}
 use Rattle.texts.specs.Bytes.{Bytes as Text}
 use Rattle.st_tree.specs.Trees.{Head, Expression, expression, Expressions, an_expression, expressions, Send, send, Sends, no_sends, a_send, sends}
 use Rattle.tree_meaning.specs.Forms.{is_block_head, is_block_of, are_one_block, are_two_blocks, are_limit_and_block, form_with_block, form_with_two_blocks, form_with_limit, form_of, loop_with_block, loop_of, first_loop}
 use Rattle.tree_meaning.specs.declared.form.Form.TheVariants.{Plain}
+
+-- a list with an item isn't empty
+not_empty : {A : Type 0} (first : A) (rest : List A) → (length (first ∷ rest) == 0) ≡ true → false ≡ true
+not_empty first rest none = sym (eqb-suc-zero (length rest)) ∙ none
 
 -- an expression with anything beside its head
 pub has_assigns : (count : ℕ) (assigns : List Text) (head : Head) (messages cascade : Sends) → (length assigns == 0) ≡ false
@@ -28,9 +34,9 @@ pub has_head : (count : ℕ) (assigns : List Text) (head : Head) (messages casca
     → (length messages == 0) ≡ true → (length cascade == 0) ≡ true
     → is_block_of count (expression assigns head (sends messages) (sends cascade)) ≡ is_block_head count head
 has_head count [] head [] [] none no_message no_more = refl
-has_head count (name ∷ names) head messages cascade none no_message no_more = absurd (false≢true none)
-has_head count [] head (first ∷ rest) cascade none no_message no_more = absurd (false≢true no_message)
-has_head count [] head [] (first ∷ rest) none no_message no_more = absurd (false≢true no_more)
+has_head count (name ∷ names) head messages cascade none no_message no_more = absurd (false≢true (not_empty name names none))
+has_head count [] head (first ∷ rest) cascade none no_message no_more = absurd (false≢true (not_empty first rest no_message))
+has_head count [] head [] (first ∷ rest) none no_message no_more = absurd (false≢true (not_empty first rest no_more))
 
 pub ruleset blocks_alone = (has_assigns, has_messages, has_cascade, has_head)
 
@@ -105,12 +111,12 @@ pub first_of_cascade : (head : Head) (first : Send) (rest cascade : List Send) �
     → first_loop head (a_send first (sends rest)) (sends cascade) ≡ None
 first_of_cascade head first rest [] none some = absurd (false≢true (sym some))
 first_of_cascade head first [] (next ∷ more) none some = refl
-first_of_cascade head first (second ∷ rest) (next ∷ more) none some = absurd (false≢true none)
+first_of_cascade head first (second ∷ rest) (next ∷ more) none some = absurd (false≢true (not_empty second rest none))
 
 pub first_alone : (head : Head) (first : Send) (rest cascade : List Send) → (length rest == 0) ≡ true → (length cascade == 0) ≡ true
     → first_loop head (a_send first (sends rest)) (sends cascade) ≡ loop_of head first
 first_alone head first [] [] none no_more = refl
-first_alone head first (second ∷ rest) cascade none no_more = absurd (false≢true none)
-first_alone head first [] (next ∷ more) none no_more = absurd (false≢true no_more)
+first_alone head first (second ∷ rest) cascade none no_more = absurd (false≢true (not_empty second rest none))
+first_alone head first [] (next ∷ more) none no_more = absurd (false≢true (not_empty next more no_more))
 
 pub ruleset first_loops = (first_of_more, first_of_cascade, first_alone)

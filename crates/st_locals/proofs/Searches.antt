@@ -21,7 +21,6 @@ one_later count (Some index) =
 one_later count None = refl
 
 module _ (name : Text) (names : List Text) (index : ℕ) (each : Text) (within : index < length names) (is : each ≡ get_or names index each) where
-
   from_here : later index (index_of name (drop index names))
       ≡ later index (cond (bytes_eq name each) (Some 0) (option_map (λ (n : ℕ). suc n) (index_of name (drop (index + 1) names))))
   from_here = ap (later index) (at_drop_more (index_of name) names index each within

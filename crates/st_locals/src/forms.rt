@@ -108,7 +108,13 @@ fn is_block_head(count: usize, head: &Primary) -> bool
 fn is_block_of(count: usize, expr: &Expr) -> bool
     ensures { result ≡ is_block_of count expr.now }
 {
-    is_block_alone(count, &expr.assigns, &expr.head, &expr.messages, &expr.cascade)
+    is_block_alone(
+        count,
+        &expr.assigns,
+        &expr.head,
+        &expr.messages,
+        &expr.cascade,
+    )
 }
 
 /// The same of an expression's parts.
