@@ -1,5 +1,5 @@
 -- The tests of special forms, one after the other.
-use Rattle.std.proofs.Common.{◌≡◌, refl, sym, ◌∙◌, ℕ, ◌==◌, Bool, true, false, List, [], ◌∷◌, length, Option, None, Some}
+use Rattle.std.proofs.Common.{◌≡◌, refl, sym, ◌∙◌, ℕ, ◌==◌, true, false, List, [], ◌∷◌, length, None}
 use Rattle.std.proofs.lemmas.Bool.{false≢true}
 use Rattle.std.proofs.Math.Dec.{eqb-suc-zero}
 use Rattle.texts.specs.Bytes.{Bytes as Text}

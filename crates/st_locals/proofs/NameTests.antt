@@ -1,5 +1,5 @@
 -- What the names of the language stand for, test by test.
-use Rattle.std.proofs.Common.{◌≡◌, refl, Bool, true, false, bytes_eq, codes, List}
+use Rattle.std.proofs.Common.{◌≡◌, refl, true, false, bytes_eq, codes, List}
 use Rattle.texts.specs.Bytes.{Bytes as Text}
 use Rattle.tree_meaning.specs.Names.{where_is, is_super, variable_in}
 use Rattle.tree_meaning.specs.declared.name.Singleton.TheVariants as singleton

@@ -1,5 +1,5 @@
 -- Searches for a name, variable by variable and scope by scope.
-use Rattle.std.proofs.Common.{◌≡◌, refl, sym, ap, ◌∙◌, ℕ, suc, ◌+◌, ◌-◌, ◌<◌, ◌≤◌, List, [], ◌∷◌, length, get_or, drop, reverse, Option, None, Some, option_map, Bool, true, false, cond, bytes_eq, arith}
+use Rattle.std.proofs.Common.{◌≡◌, refl, sym, ap, ◌∙◌, ℕ, suc, ◌+◌, ◌-◌, ◌<◌, ◌≤◌, List, ◌∷◌, length, get_or, drop, reverse, Option, None, Some, option_map, Bool, true, false, cond, bytes_eq, arith}
 use Rattle.std.proofs.lemmas.List.{at_drop_more, at_drop_all, get_or-reverse, length-reverse}
 use Rattle.texts.specs.Bytes.{Bytes as Text}
 use Rattle.tree_meaning.specs.Names.{index_of, variable_in, one_deeper, innermost}
