@@ -1,0 +1,11 @@
+//! Room: running. Gives the primitives of integers and characters, 10 to 27, over any objects.
+//! Knows nothing of trees, of the Stone and of other sessions.
+#![tactic(auto)]
+
+mod arithmetic;
+mod bits;
+mod operation;
+mod radix;
+mod rows;
+
+pub use rows::call;
