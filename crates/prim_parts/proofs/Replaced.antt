@@ -4,9 +4,7 @@ use Rattle.std.specs.Option.{unwrap_or}
 use Rattle.std.proofs.lemmas.Bool.{false≢true, leb-true, le-leb}
 use Rattle.gem_object.specs.Slots.{slots_of}
 use Rattle.gem_object.specs.Sizes.{fields_size}
-use Rattle.gem_object.specs.Edits.{with_byte}
 use Rattle.gem_object.specs.declared.body.Body.{Body}
-use Rattle.gem_object.specs.declared.body.Body.TheVariants as body
 use Rattle.gem_update.specs.Update.{updated}
 use Rattle.gem_update.specs.declared.update.Update.{Update}
 use Rattle.gem_image.specs.Image.{Contents}
@@ -14,22 +12,21 @@ use Rattle.gem_world.specs.World.{Setting, World, shown}
 use Rattle.gem_world.specs.Changes.{with_body}
 use Rattle.tree_meaning.specs.Place.{MadeBlock}
 use Rattle.object_programs.specs.Local.{Local}
-use Rattle.object_programs.specs.Atom.{Put, Note, Room, Done, spent_where, done}
+use Rattle.object_programs.specs.Atom.{Put, Note, Room, spent_where}
 use Rattle.object_programs.specs.Budget.{Budget, is_within_limits}
 use Rattle.object_programs.specs.Programs.{need, check, replace_body, update}
-use Rattle.object_programs.specs.Run.{Run, give, fail, atom, and_then, Ending, gives, fails, Outcome, State, perform}
+use Rattle.object_programs.specs.Run.{Run, give, atom, and_then, Ending, gives, fails, Outcome}
 use Rattle.object_programs.specs.declared.fault.Fault.{Fault}
 use Rattle.object_programs.specs.declared.fault.Fault.TheVariants as fault
 use Rattle.object_programs.specs.declared.limits.TheConstants.{SLOTS_LIMIT, BYTES_LIMIT}
 use Rattle.running_objects.specs.Seen.{Seen, object_at, with_local, IsSoundState}
-use Rattle.running_objects.specs.Ran.{EndsSo}
 use Rattle.running_objects.specs.Acted.{Acted, Edited, stored_bytes}
 use Rattle.running_objects.specs.declared.stop.Stop.{Stop}
 use Rattle.running_objects.specs.declared.stop.Stop.TheVariants as stop
 use Rattle.running_objects.proofs.Running.{keeps_same, seen_twice}
 use Rattle.running_objects.proofs.Bytes.{seen_small}
 use Rattle.prim_parts.specs.declared.change.Change.{Change}
-use Rattle.prim_parts.specs.Changes.{Shifts, Changes, is_small, TellsLimits, room_where, limits_of_update}
+use Rattle.prim_parts.specs.Changes.{Shifts, is_small, TellsLimits, room_where, limits_of_update}
 use Rattle.prim_parts.specs.Does.{Does, Computes}
 use Rattle.prim_parts.specs.Edits.{Replaces, Updates}
 use Rattle.prim_parts.proofs.Does.{does_then, does_stop, does_atom, does_give, does_fail, does_nothing}

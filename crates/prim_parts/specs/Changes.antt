@@ -1,5 +1,5 @@
 -- What an edit changes of the slots and of the bytes of a body, and the limits of objects.
-use Rattle.std.specs.Prelude.{◌≡◌, ◌≤◌, ◌+◌, ◌-◌, ◌^◌, ℕ, min, Bool, ◌&&◌, nat_le, Option, Some, Result}
+use Rattle.std.specs.Prelude.{◌≡◌, ◌≤◌, ◌+◌, ◌-◌, ◌^◌, ℕ, min, Bool, ◌&&◌, nat_le, Some}
 use Rattle.gem_object.specs.Slots.{slots_of}
 use Rattle.gem_object.specs.Sizes.{fields_size}
 use Rattle.gem_object.specs.declared.body.Body.{Body}

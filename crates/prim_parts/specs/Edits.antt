@@ -1,5 +1,5 @@
 -- What a primitive does to the body of an object that was written.
-use Rattle.std.specs.Prelude.{◌≡◌, ℕ, Option, Some, Result}
+use Rattle.std.specs.Prelude.{◌≡◌, ℕ, Some, Result}
 use Rattle.gem_object.specs.declared.body.Body.{Body}
 use Rattle.gem_update.specs.declared.update.Update.{Update}
 use Rattle.gem_image.specs.Image.{Contents}

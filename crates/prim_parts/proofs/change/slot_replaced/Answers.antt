@@ -1,4 +1,3 @@
-use Rattle.std.proofs.Common.{refl, sym, ap, ◌∙◌}
 use Rattle.prim_parts.proofs.Changes.{unchanged, slot_not_there, slot_set}
 use Rattle.prim_parts.proofs.change.slot_replaced.Goals as goal
 

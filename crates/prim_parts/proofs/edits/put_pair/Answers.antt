@@ -1,4 +1,4 @@
-use Rattle.std.proofs.Common.{refl, sym}
+use Rattle.std.proofs.Common.{sym}
 use Rattle.std.proofs.lemmas.Result.{err_from_is_err_and}
 use Rattle.gem_object.specs.Edits.{with_value_at}
 use Rattle.gem_image.specs.Image.{contents_of}

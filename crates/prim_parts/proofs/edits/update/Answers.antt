@@ -1,4 +1,3 @@
-use Rattle.std.proofs.Common.{refl, sym}
 use Rattle.std.proofs.lemmas.Result.{err_from_is_err_and}
 use Rattle.gem_image.specs.Image.{contents_of}
 use Rattle.prim_parts.proofs.Replaced.{update_refused, update_stop, update_then}
