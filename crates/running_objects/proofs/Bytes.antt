@@ -65,24 +65,36 @@ methods_small : (methods : List Method) → are_methods methods ≡ true → met
 methods_small methods is =
     let few = and_parts (nat_lt (length methods) (2 ^ 16)) _ is in
     let each = and_parts (list_all is_method methods) _ few.1 in
-    omega (arith, ltb-true (length methods) (2 ^ 16) few.0,
-    sum_small method_size is_method (2 ^ 33) method_small methods each.0)
+    omega (
+      arith,
+      ltb-true (length methods) (2 ^ 16) few.0,
+      sum_small method_size is_method (2 ^ 33) method_small methods each.0,
+    )
 
 names_small : (names : List Text) → nat_lt (length names) (2 ^ 16) ≡ true → list_all is_text names ≡ true
     → names_size names < 2 ^ 27
-names_small names few each = omega (arith, ltb-true (length names) (2 ^ 16) few,
-    sum_small text_size is_text 1002 text_small names each)
+names_small names few each = omega (
+  arith,
+  ltb-true (length names) (2 ^ 16) few,
+  sum_small text_size is_text 1002 text_small names each,
+)
 
 values_small : (values : List Value) → are_storable values ≡ true → sum_by value_size values < 2 ^ 43
 values_small values is =
     let both = and_parts (nat_lt (length values) (2 ^ 32)) (list_all is_storable values) is in
-    omega (arith, ltb-true (length values) (2 ^ 32) both.0,
-    sum_small value_size is_storable 1003 value_small values both.1)
+    omega (
+      arith,
+      ltb-true (length values) (2 ^ 32) both.0,
+      sum_small value_size is_storable 1003 value_small values both.1,
+    )
 
 pairs_small : (pairs : List (Value × Value)) → nat_lt (length pairs) (2 ^ 32) ≡ true → list_all is_storable_pair pairs ≡ true
     → sum_by pair_size pairs < 2 ^ 44
-pairs_small pairs few each = omega (arith, ltb-true (length pairs) (2 ^ 32) few,
-    sum_small pair_size is_storable_pair 2006 pair_small pairs each)
+pairs_small pairs few each = omega (
+  arith,
+  ltb-true (length pairs) (2 ^ 32) few,
+  sum_small pair_size is_storable_pair 2006 pair_small pairs each,
+)
 
 -- what can be stored has fewer than 2^60 bytes
 pub fields_small : (body : Body) → is_spelled body ≡ true → fields_size body < 2 ^ 60
@@ -100,14 +112,22 @@ fields_small (Class class) is =
     let few = and_parts (nat_lt (length class.names) (2 ^ 16)) _ above.1 in
     let names = and_parts (list_all is_text class.names) _ few.1 in
     let methods = and_parts (are_methods class.methods) (are_methods class.class_methods) names.1 in
-    omega (arith, text_small class.name named.0, names_small class.names few.0 names.0,
-    methods_small class.methods methods.0, methods_small class.class_methods methods.1)
+    omega (
+      arith,
+      text_small class.name named.0,
+      names_small class.names few.0 names.0,
+      methods_small class.methods methods.0,
+      methods_small class.class_methods methods.1,
+    )
 fields_small (Segment rights) is =
     let owned = and_parts (is_oid rights.owner) _ is in
     let few = and_parts (nat_lt (length rights.groups) (2 ^ 16)) _ owned.1 in
     let each = and_parts (list_all (λ group. is_text group.0) rights.groups) _ few.1 in
-    omega (arith, ltb-true (length rights.groups) (2 ^ 16) few.0,
-    sum_small grant_size (λ grant. is_text grant.0) 1003 (λ grant is. omega (arith, text_small grant.0 is)) rights.groups each.0)
+    omega (
+      arith,
+      ltb-true (length rights.groups) (2 ^ 16) few.0,
+      sum_small grant_size (λ grant. is_text grant.0) 1003 (λ grant is. omega (arith, text_small grant.0 is)) rights.groups each.0,
+    )
 fields_small (User user) is =
     let named = and_parts (is_text user.name) _ is in
     let few = and_parts (nat_lt (length user.groups) (2 ^ 16)) _ named.1 in
@@ -117,8 +137,11 @@ fields_small (Counter counter) is = omega arith
 fields_small (Bag pairs) is =
     let few = and_parts (nat_lt (length pairs) (2 ^ 32)) _ is in
     let each = and_parts (list_all (λ pair. is_storable pair.0) pairs) _ few.1 in
-    omega (arith, ltb-true (length pairs) (2 ^ 32) few.0,
-    sum_small occurrences_size (λ (pair : Value × ℕ). is_storable pair.0) 1011 occurrences_small pairs each.0)
+    omega (
+      arith,
+      ltb-true (length pairs) (2 ^ 32) few.0,
+      sum_small occurrences_size (λ (pair : Value × ℕ). is_storable pair.0) 1011 occurrences_small pairs each.0,
+    )
 fields_small (RcDict pairs) is =
     let few = and_parts (nat_lt (length pairs) (2 ^ 32)) _ is in
     omega (arith, pairs_small pairs few.0 (and_parts (list_all is_storable_pair pairs) _ few.1).0)
