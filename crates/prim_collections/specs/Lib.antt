@@ -1,0 +1,4 @@
+pub mod Looks
+pub mod Puts
+pub mod Slots
+pub mod Texts
