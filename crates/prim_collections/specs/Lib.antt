@@ -1,3 +1,4 @@
+pub mod Joins
 pub mod Looks
 pub mod Puts
 pub mod Slots

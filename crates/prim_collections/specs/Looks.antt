@@ -1,6 +1,5 @@
 -- What code says of an object that it looks at, after an access or before an edit.
-use Rattle.std.specs.Prelude.{◌≡◌, ℕ, Some, Option, List, Result, Ok, Err}
-use Rattle.std.specs.Borrow.{Bor}
+use Rattle.std.specs.Prelude.{◌≡◌, ℕ, Some, Option, Result, Ok, Err}
 use Rattle.tree_meaning.specs.Place.{MadeBlock}
 use Rattle.gem_object.specs.declared.body.Body.{Body}
 use Rattle.gem_image.specs.Image.{Contents}
@@ -41,8 +40,3 @@ module _ {A : Type 0} where
       → Result ℕ Stop → Seen → Type 0
   Receives part program before (Ok name) after = Reaches part program before name after
   Receives part program before (Err ended) after = Does program before (Err ended) after
-
-  -- what both references point to, where there are two
-  abbrev pub pointed_two : Result (Bor A × Bor A) Stop → Result (A × A) Stop
-  pointed_two (Ok both) = Ok (both.0.now, both.1.now)
-  pointed_two (Err ended) = Err ended

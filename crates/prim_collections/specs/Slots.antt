@@ -32,11 +32,11 @@ TellsLayout name seen (Ok layout) = (object : Contents) → object_at name seen 
 TellsLayout name seen (Err ended) = (object : Contents) → object_at name seen ≡ Some object
     → Does (sequence_in object) seen (Err ended) seen
 
-module _ (at name : ℕ) where
-  -- what the slot at a place holds
-  abbrev pub slot_rule : Contents → Run MadeBlock Value
-  slot_rule object = need fault.Index (slot_at at object.body)
+-- what the slot at a place holds
+abbrev pub slot_rule : (at : ℕ) → Contents → Run MadeBlock Value
+slot_rule at object = need fault.Index (slot_at at object.body)
 
+module _ (at name : ℕ) where
   -- a value is put in the slot at a place, and is the answer
   abbrev pub slot_put : Value → Contents → Run MadeBlock Value
   slot_put value object =
@@ -51,5 +51,5 @@ module _ (at name : ℕ) where
   -- the slot at a place is taken away, and what it held is the answer
   abbrev pub slot_taken : Contents → Run MadeBlock Value
   slot_taken object =
-      and_then (slot_rule object) (λ value.
+      and_then (slot_rule at object) (λ value.
       and_then (replace_body 0 name object (without_slot at object.body)) (λ put. give value))

@@ -5,7 +5,6 @@ ghost use Rattle.prim_parts.specs.Does.{Does};
 ghost use Rattle.prim_collections.specs.Looks.{GoesOn};
 ghost use Rattle.prim_collections.specs.Puts.{pair_put};
 
-use crate::arguments::two_of;
 use crate::bodies::pairs_at;
 use crate::indexes::size_of;
 use crate::lists::{keys_of, values_of};
@@ -13,9 +12,10 @@ use crate::pairs::{check_key, has_key, key_argument, read_dictionary, value_at, 
 use gem_object::{Body, Value, Values};
 use gem_sound::names::ARRAY_CLASS;
 use gem_value::Oid;
-use prim_parts::{check_stored, new_object, no_arguments, put_pair, remove_pair, truth};
+use prim_parts::{
+    check_stored, kernel_name, new_object, no_arguments, put_pair, remove_pair, truth, two_of,
+};
 use prim_rules::PrimitiveAnswer;
-use profile::KERNEL_SERIAL;
 use running_objects::{Objects, Stop};
 use std::alloc::Global;
 
@@ -153,7 +153,6 @@ fn new_array<O: Objects>(
         (O.seen objects.new) }
 {
     let body = Body::Plain(Values::of(values));
-    let class = Oid::from_parts(KERNEL_SERIAL, ARRAY_CLASS);
-    let array = new_object(alloc, objects, class, body)?;
+    let array = new_object(alloc, objects, kernel_name(ARRAY_CLASS), body)?;
     Ok(PrimitiveAnswer::Gives(array))
 }

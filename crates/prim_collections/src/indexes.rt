@@ -1,5 +1,5 @@
 //! Indexes of the language, which count from 1, and sizes.
-ghost use Rattle.std.specs.Prelude.{◌≡◌, pos, IfOk};
+ghost use Rattle.std.specs.Prelude.{◌≡◌, ◌<◌, pos, IfOk};
 ghost use Rattle.gem_object.specs.declared.value.Value.TheVariants.{Int};
 ghost use Rattle.object_programs.specs.Programs.{need};
 ghost use Rattle.object_programs.specs.declared.fault.Fault.TheVariants as fault;
@@ -13,7 +13,8 @@ use std::alloc::AllocError;
 
 /// The place of the item with this index among so many; E4 where there is none.
 pub fn place_in(size: usize, index: i64) -> Result<usize, Stop>
-    ensures { Computes (need fault.Index (place_in size index)) result }
+    ensures place { Computes (need fault.Index (place_in size index)) result }
+    ensures within { IfOk result (λ place. place < size) }
 {
     if index < 1 {
         return Err(Stop::Fails(Fault::Index));

@@ -2,9 +2,13 @@
 //! IdentityDictionaries. Knows nothing of trees, of the Stone and of other sessions.
 #![tactic(auto)]
 
-mod arguments;
 mod bodies;
+mod copies;
 mod dictionaries;
 mod indexes;
+mod integers;
+mod layout;
 mod lists;
 mod pairs;
+mod sequences;
+mod strings;
