@@ -1,5 +1,5 @@
 -- Digits that are read from the left, while the number stays at 2^64 - 1 once it is there.
-use Rattle.std.proofs.Common.{◌≡◌, refl, sym, ap, ap₂, ◌∙◌, subst, ℕ, zero, suc, ◌+◌, ◌-◌, ◌*◌, ◌^◌, ◌<◌, ◌≤◌, min, Bool, true, false, ◌&&◌, cond, List, [], ◌∷◌, Option, Some, None, option_map, length, drop, get_or, arith}
+use Rattle.std.proofs.Common.{◌≡◌, refl, sym, ap, ap₂, ◌∙◌, subst, ℕ, zero, suc, ◌+◌, ◌-◌, ◌*◌, ◌^◌, ◌<◌, ◌≤◌, ◌==◌, min, Bool, true, false, ◌&&◌, cond, List, [], ◌∷◌, Option, Some, None, option_map, length, drop, get_or, arith}
 use Rattle.std.specs.List.{list_all}
 use Rattle.std.specs.Char.{is_ascii_digit, digit_value}
 use Rattle.std.specs.Str.Parse.{digits_value, digits_value_after}
@@ -20,15 +20,15 @@ read_none text = record { exact = 0; capped = omega arith; value = refl; digits 
 digit_is : (byte : ℕ) → is_ascii_digit byte ≡ true → digit_value byte ≡ byte - 48
 digit_is byte digit = grind arith
 
-next_is : (text : List ℕ) (at byte : ℕ) → at < length text → byte ≡ get_or text at byte
+next_is : (text : List ℕ) (at byte : ℕ) → at < length text → byte ≡ get_or text at 0
     → drop at text ≡ byte ∷ drop (at + 1) text
 next_is text at byte within is =
     let more : suc at ≡ at + 1 = omega arith in
-    drop-cons text at byte within ∙ ap₂ (λ (first count : ℕ). first ∷ drop count text) (sym is) more
+    drop-cons text at 0 within ∙ ap₂ (λ (first count : ℕ). first ∷ drop count text) (sym is) more
 
 -- one digit more
 pub read_more : (text : List ℕ) (at number byte next : ℕ) → Read text at number → at < length text
-    → byte ≡ get_or text at byte → is_ascii_digit byte ≡ true
+    → byte ≡ get_or text at 0 → is_ascii_digit byte ≡ true
     → next ≡ min (min (number * 10) (2 ^ 64 - 1) + (byte - 48)) (2 ^ 64 - 1) → Read text (at + 1) next
 read_more text at number byte next read within is digit more =
     let here = next_is text at byte within is in
@@ -41,20 +41,10 @@ read_more text at number byte next read within is digit more =
           ∙ ap (λ (b : Bool). b && list_all is_ascii_digit (drop (at + 1) text)) digit;
     }
 
--- another byte
-pub read_other : (text : List ℕ) (at number byte : ℕ) → Read text at number → at < length text
-    → byte ≡ get_or text at byte → is_ascii_digit byte ≡ false → digits_in text ≡ None
-read_other [] at number byte read within is other = refl
-read_other (first ∷ rest) at number byte read within is other =
-    let here = next_is (first ∷ rest) at byte within is in
-    let none : list_all is_ascii_digit (first ∷ rest) ≡ false = read.digits ∙ ap (list_all is_ascii_digit) here
-    ∙ ap (λ (b : Bool). b && list_all is_ascii_digit (drop (at + 1) (first ∷ rest))) other in
-    ap (λ (b : Bool). cond b (Some (digits_value 10 (first ∷ rest))) None) none
-
 -- all bytes
-pub read_all : (text : List ℕ) (at number : ℕ) → Read text at number → length text ≤ at → 0 < length text
+pub read_all : (text : List ℕ) (at number : ℕ) → Read text at number → length text ≤ at → false ≡ (length text == 0)
     → Some number ≡ option_map (λ exact. min exact (2 ^ 64 - 1)) (digits_in text)
-read_all [] at number read past some = absurd (omega arith)
+read_all [] at number read past some = absurd (false≢true some)
 read_all (first ∷ rest) at number read past some =
     let none = nothing (first ∷ rest) at past in
     let all : list_all is_ascii_digit (first ∷ rest) ≡ true = read.digits ∙ ap (list_all is_ascii_digit) none in

@@ -3,6 +3,7 @@
 #![tactic(auto)]
 
 mod bodies;
+mod by_number;
 mod copies;
 mod dictionaries;
 mod indexes;
@@ -12,3 +13,5 @@ mod lists;
 mod pairs;
 mod sequences;
 mod strings;
+
+pub use by_number::call;
