@@ -1,5 +1,5 @@
 -- Digits that are read from the left, while the number stays at 2^64 - 1 once it is there.
-use Rattle.std.proofs.Common.{◌≡◌, refl, sym, ap, ap₂, ◌∙◌, subst, ℕ, zero, suc, ◌+◌, ◌-◌, ◌*◌, ◌^◌, ◌<◌, ◌≤◌, ◌==◌, min, Bool, true, false, ◌&&◌, cond, List, [], ◌∷◌, Option, Some, None, option_map, length, drop, get_or, arith}
+use Rattle.std.proofs.Common.{◌≡◌, refl, sym, ap, ap₂, ◌∙◌, ℕ, zero, suc, ◌+◌, ◌-◌, ◌*◌, ◌^◌, ◌<◌, ◌≤◌, ◌==◌, min, Bool, true, false, ◌&&◌, cond, List, [], ◌∷◌, Some, None, option_map, length, drop, get_or, arith}
 use Rattle.std.specs.List.{list_all}
 use Rattle.std.specs.Char.{is_ascii_digit, digit_value}
 use Rattle.std.specs.Str.Parse.{digits_value, digits_value_after}
@@ -50,7 +50,8 @@ read_all (first ∷ rest) at number read past some =
     let all : list_all is_ascii_digit (first ∷ rest) ≡ true = read.digits ∙ ap (list_all is_ascii_digit) none in
     let is : digits_value 10 (first ∷ rest) ≡ read.exact = read.value ∙ ap (digits_value_after 10 read.exact) none in
     ap Some (read.capped ∙ ap (λ (exact : ℕ). min exact (2 ^ 64 - 1)) (sym is))
-    ∙ sym (ap (λ (b : Bool). option_map (λ exact. min exact (2 ^ 64 - 1)) (cond b (Some (digits_value 10 (first ∷ rest))) None)) all)
+    ∙ sym (ap (λ (b : Bool). option_map (λ exact. min exact (2 ^ 64 - 1)) (cond b (Some (digits_value 10
+    (first ∷ rest))) None)) all)
   where
     nothing : (xs : List ℕ) (count : ℕ) → length xs ≤ count → drop count xs ≡ []
     nothing [] zero past = refl

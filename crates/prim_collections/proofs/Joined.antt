@@ -1,9 +1,9 @@
 -- What is seen stays the same where a fixed part is asked for.
-use Rattle.std.proofs.Common.{◌≡◌, refl, sym, ap, ap₂, ◌∙◌, ℕ, Option, Result, Ok, Err, OnOk}
+use Rattle.std.proofs.Common.{sym, ap, ap₂, ℕ, Option, Result, Ok, Err, OnOk}
 use Rattle.gem_world.specs.World.{Setting, World, shown}
 use Rattle.object_programs.specs.Atom.{Done, touch_missing}
 use Rattle.object_programs.specs.Fixed.{Fixed}
-use Rattle.running_objects.specs.Seen.{Seen, object_at}
+use Rattle.running_objects.specs.Seen.{Seen}
 use Rattle.running_objects.specs.Acted.{Known}
 use Rattle.prim_collections.specs.Joins.{Shows}
 

@@ -1,21 +1,19 @@
 -- Edits of slots, as edits of the elements that stand after the named ones.
-use Rattle.std.proofs.Common.{◌≡◌, refl, sym, ap, ap₂, ◌∙◌, subst, ℕ, zero, suc, ◌+◌, ◌-◌, ◌<◌, ◌≤◌, List, [], ◌∷◌, ◌++◌, Option, Some, None, Result, Ok, Err, length, take, drop, slice_set, arith, append_assoc, length-drop}
+use Rattle.std.proofs.Common.{◌≡◌, refl, sym, ap, ap₂, ◌∙◌, subst, ℕ, zero, suc, ◌+◌, ◌-◌, ◌≤◌, List, [], ◌∷◌, ◌++◌, Option, Some, None, Result, Ok, length, take, drop, slice_set, arith, append_assoc, length-drop}
 use Rattle.std.specs.List.{slice_get}
 use Rattle.std.specs.Option.{option_and_then}
 use Rattle.std.proofs.Math.Seq.{take-length}
 use Rattle.std.proofs.lemmas.List.{take-append-drop, take-set-le, drop-set-add, drop-drop, append-nil}
-use Rattle.std.proofs.lemmas.Option.{slice_get_within}
-use Rattle.tree_meaning.specs.Place.{MadeBlock}
 use Rattle.gem_object.specs.Edits.{slot_at, with_slot, with_slot_more, without_slot}
 use Rattle.gem_object.specs.declared.value.Value.{Value}
 use Rattle.gem_object.specs.declared.body.Body.{Body}
 use Rattle.gem_object.specs.declared.body.Body.TheVariants.{Plain, Bytes, Dict, Class, Segment, User, Counter, Bag, RcDict, Queue}
 use Rattle.gem_image.specs.Image.{Contents}
-use Rattle.object_programs.specs.Run.{Run, give, and_then}
+use Rattle.object_programs.specs.Run.{give, and_then}
 use Rattle.object_programs.specs.Programs.{need, replace_body}
 use Rattle.object_programs.specs.declared.fault.Fault.TheVariants as fault
 use Rattle.prim_rules.specs.Parts.{slots_in, named_slots}
-use Rattle.prim_rules.specs.Sequences.{put_elements, without_first, without_last, last_at}
+use Rattle.prim_rules.specs.Sequences.{put_elements, without_first, without_last}
 use Rattle.running_objects.specs.Seen.{Seen}
 use Rattle.running_objects.specs.declared.stop.Stop.{Stop}
 use Rattle.prim_parts.specs.Does.{Does}
@@ -115,7 +113,8 @@ module _ {object : Contents} {seen : Seen} {layout : Layout} (laid : IsLaidOut o
       → Does (put_elements 0 name object (take layout.named laid.slots)
       (slice_set (drop layout.named laid.slots) place value) value) before result after
   element_put name place value {before} {after} {result} does =
-      let At : Body → Type 0 = λ body. Does (and_then (replace_body 0 name object body) (λ put. give value)) before result after in
+      let At : Body → Type 0 = λ body. Does (and_then (replace_body 0 name object body)
+      (λ put. give value)) before result after in
       subst At (ap (with_slot (layout.named + place) value) laid.are ∙ ap Plain (put_is laid.slots layout.named place value)) does
 
   -- a value that was added behind the last element, and before the first one
@@ -124,7 +123,8 @@ module _ {object : Contents} {seen : Seen} {layout : Layout} (laid : IsLaidOut o
       → Does (put_elements 1 name object (take layout.named laid.slots)
       (drop layout.named laid.slots ++ value ∷ []) value) before result after
   last_put name value {before} {after} {result} does =
-      let At : Body → Type 0 = λ body. Does (and_then (replace_body 1 name object body) (λ put. give value)) before result after in
+      let At : Body → Type 0 = λ body. Does (and_then (replace_body 1 name object body)
+      (λ put. give value)) before result after in
       subst At (ap (with_slot_more layout.slots value) laid.are
       ∙ ap Plain (last_is laid.slots layout.named layout.slots value laid.count)) does
 
@@ -133,7 +133,8 @@ module _ {object : Contents} {seen : Seen} {layout : Layout} (laid : IsLaidOut o
       → Does (put_elements 1 name object (take layout.named laid.slots)
       (value ∷ drop layout.named laid.slots) value) before result after
   first_put name value {before} {after} {result} does =
-      let At : Body → Type 0 = λ body. Does (and_then (replace_body 1 name object body) (λ put. give value)) before result after in
+      let At : Body → Type 0 = λ body. Does (and_then (replace_body 1 name object body)
+      (λ put. give value)) before result after in
       subst At (ap (with_slot_more layout.named value) laid.are) does
 
   -- elements that are taken away, by what was found at their slot and by the body without it
@@ -141,11 +142,13 @@ module _ {object : Contents} {seen : Seen} {layout : Layout} (laid : IsLaidOut o
       {before after : Seen} {result : Result Value Stop} → body ≡ Plain (named ++ rest)
       → Does (and_then (need fault.Index found) (λ value.
       and_then (replace_body 0 name object body) (λ put. give value))) before result after
-      → Does (and_then {C = Value × List Value} (need fault.Index (option_and_then (λ value. Some (value, rest)) found)) (λ removed.
+      → Does (and_then {C = Value × List Value} (need fault.Index (option_and_then (λ value. Some (value, rest)) found))
+      (λ removed.
       put_elements 0 name object named removed.1 removed.0)) before result after
   took name named None rest body is does = record { keeps = does.keeps; ends = does.ends }
   took name named (Some value) rest body {before} {after} {result} is does =
-      let At : Body → Type 0 = λ body. Does (and_then (replace_body 0 name object body) (λ put. give value)) before result after in
+      let At : Body → Type 0 = λ body. Does (and_then (replace_body 0 name object body)
+      (λ put. give value)) before result after in
       let peeled : Does (and_then (replace_body 0 name object body) (λ put. give value)) before result after =
       record { keeps = does.keeps; ends = does.ends } in
       let one = subst At is peeled in

@@ -1,7 +1,7 @@
 -- How rows of code make rows of programs, beside what is told of single steps below.
 use Rattle.std.specs.Option.{unwrap_or}
 use Rattle.std.proofs.lemmas.Bool.{false≢true}
-use Rattle.std.proofs.Common.{[], ◌≡◌, refl, sym, ap, ◌∙◌, subst, ℕ, Bool, true, false, Option, Some, None, Result, Ok, Err}
+use Rattle.std.proofs.Common.{[], ◌≡◌, sym, ap, ◌∙◌, subst, ℕ, Bool, true, false, Option, Some, None, Result, Ok, Err}
 use Rattle.gem_object.specs.declared.value.Value.{Value}
 use Rattle.gem_object.specs.declared.body.Body.{Body}
 use Rattle.gem_image.specs.Image.{Contents}
@@ -9,41 +9,27 @@ use Rattle.gem_world.specs.World.{Setting}
 use Rattle.gem_world.specs.Access.{Access}
 use Rattle.tree_meaning.specs.Place.{MadeBlock}
 use Rattle.object_programs.specs.Local.{Local}
-use Rattle.object_programs.specs.Atom.{Atom, Ask}
-use Rattle.object_programs.specs.Run.{Run, give, fail, atom, and_then, gives, Outcome, Ending, onward, State, perform}
+use Rattle.object_programs.specs.Atom.{Ask}
+use Rattle.object_programs.specs.Run.{Run, give, atom, and_then, gives, Outcome, Ending, onward, State, perform}
 use Rattle.object_programs.specs.Programs.{need}
 use Rattle.object_programs.specs.declared.fault.Fault.{Fault}
 use Rattle.object_programs.specs.declared.fault.Fault.TheVariants as fault
 use Rattle.prim_rules.specs.Parts.{reference_in}
 use Rattle.prim_rules.specs.Receivers.{Receiver, received}
-use Rattle.running_objects.specs.Seen.{Seen, object_at, with_local, Keeps}
+use Rattle.running_objects.specs.Seen.{Seen}
 use Rattle.running_objects.specs.Ran.{EndsSo}
-use Rattle.running_objects.specs.Acted.{Acted, Reached}
+use Rattle.running_objects.specs.Acted.{Reached}
 use Rattle.running_objects.specs.declared.stop.Stop.{Stop}
 use Rattle.running_objects.specs.declared.stop.Stop.TheVariants as stop
-use Rattle.running_objects.proofs.Running.{keeps_same, seen_twice}
 use Rattle.prim_parts.specs.Does.{Does, Computes}
 use Rattle.prim_collections.specs.Looks.{Looks, Reaches}
-use Rattle.prim_parts.proofs.Does.{does_give, does_fail, does_nothing, does_atom, does_then, does_stop, does_compute, computes_give, computes_fail, computes_then, computes_stop}
-
--- where memory ran out before anything was done, and after it
-pub nothing_done : {A : Type 0} (program : Run MadeBlock A) (seen : Seen) → Does program seen (Err stop.NoMemory) seen
-nothing_done program seen = does_nothing program (keeps_same seen)
-
-pub nothing_computed : {A : Type 0} (program : Run MadeBlock A) → Computes program (Err stop.NoMemory)
-nothing_computed program = record { ends = λ setting state. tt }
+use Rattle.prim_parts.proofs.Does.{does_give, does_nothing, does_atom, does_then, does_stop, computes_then}
 
 -- an access that was allowed, and what goes on from the object
 pub does_accessed : {A : Type 0} {access : Access} {name : ℕ} {before between after : Seen} {result : Result A Stop}
     {rest : Contents → Run MadeBlock A} (reached : Reached access name before between)
     → Does (rest reached.object) between result after → Does (and_then (atom (Ask access name)) rest) before result after
 does_accessed reached does = does_then (does_atom reached.acted) does
-
--- an access that was refused
-pub does_refused : {A : Type 0} {access : Access} {name : ℕ} {before after : Seen} {ended : Stop}
-    {rest : Contents → Run MadeBlock A} → Acted (Ask access name) before (Err ended) after
-    → Does (and_then (atom (Ask access name)) rest) before (Err ended) after
-does_refused acted = does_stop (does_atom acted)
 
 -- one computation after the other
 pub computes_on : {A C : Type 0} {first : Run MadeBlock C} {second : C → Run MadeBlock A} {answer : C}
@@ -87,7 +73,8 @@ needed {A} fault (Some held) does =
     ap (λ (outcome : Outcome MadeBlock A). answer_of None outcome.end) (does.ends nowhere)
 
 -- a receiver that was reached, whose body holds what the rule is for
-pub reaches : {A : Type 0} {part : Body → Option A} {access : Access} (value : Value) {name : ℕ} {before between : Seen} {held : A}
+pub reaches : {A : Type 0} {part : Body → Option A} {access : Access}
+    (value : Value) {name : ℕ} {before between : Seen} {held : A}
     → Computes (need fault.ArgumentKind (reference_in value)) (Ok name) → Reached access name before between
     → Looks (λ object. need fault.ArgumentKind (part object.body)) name between (Ok held)
     → Reaches part (received (λ other. atom (Ask access other)) part value) before name between

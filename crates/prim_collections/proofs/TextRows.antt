@@ -1,13 +1,12 @@
 -- What bytes and characters that were seen say of bodies and values.
-use Rattle.std.proofs.Common.{◌≡◌, refl, sym, ap, ◌∙◌, subst, ℕ, List, Option, Some, None, Result, Ok, Err, slice_set}
-use Rattle.tree_meaning.specs.Place.{MadeBlock}
+use Rattle.std.proofs.Common.{◌≡◌, sym, subst, ℕ, List, Some, Result, Ok, slice_set}
 use Rattle.gem_object.specs.Edits.{with_byte}
 use Rattle.gem_object.specs.declared.value.Value.{Value}
 use Rattle.gem_object.specs.declared.value.Value.TheVariants as value
 use Rattle.gem_object.specs.declared.body.Body.{Body}
 use Rattle.gem_object.specs.declared.body.Body.TheVariants.{Plain, Bytes, Dict, Class, Segment, User, Counter, Bag, RcDict, Queue}
 use Rattle.gem_image.specs.Image.{Contents}
-use Rattle.object_programs.specs.Run.{Run, give}
+use Rattle.object_programs.specs.Run.{give}
 use Rattle.object_programs.specs.Programs.{need, replace_body}
 use Rattle.object_programs.specs.declared.fault.Fault.TheVariants as fault
 use Rattle.prim_rules.specs.Parts.{bytes_in, character_in}
@@ -40,7 +39,8 @@ character_is (value.Ref oid) code is = cc
 character_is (value.Block block) code is = cc
 
 -- a byte that was put in the bytes that were seen
-pub byte_put : (object : Contents) (name place code : ℕ) {bytes : List ℕ} {seen before after : Seen} {result : Result (Unit {0}) Stop}
+pub byte_put : (object : Contents) (name place code : ℕ) {bytes : List ℕ} {seen before after : Seen} {result : Result
+    (Unit {0}) Stop}
     → Does (need fault.ArgumentKind (bytes_in object.body)) seen (Ok bytes) seen
     → Does (replace_body 0 name object (with_byte place code object.body)) before result after
     → Does (replace_body 0 name object (Bytes (slice_set bytes place code))) before result after

@@ -15,8 +15,10 @@ returns-in_err-from g c =
 pub returns-in_err-part_copied : goal.returns-in_err-part_copied
 returns-in_err-part_copied g c =
     let p = err_from_is_err_and c.from_residual-in_err-part_copied.result c.from_residual-in_err-part_copied.ensures.1 in
-    rw (p.1, p.2) (computes_then c.in_ok-name.ensures (computes_then c.in_ok-from.ensures (does_stop c.in_err-part_copied.ensures)))
+    rw (p.1, p.2) (computes_then c.in_ok-name.ensures (computes_then c.in_ok-from.ensures (does_stop
+    c.in_err-part_copied.ensures)))
 
 pub returns : goal.returns
 returns g c =
-    computes_then c.in_ok-name.ensures (computes_then c.in_ok-from.ensures (does_then c.in_ok-part_copied.ensures (does_give _ _)))
+    computes_then c.in_ok-name.ensures (computes_then c.in_ok-from.ensures (does_then c.in_ok-part_copied.ensures
+    (does_give _ _)))

@@ -14,9 +14,12 @@ returns-in_err-argument g c =
 
 pub returns-in_err-sequences_joined : goal.returns-in_err-sequences_joined
 returns-in_err-sequences_joined g c =
-    let p = err_from_is_err_and c.from_residual-in_err-sequences_joined.result c.from_residual-in_err-sequences_joined.ensures.1 in
-    rw (p.1, p.2) (computes_then c.in_ok-name.ensures (computes_then c.in_ok-argument.ensures (does_stop c.in_err-sequences_joined.ensures)))
+    let p = err_from_is_err_and c.from_residual-in_err-sequences_joined.result
+    c.from_residual-in_err-sequences_joined.ensures.1 in
+    rw (p.1, p.2) (computes_then c.in_ok-name.ensures (computes_then c.in_ok-argument.ensures (does_stop
+    c.in_err-sequences_joined.ensures)))
 
 pub returns : goal.returns
 returns g c =
-    computes_then c.in_ok-name.ensures (computes_then c.in_ok-argument.ensures (does_then c.in_ok-sequences_joined.ensures (does_give _ _)))
+    computes_then c.in_ok-name.ensures (computes_then c.in_ok-argument.ensures (does_then c.in_ok-sequences_joined.ensures
+    (does_give _ _)))

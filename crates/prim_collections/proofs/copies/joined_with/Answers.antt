@@ -12,11 +12,20 @@ returns-in_err-read g c =
 pub returns-in_err-layout : goal.returns-in_err-layout
 returns-in_err-layout g c =
     let p = err_from_is_err_and c.from_residual-in_err-layout.result c.from_residual-in_err-layout.ensures.1 in
-    rw (p.1, p.2) (does_stop (does_accessed c.in_ok-read.ensures (c.in_err-layout.ensures c.in_ok-read.ensures.object c.in_ok-read.ensures.there)))
+    rw (p.1, p.2) (does_stop (does_accessed c.in_ok-read.ensures (c.in_err-layout.ensures c.in_ok-read.ensures.object
+    c.in_ok-read.ensures.there)))
 
 pub new_sequence-requires : goal.new_sequence-requires
 new_sequence-requires g c = ap is_some (c.in_ok-read.ensures.same _) ∙ c.requires
 
 pub returns : goal.returns
 returns g c =
-    does_then (does_accessed c.in_ok-read.ensures (c.in_ok-layout.ensures c.in_ok-read.ensures.object c.in_ok-read.ensures.there).does) (rw (c.in_ok-append.ensures.items, c.in_ok-more.ensures, c.elements_at.ensures c.in_ok-read.ensures.object (c.in_ok-layout.ensures c.in_ok-read.ensures.object c.in_ok-read.ensures.there).slots c.in_ok-read.ensures.there (c.in_ok-layout.ensures c.in_ok-read.ensures.object c.in_ok-read.ensures.there).are) at c.new_sequence.ensures)
+    does_then (does_accessed c.in_ok-read.ensures (c.in_ok-layout.ensures c.in_ok-read.ensures.object
+    c.in_ok-read.ensures.there).does) (rw (
+      c.in_ok-append.ensures.items,
+      c.in_ok-more.ensures,
+      c.elements_at.ensures
+          c.in_ok-read.ensures.object (c.in_ok-layout.ensures c.in_ok-read.ensures.object c.in_ok-read.ensures.there).slots
+          c.in_ok-read.ensures.there (c.in_ok-layout.ensures c.in_ok-read.ensures.object c.in_ok-read.ensures.there).are,
+    ) at
+    c.new_sequence.ensures)

@@ -10,7 +10,9 @@ returns-in_err-name-clause-does g c =
     rw (p.1, p.2) (computes_stop _ c.in_err-name.ensures)
 
 pub returns-clause-does : goal.returns-clause-does
-returns-clause-does g c = computes_then c.in_ok-name.ensures (known_then c.in_ok-know.ensures c.in-Some.ensures c.indexed.ensures.does)
+returns-clause-does g c = computes_then c.in_ok-name.ensures (known_then c.in_ok-know.ensures c.in-Some.ensures
+    c.indexed.ensures.does)
 
 pub returns-clause-same : goal.returns-clause-same
-returns-clause-same g c = on_ok_weaker c.indexed.result (λ same name. same name ∙ known_same c.in_ok-know.ensures name) c.indexed.ensures.same
+returns-clause-same g c = on_ok_weaker c.indexed.result (λ same name. same name ∙ known_same c.in_ok-know.ensures name)
+    c.indexed.ensures.same

@@ -22,4 +22,5 @@ returns-in_err-pairs_at g c =
 pub returns : goal.returns
 returns g c =
     does_then c.in_ok-name.ensures.does (computes_then c.in_ok-no_arguments.ensures
-    (rw (c.in_ok-size_of.ensures, c.len-size.ensures.len, held_again c.in_ok-name.ensures c.in_ok-pairs_at.ensures) (does_give _ _)))
+    (rw (c.in_ok-size_of.ensures, c.len-size.ensures.len, held_again c.in_ok-name.ensures c.in_ok-pairs_at.ensures)
+    (does_give _ _)))

@@ -15,7 +15,8 @@ returns-in_err-key g c =
 pub returns-in_err-check_key : goal.returns-in_err-check_key
 returns-in_err-check_key g c =
     let p = err_from_is_err_and c.from_residual-in_err-check_key.result c.from_residual-in_err-check_key.ensures.1 in
-    rw (p.1, p.2) (does_then c.in_ok-name.ensures.does (computes_then c.in_ok-key.ensures (computes_stop _ c.in_err-check_key.ensures)))
+    rw (p.1, p.2) (does_then c.in_ok-name.ensures.does (computes_then c.in_ok-key.ensures (computes_stop _
+    c.in_err-check_key.ensures)))
 
 pub returns-in_err-check_stored : goal.returns-in_err-check_stored
 returns-in_err-check_stored g c =

@@ -21,10 +21,12 @@ returns-in_err-value g c =
 pub returns-in_err-remove_pair : goal.returns-in_err-remove_pair
 returns-in_err-remove_pair g c =
     let p = err_from_is_err_and c.from_residual-in_err-remove_pair.result c.from_residual-in_err-remove_pair.ensures.1 in
-    rw (p.1, p.2) (does_then c.in_ok-name.ensures.does (computes_then c.in_ok-key.ensures (does_then (c.in_ok-value.ensures c.in_ok-name.ensures.object c.in_ok-name.ensures.there)
+    rw (p.1, p.2) (does_then c.in_ok-name.ensures.does (computes_then c.in_ok-key.ensures (does_then
+    (c.in_ok-value.ensures c.in_ok-name.ensures.object c.in_ok-name.ensures.there)
     (does_stop (c.in_err-remove_pair.ensures c.in_ok-name.ensures.object c.in_ok-name.ensures.there)))))
 
 pub returns : goal.returns
 returns g c =
-    does_then c.in_ok-name.ensures.does (computes_then c.in_ok-key.ensures (does_then (c.in_ok-value.ensures c.in_ok-name.ensures.object c.in_ok-name.ensures.there)
+    does_then c.in_ok-name.ensures.does (computes_then c.in_ok-key.ensures (does_then (c.in_ok-value.ensures
+    c.in_ok-name.ensures.object c.in_ok-name.ensures.there)
     (does_then (c.in_ok-remove_pair.ensures c.in_ok-name.ensures.object c.in_ok-name.ensures.there) (does_give _ _))))

@@ -15,8 +15,10 @@ returns-in_err-value g c =
 pub returns-in_err-first_added : goal.returns-in_err-first_added
 returns-in_err-first_added g c =
     let p = err_from_is_err_and c.from_residual-in_err-first_added.result c.from_residual-in_err-first_added.ensures.1 in
-    rw (p.1, p.2) (computes_then c.in_ok-name.ensures (computes_then c.in_ok-value.ensures (does_stop c.in_err-first_added.ensures)))
+    rw (p.1, p.2) (computes_then c.in_ok-name.ensures (computes_then c.in_ok-value.ensures (does_stop
+    c.in_err-first_added.ensures)))
 
 pub returns : goal.returns
 returns g c =
-    computes_then c.in_ok-name.ensures (computes_then c.in_ok-value.ensures (does_then c.in_ok-first_added.ensures (does_give _ _)))
+    computes_then c.in_ok-name.ensures (computes_then c.in_ok-value.ensures (does_then c.in_ok-first_added.ensures
+    (does_give _ _)))

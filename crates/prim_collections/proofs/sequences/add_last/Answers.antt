@@ -15,8 +15,10 @@ returns-in_err-value g c =
 pub returns-in_err-last_added : goal.returns-in_err-last_added
 returns-in_err-last_added g c =
     let p = err_from_is_err_and c.from_residual-in_err-last_added.result c.from_residual-in_err-last_added.ensures.1 in
-    rw (p.1, p.2) (computes_then c.in_ok-name.ensures (computes_then c.in_ok-value.ensures (does_stop c.in_err-last_added.ensures)))
+    rw (p.1, p.2) (computes_then c.in_ok-name.ensures (computes_then c.in_ok-value.ensures (does_stop
+    c.in_err-last_added.ensures)))
 
 pub returns : goal.returns
 returns g c =
-    computes_then c.in_ok-name.ensures (computes_then c.in_ok-value.ensures (does_then c.in_ok-last_added.ensures (does_give _ _)))
+    computes_then c.in_ok-name.ensures (computes_then c.in_ok-value.ensures (does_then c.in_ok-last_added.ensures
+    (does_give _ _)))

@@ -14,18 +14,36 @@ returns-in_err-read g c =
 pub returns-in_err-layout : goal.returns-in_err-layout
 returns-in_err-layout g c =
     let p = err_from_is_err_and c.from_residual-in_err-layout.result c.from_residual-in_err-layout.ensures.1 in
-    rw (p.1, p.2) (does_stop (does_accessed c.in_ok-read.ensures (c.in_err-layout.ensures c.in_ok-read.ensures.object c.in_ok-read.ensures.there)))
+    rw (p.1, p.2) (does_stop (does_accessed c.in_ok-read.ensures (c.in_err-layout.ensures c.in_ok-read.ensures.object
+    c.in_ok-read.ensures.there)))
 
 pub returns-in_err-number : goal.returns-in_err-number
 returns-in_err-number g c =
     let p = err_from_is_err_and c.from_residual-in_err-number.result c.from_residual-in_err-number.ensures.1 in
-    rw (p.1, p.2) (does_then (does_accessed c.in_ok-read.ensures (c.in_ok-layout.ensures c.in_ok-read.ensures.object c.in_ok-read.ensures.there).does) (computes_stop _ c.in_err-number.ensures))
+    rw (p.1, p.2) (does_then (does_accessed c.in_ok-read.ensures (c.in_ok-layout.ensures c.in_ok-read.ensures.object
+    c.in_ok-read.ensures.there).does) (computes_stop _ c.in_err-number.ensures))
 
 pub returns-in_err-place : goal.returns-in_err-place
 returns-in_err-place g c =
     let p = err_from_is_err_and c.from_residual-in_err-place.result c.from_residual-in_err-place.ensures.1 in
-    rw (p.1, p.2) (does_then (does_accessed c.in_ok-read.ensures (c.in_ok-layout.ensures c.in_ok-read.ensures.object c.in_ok-read.ensures.there).does) (computes_then c.in_ok-number.ensures (computes_stop _ (rw (to_z-of_z w64 c.in_ok-number.number (search rules), c.size.ensures, size_is (c.in_ok-layout.ensures c.in_ok-read.ensures.object c.in_ok-read.ensures.there)) at c.in_err-place.ensures.place))))
+    rw (p.1, p.2) (does_then (does_accessed c.in_ok-read.ensures (c.in_ok-layout.ensures c.in_ok-read.ensures.object
+    c.in_ok-read.ensures.there).does) (computes_then c.in_ok-number.ensures (computes_stop _ (rw (
+      to_z-of_z w64
+          c.in_ok-number.number (search rules),
+      c.size.ensures,
+      size_is (c.in_ok-layout.ensures c.in_ok-read.ensures.object
+          c.in_ok-read.ensures.there),
+    ) at c.in_err-place.ensures.place))))
 
 pub returns : goal.returns
 returns g c =
-    does_then (does_accessed c.in_ok-read.ensures (c.in_ok-layout.ensures c.in_ok-read.ensures.object c.in_ok-read.ensures.there).does) (computes_then c.in_ok-number.ensures (computes_then (rw (to_z-of_z w64 c.in_ok-number.number (search rules), c.size.ensures, size_is (c.in_ok-layout.ensures c.in_ok-read.ensures.object c.in_ok-read.ensures.there)) at c.in_ok-place.ensures.place) (element_found (c.in_ok-layout.ensures c.in_ok-read.ensures.object c.in_ok-read.ensures.there) _ (c.slot_at.ensures c.in_ok-read.ensures.object c.in_ok-read.ensures.there))))
+    does_then (does_accessed c.in_ok-read.ensures (c.in_ok-layout.ensures c.in_ok-read.ensures.object
+    c.in_ok-read.ensures.there).does) (computes_then c.in_ok-number.ensures (computes_then (rw (
+      to_z-of_z w64
+          c.in_ok-number.number (search rules),
+      c.size.ensures,
+      size_is (c.in_ok-layout.ensures c.in_ok-read.ensures.object
+          c.in_ok-read.ensures.there),
+    ) at c.in_ok-place.ensures.place) (element_found (c.in_ok-layout.ensures
+    c.in_ok-read.ensures.object c.in_ok-read.ensures.there) _ (c.slot_at.ensures c.in_ok-read.ensures.object
+    c.in_ok-read.ensures.there))))

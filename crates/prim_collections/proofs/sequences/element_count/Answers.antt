@@ -12,8 +12,15 @@ returns-in_err-read g c =
 pub returns-in_err-layout : goal.returns-in_err-layout
 returns-in_err-layout g c =
     let p = err_from_is_err_and c.from_residual-in_err-layout.result c.from_residual-in_err-layout.ensures.1 in
-    rw (p.1, p.2) (does_stop (does_accessed c.in_ok-read.ensures (c.in_err-layout.ensures c.in_ok-read.ensures.object c.in_ok-read.ensures.there)))
+    rw (p.1, p.2) (does_stop (does_accessed c.in_ok-read.ensures (c.in_err-layout.ensures c.in_ok-read.ensures.object
+    c.in_ok-read.ensures.there)))
 
 pub returns : goal.returns
 returns g c =
-    does_then (does_accessed c.in_ok-read.ensures (c.in_ok-layout.ensures c.in_ok-read.ensures.object c.in_ok-read.ensures.there).does) (rw (c.in_ok-size_of.ensures, c.size.ensures, size_is (c.in_ok-layout.ensures c.in_ok-read.ensures.object c.in_ok-read.ensures.there)) (does_give _ _))
+    does_then (does_accessed c.in_ok-read.ensures (c.in_ok-layout.ensures c.in_ok-read.ensures.object
+    c.in_ok-read.ensures.there).does) (rw (
+      c.in_ok-size_of.ensures,
+      c.size.ensures,
+      size_is (c.in_ok-layout.ensures
+          c.in_ok-read.ensures.object c.in_ok-read.ensures.there),
+    ) (does_give _ _))

@@ -15,8 +15,10 @@ returns-in_err-index g c =
 pub returns-in_err-element_put : goal.returns-in_err-element_put
 returns-in_err-element_put g c =
     let p = err_from_is_err_and c.from_residual-in_err-element_put.result c.from_residual-in_err-element_put.ensures.1 in
-    rw (p.1, p.2) (computes_then c.in_ok-name.ensures (computes_then c.in_ok-index.ensures (does_stop c.in_err-element_put.ensures)))
+    rw (p.1, p.2) (computes_then c.in_ok-name.ensures (computes_then c.in_ok-index.ensures (does_stop
+    c.in_err-element_put.ensures)))
 
 pub returns : goal.returns
 returns g c =
-    computes_then c.in_ok-name.ensures (computes_then c.in_ok-index.ensures (does_then c.in_ok-element_put.ensures (does_give _ _)))
+    computes_then c.in_ok-name.ensures (computes_then c.in_ok-index.ensures (does_then c.in_ok-element_put.ensures
+    (does_give _ _)))

@@ -15,8 +15,10 @@ returns-in_err-no_arguments g c =
 pub returns-in_err-last_removed : goal.returns-in_err-last_removed
 returns-in_err-last_removed g c =
     let p = err_from_is_err_and c.from_residual-in_err-last_removed.result c.from_residual-in_err-last_removed.ensures.1 in
-    rw (p.1, p.2) (computes_then c.in_ok-name.ensures (computes_then c.in_ok-no_arguments.ensures (does_stop c.in_err-last_removed.ensures)))
+    rw (p.1, p.2) (computes_then c.in_ok-name.ensures (computes_then c.in_ok-no_arguments.ensures (does_stop
+    c.in_err-last_removed.ensures)))
 
 pub returns : goal.returns
 returns g c =
-    computes_then c.in_ok-name.ensures (computes_then c.in_ok-no_arguments.ensures (does_then c.in_ok-last_removed.ensures (does_give _ _)))
+    computes_then c.in_ok-name.ensures (computes_then c.in_ok-no_arguments.ensures (does_then c.in_ok-last_removed.ensures
+    (does_give _ _)))

@@ -15,8 +15,10 @@ returns-in_err-no_arguments g c =
 pub returns-in_err-text : goal.returns-in_err-text
 returns-in_err-text g c =
     let p = err_from_is_err_and c.from_residual-in_err-text.result c.from_residual-in_err-text.ensures.1 in
-    rw (p.1, p.2) (computes_then c.in_ok-name.ensures (computes_then c.in_ok-no_arguments.ensures (does_stop c.in_err-text.ensures)))
+    rw (p.1, p.2) (computes_then c.in_ok-name.ensures (computes_then c.in_ok-no_arguments.ensures (does_stop
+    c.in_err-text.ensures)))
 
 pub returns : goal.returns
 returns g c =
-    computes_then c.in_ok-name.ensures (computes_then c.in_ok-no_arguments.ensures (does_then c.in_ok-text.ensures (rw (c.number_or_nil.ensures, c.integer_in.ensures, c.bytes.ensures) (computes_then (computes_give _) (does_give _ _)))))
+    computes_then c.in_ok-name.ensures (computes_then c.in_ok-no_arguments.ensures (does_then c.in_ok-text.ensures (rw
+    (c.number_or_nil.ensures, c.integer_in.ensures, c.bytes.ensures) (computes_then (computes_give _) (does_give _ _)))))

@@ -15,8 +15,10 @@ returns-in_err-text g c =
 pub returns-in_err-new_string : goal.returns-in_err-new_string
 returns-in_err-new_string g c =
     let p = err_from_is_err_and c.from_residual-in_err-new_string.result c.from_residual-in_err-new_string.ensures.1 in
-    rw (p.1, p.2) (computes_then c.in_ok-no_arguments.ensures (does_then c.in_ok-text.ensures (does_stop c.in_err-new_string.ensures)))
+    rw (p.1, p.2) (computes_then c.in_ok-no_arguments.ensures (does_then c.in_ok-text.ensures (does_stop
+    c.in_err-new_string.ensures)))
 
 pub returns : goal.returns
 returns g c =
-    computes_then c.in_ok-no_arguments.ensures (does_then c.in_ok-text.ensures (does_then c.in_ok-new_string.ensures (does_give _ _)))
+    computes_then c.in_ok-no_arguments.ensures (does_then c.in_ok-text.ensures (does_then c.in_ok-new_string.ensures
+    (does_give _ _)))

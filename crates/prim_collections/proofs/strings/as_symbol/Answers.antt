@@ -15,8 +15,10 @@ returns-in_err-text g c =
 pub returns-in_err-symbol_of : goal.returns-in_err-symbol_of
 returns-in_err-symbol_of g c =
     let p = err_from_is_err_and c.from_residual-in_err-symbol_of.result c.from_residual-in_err-symbol_of.ensures.1 in
-    rw (p.1, p.2) (computes_then c.in_ok-no_arguments.ensures (does_then c.in_ok-text.ensures (computes_stop _ c.in_err-symbol_of.ensures)))
+    rw (p.1, p.2) (computes_then c.in_ok-no_arguments.ensures (does_then c.in_ok-text.ensures (computes_stop _
+    c.in_err-symbol_of.ensures)))
 
 pub returns : goal.returns
 returns g c =
-    computes_then c.in_ok-no_arguments.ensures (does_then c.in_ok-text.ensures (computes_then c.in_ok-symbol_of.ensures (does_give _ _)))
+    computes_then c.in_ok-no_arguments.ensures (does_then c.in_ok-text.ensures (computes_then c.in_ok-symbol_of.ensures
+    (does_give _ _)))

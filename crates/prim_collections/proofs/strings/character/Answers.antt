@@ -15,8 +15,10 @@ returns-in_err-text g c =
 pub returns-in_err-character_at : goal.returns-in_err-character_at
 returns-in_err-character_at g c =
     let p = err_from_is_err_and c.from_residual-in_err-character_at.result c.from_residual-in_err-character_at.ensures.1 in
-    rw (p.1, p.2) (computes_then c.in_ok-index.ensures (does_then c.in_ok-text.ensures (does_stop (does_compute _ (rw c.bytes.ensures at c.in_err-character_at.ensures)))))
+    rw (p.1, p.2) (computes_then c.in_ok-index.ensures (does_then c.in_ok-text.ensures (does_stop (does_compute _ (rw
+    c.bytes.ensures at c.in_err-character_at.ensures)))))
 
 pub returns : goal.returns
 returns g c =
-    computes_then c.in_ok-index.ensures (does_then c.in_ok-text.ensures (does_then (does_compute _ (rw c.bytes.ensures at c.in_ok-character_at.ensures)) (does_give _ _)))
+    computes_then c.in_ok-index.ensures (does_then c.in_ok-text.ensures (does_then (does_compute _ (rw c.bytes.ensures at
+    c.in_ok-character_at.ensures)) (does_give _ _)))

@@ -15,8 +15,10 @@ returns-in_err-text g c =
 pub returns-in_err-text_part : goal.returns-in_err-text_part
 returns-in_err-text_part g c =
     let p = err_from_is_err_and c.from_residual-in_err-text_part.result c.from_residual-in_err-text_part.ensures.1 in
-    rw (p.1, p.2) (computes_then c.in_ok-from.ensures (does_then c.in_ok-text.ensures (does_stop (rw c.bytes.ensures at c.in_err-text_part.ensures))))
+    rw (p.1, p.2) (computes_then c.in_ok-from.ensures (does_then c.in_ok-text.ensures (does_stop (rw c.bytes.ensures at
+    c.in_err-text_part.ensures))))
 
 pub returns : goal.returns
 returns g c =
-    computes_then c.in_ok-from.ensures (does_then c.in_ok-text.ensures (does_then (rw c.bytes.ensures at c.in_ok-text_part.ensures) (does_give _ _)))
+    computes_then c.in_ok-from.ensures (does_then c.in_ok-text.ensures (does_then (rw c.bytes.ensures at
+    c.in_ok-text_part.ensures) (does_give _ _)))

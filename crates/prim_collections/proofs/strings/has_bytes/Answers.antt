@@ -9,4 +9,5 @@ returns-in_err-other g c =
 
 pub returns : goal.returns
 returns g c =
-    does_then c.in_ok-other.ensures (rw (c.truth.ensures, c.same_bytes.ensures, c.bytes.ensures, c.bytes-2.ensures) (does_give _ _))
+    does_then c.in_ok-other.ensures (rw (c.truth.ensures, c.same_bytes.ensures, c.bytes.ensures, c.bytes-2.ensures)
+    (does_give _ _))

@@ -8,7 +8,8 @@ returns-in_err-is_string g c =
     rw (p.1, p.2) (does_stop (rw c.kernel_name.ensures at c.in_err-is_string.ensures))
 
 pub returns-then-is_string : goal.returns-then-is_string
-returns-then-is_string g c = does_then (rw (c.kernel_name.ensures, c.if-is_string.true) at c.in_ok-is_string.ensures) c.has_bytes.ensures
+returns-then-is_string g c = does_then (rw (c.kernel_name.ensures, c.if-is_string.true) at c.in_ok-is_string.ensures)
+    c.has_bytes.ensures
 
 pub returns : goal.returns
 returns g c = does_then (rw (c.kernel_name.ensures, c.if-is_string.false) at c.in_ok-is_string.ensures) (does_give _ _)

@@ -17,8 +17,15 @@ returns-in_err-last g c =
 pub returns-in_err-part : goal.returns-in_err-part
 returns-in_err-part g c =
     let p = err_from_is_err_and c.from_residual-in_err-part.result c.from_residual-in_err-part.ensures.1 in
-    rw (p.1, p.2) (computes_then c.in_ok-first.ensures (computes_then c.in_ok-last.ensures (computes_stop _ (rw (to_z-of_z w64 c.in_ok-first.first (search rules), to_z-of_z w64 c.in_ok-last.last (search rules)) at c.in_err-part.ensures))))
+    rw (p.1, p.2) (computes_then c.in_ok-first.ensures (computes_then c.in_ok-last.ensures (computes_stop _ (rw
+    (to_z-of_z w64 c.in_ok-first.first (search rules), to_z-of_z w64 c.in_ok-last.last (search rules)) at
+    c.in_err-part.ensures))))
 
 pub returns : goal.returns
 returns g c =
-    computes_then c.in_ok-first.ensures (computes_then c.in_ok-last.ensures (computes_then (rw (to_z-of_z w64 c.in_ok-first.first (search rules), to_z-of_z w64 c.in_ok-last.last (search rules)) at c.in_ok-part.ensures) (rw c.in_ok-copy_of.ensures at c.new_string.ensures)))
+    computes_then c.in_ok-first.ensures (computes_then c.in_ok-last.ensures (computes_then (rw (
+      to_z-of_z w64
+          c.in_ok-first.first (search rules),
+      to_z-of_z w64 c.in_ok-last.last (search rules),
+    ) at c.in_ok-part.ensures) (rw
+    c.in_ok-copy_of.ensures at c.new_string.ensures)))

@@ -14,4 +14,7 @@ returns-in_err-text g c =
 
 pub returns : goal.returns
 returns g c =
-    computes_then c.in_ok-no_arguments.ensures (does_then c.in_ok-text.ensures (rw (c.in_ok-size_of.ensures, c.bytes.ensures) (computes_then (computes_give _) (does_give _ _))))
+    computes_then c.in_ok-no_arguments.ensures (does_then c.in_ok-text.ensures (rw (
+      c.in_ok-size_of.ensures,
+      c.bytes.ensures,
+    ) (computes_then (computes_give _) (does_give _ _))))
