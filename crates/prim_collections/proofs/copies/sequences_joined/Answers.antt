@@ -1,0 +1,38 @@
+use Rattle.prim_parts.proofs.Does.{does_then, does_stop, does_atom}
+use Rattle.prim_collections.proofs.Rows.{does_accessed}
+use Rattle.std.proofs.lemmas.Result.{err_from_is_err_and}
+use Rattle.std.proofs.Common.{ap, ◌∙◌, is_some}
+use Rattle.prim_collections.proofs.copies.sequences_joined.Goals as goal
+
+pub returns-in_err-read : goal.returns-in_err-read
+returns-in_err-read g c =
+    let p = err_from_is_err_and c.from_residual.result c.from_residual.ensures.1 in
+    rw (p.1, p.2) (does_stop (does_atom c.in_err-read.ensures))
+
+pub returns-in_err-layout : goal.returns-in_err-layout
+returns-in_err-layout g c =
+    let p = err_from_is_err_and c.from_residual-in_err-layout.result c.from_residual-in_err-layout.ensures.1 in
+    rw (p.1, p.2) (does_accessed c.in_ok-read.ensures (does_stop (c.in_err-layout.ensures c.in_ok-read.ensures.object
+    c.in_ok-read.ensures.there)))
+
+pub returns-in_err-other : goal.returns-in_err-other
+returns-in_err-other g c =
+    let p = err_from_is_err_and c.from_residual-in_err-other.result c.from_residual-in_err-other.ensures.1 in
+    rw (p.1, p.2) (does_accessed c.in_ok-read.ensures (does_then (c.in_ok-layout.ensures c.in_ok-read.ensures.object
+    c.in_ok-read.ensures.there).does (does_stop c.in_err-other.ensures.does)))
+
+pub joined_with-requires : goal.joined_with-requires
+joined_with-requires g c = ap is_some (c.in_ok-other.ensures.same _) ∙ c.class_at-class.ensures.there
+
+pub returns : goal.returns
+returns g c =
+    does_accessed c.in_ok-read.ensures (does_then (c.in_ok-layout.ensures c.in_ok-read.ensures.object
+    c.in_ok-read.ensures.there).does (does_then c.in_ok-other.ensures.does (rw (
+      c.class_at-class.ensures.class
+          c.in_ok-read.ensures.object c.in_ok-read.ensures.there,
+      c.in_ok-elements.ensures,
+      c.elements_at.ensures
+          c.in_ok-read.ensures.object (c.in_ok-layout.ensures c.in_ok-read.ensures.object c.in_ok-read.ensures.there).slots
+          c.in_ok-read.ensures.there (c.in_ok-layout.ensures c.in_ok-read.ensures.object c.in_ok-read.ensures.there).are,
+    ) at
+    c.joined_with.ensures)))

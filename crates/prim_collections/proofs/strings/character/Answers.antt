@@ -1,0 +1,24 @@
+use Rattle.prim_parts.proofs.Does.{does_then, does_stop, does_give, does_compute, computes_then, computes_stop}
+use Rattle.std.proofs.lemmas.Result.{err_from_is_err_and}
+use Rattle.prim_collections.proofs.strings.character.Goals as goal
+
+pub returns-in_err-index : goal.returns-in_err-index
+returns-in_err-index g c =
+    let p = err_from_is_err_and c.from_residual.result c.from_residual.ensures.1 in
+    rw (p.1, p.2) (computes_stop _ c.in_err-index.ensures)
+
+pub returns-in_err-text : goal.returns-in_err-text
+returns-in_err-text g c =
+    let p = err_from_is_err_and c.from_residual-in_err-text.result c.from_residual-in_err-text.ensures.1 in
+    rw (p.1, p.2) (computes_then c.in_ok-index.ensures (does_stop c.in_err-text.ensures))
+
+pub returns-in_err-character_at : goal.returns-in_err-character_at
+returns-in_err-character_at g c =
+    let p = err_from_is_err_and c.from_residual-in_err-character_at.result c.from_residual-in_err-character_at.ensures.1 in
+    rw (p.1, p.2) (computes_then c.in_ok-index.ensures (does_then c.in_ok-text.ensures (does_stop (does_compute _ (rw
+    c.bytes.ensures at c.in_err-character_at.ensures)))))
+
+pub returns : goal.returns
+returns g c =
+    computes_then c.in_ok-index.ensures (does_then c.in_ok-text.ensures (does_then (does_compute _ (rw c.bytes.ensures at
+    c.in_ok-character_at.ensures)) (does_give _ _)))

@@ -1,0 +1,5 @@
+pub mod Joins
+pub mod Looks
+pub mod Puts
+pub mod Slots
+pub mod Texts

@@ -1,0 +1,379 @@
+//! The primitives 42 to 51, of Strings and Symbols.
+ghost use Rattle.std.specs.Prelude.{◌≡◌, ◌++◌, bytes_eq, slice_get, IfOk};
+ghost use Rattle.gem_object.specs.declared.value.Value.TheVariants as value;
+ghost use Rattle.object_programs.specs.Run.{and_then};
+ghost use Rattle.prim_rules.specs.Parts.{truth};
+ghost use Rattle.prim_rules.specs.Texts.{text_of_argument, new_string, integer_in};
+ghost use Rattle.prim_rules.specs.Strings.{is_symbol, is_before, number_or_nil, character_at_rule, character_put_rule, copy_text_rule, symbol_rule, has_bytes, equal_string, equal_rule, row_42, row_43, row_44, row_45, row_46, row_47, row_48, row_49, row_50, row_51};
+ghost use Rattle.prim_parts.specs.Does.{Computes, Does};
+ghost use Rattle.prim_collections.specs.Texts.{join_rule, before_rule};
+
+use crate::bodies::bytes_at;
+use crate::indexes::{part_of, place_in, size_of};
+use crate::integers::integer_in;
+use gem_object::Value;
+use gem_sound::names::STRING_CLASS;
+use gem_value::Oid;
+use object_programs::Fault;
+use prim_parts::{
+    character_in, int_in, is_kind_of, kernel_name, need, new_string, no_arguments, one_of,
+    reference_in, replace_byte, string_bytes, text_of_argument, text_of_receiver, truth, two_of,
+};
+use prim_rules::PrimitiveAnswer;
+use profile::SYMBOL_LIMIT;
+use running_objects::{Objects, Stop};
+use std::alloc::{AllocError, Global};
+use std::cmp::Ordering;
+use texts::Text;
+
+/// 42, `size`.
+pub fn text_size<O: Objects>(
+    alloc: Global,
+    objects: &mut O,
+    receiver: &Value,
+    arguments: &[Value],
+) -> Result<PrimitiveAnswer, Stop>
+    ensures { Does (row_42 receiver.now arguments.now) (O.seen objects.old) result
+        (O.seen objects.new) }
+{
+    no_arguments(arguments)?;
+    let text = text_of_receiver(alloc, objects, receiver)?;
+    Ok(PrimitiveAnswer::Gives(size_of(text.bytes().len())?))
+}
+
+/// 43, `at:`: the Character at an index.
+pub fn character<O: Objects>(
+    alloc: Global,
+    objects: &mut O,
+    receiver: &Value,
+    arguments: &[Value],
+) -> Result<PrimitiveAnswer, Stop>
+    ensures { Does (row_43 receiver.now arguments.now) (O.seen objects.old) result
+        (O.seen objects.new) }
+{
+    let index = one_of(arguments)?;
+    let text = text_of_receiver(alloc, objects, receiver)?;
+    Ok(PrimitiveAnswer::Gives(character_at(text.bytes(), index)?))
+}
+
+// The Character at an index of a text.
+fn character_at(text: &[u8], index: &Value) -> Result<Value, Stop>
+    ensures { Computes (character_at_rule text.now index.now) result }
+{
+    let number = int_in(index)?;
+    let place = place_in(text.len(), number)?;
+    let byte = need(Fault::Index, byte_at(text, place))?;
+    Ok(Value::Char(byte))
+}
+
+fn byte_at(text: &[u8], place: usize) -> Option<u8>
+    ensures { result ≡ slice_get text.now place }
+{
+    text.get(place).copied()
+}
+
+/// 44, `at:put:` of a String: the Character, which comes at an index.
+pub fn put_character<O: Objects>(
+    objects: &mut O,
+    receiver: &Value,
+    arguments: &[Value],
+) -> Result<PrimitiveAnswer, Stop>
+    ensures { Does (row_44 receiver.now arguments.now) (O.seen objects.old) result
+        (O.seen objects.new) }
+{
+    let name = reference_in(receiver)?;
+    let (index, value) = two_of(arguments)?;
+    Ok(PrimitiveAnswer::Gives(character_put(objects, name, index, value)?))
+}
+
+fn character_put<O: Objects>(
+    objects: &mut O,
+    name: Oid,
+    index: &Value,
+    value: &Value,
+) -> Result<Value, Stop>
+    ensures { Does (character_put_rule name index.now value.now) (O.seen objects.old) result
+        (O.seen objects.new) }
+{
+    objects.write(name)?;
+    let size = bytes_at(objects, name)?.len();
+    let number = int_in(index)?;
+    let code = character_in(value)?;
+    let place = place_in(size, number)?;
+    replace_byte(objects, name, place, code)?;
+    Ok(Value::Char(code))
+}
+
+/// 45, `,`: a new String of both texts.
+pub fn join<O: Objects>(
+    alloc: Global,
+    objects: &mut O,
+    receiver: &Value,
+    arguments: &[Value],
+) -> Result<PrimitiveAnswer, Stop>
+    ensures { Does (row_45 receiver.now arguments.now) (O.seen objects.old) result
+        (O.seen objects.new) }
+{
+    let argument = one_of(arguments)?;
+    let text = text_of_receiver(alloc, objects, receiver)?;
+    Ok(PrimitiveAnswer::Gives(joined(alloc, objects, &text, argument)?))
+}
+
+fn joined<O: Objects>(
+    alloc: Global,
+    objects: &mut O,
+    text: &Text,
+    argument: &Value,
+) -> Result<Value, Stop>
+    ensures { Does (join_rule text.now argument.now) (O.seen objects.old) result
+        (O.seen objects.new) }
+{
+    let other = text_of_argument(alloc, objects, argument)?;
+    let both = both_texts(alloc, text.bytes(), other.bytes())?;
+    new_string(alloc, objects, both)
+}
+
+// The first text and then the second one.
+fn both_texts(alloc: Global, first: &[u8], second: &[u8]) -> Result<Text, AllocError>
+    ensures { IfOk result (λ text. text ≡ first.now ++ second.now) }
+{
+    let mut bytes = first.to_vec(alloc)?;
+    bytes.extend_from_slice(second)?;
+    Ok(Text::of(bytes))
+}
+
+/// 46, `copyFrom:to:`: a new String of the Characters from one index to the other.
+pub fn copy_text<O: Objects>(
+    alloc: Global,
+    objects: &mut O,
+    receiver: &Value,
+    arguments: &[Value],
+) -> Result<PrimitiveAnswer, Stop>
+    ensures { Does (row_46 receiver.now arguments.now) (O.seen objects.old) result
+        (O.seen objects.new) }
+{
+    let (from, to) = two_of(arguments)?;
+    let text = text_of_receiver(alloc, objects, receiver)?;
+    Ok(PrimitiveAnswer::Gives(text_part(alloc, objects, text.bytes(), from, to)?))
+}
+
+fn text_part<O: Objects>(
+    alloc: Global,
+    objects: &mut O,
+    text: &[u8],
+    from: &Value,
+    to: &Value,
+) -> Result<Value, Stop>
+    ensures { Does (copy_text_rule text.now from.now to.now) (O.seen objects.old) result
+        (O.seen objects.new) }
+{
+    let first = int_in(from)?;
+    let last = int_in(to)?;
+    let part = part_of(text, first, last)?;
+    new_string(alloc, objects, Text::copy_of(alloc, part)?)
+}
+
+/// 47, `asSymbol`: E5 where the text is too long for a Symbol.
+pub fn as_symbol<O: Objects>(
+    alloc: Global,
+    objects: &mut O,
+    receiver: &Value,
+    arguments: &[Value],
+) -> Result<PrimitiveAnswer, Stop>
+    ensures { Does (row_47 receiver.now arguments.now) (O.seen objects.old) result
+        (O.seen objects.new) }
+{
+    no_arguments(arguments)?;
+    let text = text_of_receiver(alloc, objects, receiver)?;
+    Ok(PrimitiveAnswer::Gives(symbol_of(text)?))
+}
+
+fn symbol_of(text: Text) -> Result<Value, Stop>
+    ensures { Computes (symbol_rule text) result }
+{
+    if text.bytes().len() <= SYMBOL_LIMIT {
+        return Ok(Value::Sym(text));
+    }
+    Err(Stop::Fails(Fault::ArgumentKind))
+}
+
+/// 48, `asString`: a new String.
+pub fn as_string<O: Objects>(
+    alloc: Global,
+    objects: &mut O,
+    receiver: &Value,
+    arguments: &[Value],
+) -> Result<PrimitiveAnswer, Stop>
+    ensures { Does (row_48 receiver.now arguments.now) (O.seen objects.old) result
+        (O.seen objects.new) }
+{
+    no_arguments(arguments)?;
+    let text = text_of_receiver(alloc, objects, receiver)?;
+    Ok(PrimitiveAnswer::Gives(new_string(alloc, objects, text)?))
+}
+
+/// 49, `=`: for a String a String with the same bytes, for a Symbol the same Symbol.
+pub fn equals<O: Objects>(
+    alloc: Global,
+    objects: &mut O,
+    receiver: &Value,
+    arguments: &[Value],
+) -> Result<PrimitiveAnswer, Stop>
+    ensures { Does (row_49 receiver.now arguments.now) (O.seen objects.old) result
+        (O.seen objects.new) }
+{
+    let argument = one_of(arguments)?;
+    Ok(PrimitiveAnswer::Gives(is_equal(alloc, objects, receiver, argument)?))
+}
+
+fn is_equal<O: Objects>(
+    alloc: Global,
+    objects: &mut O,
+    receiver: &Value,
+    argument: &Value,
+) -> Result<Value, Stop>
+    ensures { Does (equal_rule receiver.now argument.now) (O.seen objects.old) result
+        (O.seen objects.new) }
+{
+    match receiver {
+        Value::Sym(name) => Ok(truth(is_symbol(name, argument))),
+        Value::Ref(name) => is_equal_string(alloc, objects, *name, argument),
+        _ => Err(Stop::Fails(Fault::ArgumentKind)),
+    }
+}
+
+// Whether a value is the Symbol of this text.
+fn is_symbol(name: &Text, value: &Value) -> bool
+    ensures { result ≡ is_symbol name.now value.now }
+{
+    match value {
+        Value::Sym(other) => same_bytes(name.bytes(), other.bytes()),
+        _ => false,
+    }
+}
+
+fn is_equal_string<O: Objects>(
+    alloc: Global,
+    objects: &mut O,
+    name: Oid,
+    argument: &Value,
+) -> Result<Value, Stop>
+    ensures { Does (equal_rule (value.Ref name) argument.now) (O.seen objects.old) result
+        (O.seen objects.new) }
+{
+    let text = string_bytes(alloc, objects, name)?;
+    equal_string(alloc, objects, &text, argument)
+}
+
+fn equal_string<O: Objects>(
+    alloc: Global,
+    objects: &mut O,
+    text: &Text,
+    argument: &Value,
+) -> Result<Value, Stop>
+    ensures { Does (equal_string text.now argument.now) (O.seen objects.old) result
+        (O.seen objects.new) }
+{
+    match argument {
+        Value::Ref(name) => is_string_of(alloc, objects, text, *name),
+        _ => Ok(Value::False),
+    }
+}
+
+// Whether the object of this name is a String with these bytes. Only a String is read.
+fn is_string_of<O: Objects>(
+    alloc: Global,
+    objects: &mut O,
+    text: &Text,
+    name: Oid,
+) -> Result<Value, Stop>
+    ensures { Does (equal_string text.now (value.Ref name)) (O.seen objects.old) result
+        (O.seen objects.new) }
+{
+    let is_string = is_kind_of(objects, &Value::Ref(name), kernel_name(STRING_CLASS))?;
+    if is_string {
+        return has_bytes(alloc, objects, text, name);
+    }
+    Ok(Value::False)
+}
+
+fn has_bytes<O: Objects>(
+    alloc: Global,
+    objects: &mut O,
+    text: &Text,
+    name: Oid,
+) -> Result<Value, Stop>
+    ensures { Does (has_bytes text.now name) (O.seen objects.old) result (O.seen objects.new) }
+{
+    let other = string_bytes(alloc, objects, name)?;
+    Ok(truth(same_bytes(text.bytes(), other.bytes())))
+}
+
+fn same_bytes(first: &[u8], second: &[u8]) -> bool
+    ensures { result ≡ bytes_eq first.now second.now }
+{
+    first == second
+}
+
+/// 50, `<`: the order by bytes.
+pub fn is_before<O: Objects>(
+    alloc: Global,
+    objects: &mut O,
+    receiver: &Value,
+    arguments: &[Value],
+) -> Result<PrimitiveAnswer, Stop>
+    ensures { Does (row_50 receiver.now arguments.now) (O.seen objects.old) result
+        (O.seen objects.new) }
+{
+    let argument = one_of(arguments)?;
+    let text = text_of_receiver(alloc, objects, receiver)?;
+    Ok(PrimitiveAnswer::Gives(before(alloc, objects, &text, argument)?))
+}
+
+fn before<O: Objects>(
+    alloc: Global,
+    objects: &mut O,
+    text: &Text,
+    argument: &Value,
+) -> Result<Value, Stop>
+    ensures { Does (before_rule text.now argument.now) (O.seen objects.old) result
+        (O.seen objects.new) }
+{
+    let other = text_of_argument(alloc, objects, argument)?;
+    Ok(truth(is_less(text.bytes(), other.bytes())))
+}
+
+fn is_less(first: &[u8], second: &[u8]) -> bool
+    ensures { result ≡ is_before first.now second.now }
+{
+    match first.cmp(second) {
+        Ordering::Less => true,
+        _ => false,
+    }
+}
+
+/// 51, `asInteger` of a String: nil where it is no integer of the language.
+pub fn as_integer<O: Objects>(
+    alloc: Global,
+    objects: &mut O,
+    receiver: &Value,
+    arguments: &[Value],
+) -> Result<PrimitiveAnswer, Stop>
+    ensures { Does (row_51 receiver.now arguments.now) (O.seen objects.old) result
+        (O.seen objects.new) }
+{
+    let name = reference_in(receiver)?;
+    no_arguments(arguments)?;
+    let text = string_bytes(alloc, objects, name)?;
+    Ok(PrimitiveAnswer::Gives(number_or_nil(integer_in(text.bytes()))))
+}
+
+// A number, or nil where there is none.
+fn number_or_nil(number: Option<i64>) -> Value
+    ensures { result ≡ number_or_nil number }
+{
+    match number {
+        Some(number) => Value::Int(number),
+        None => Value::Nil,
+    }
+}
