@@ -1,0 +1,112 @@
+-- What the run of a command's program makes of the reply.
+use Rattle.std.proofs.Common.{◌≡◌, refl, sym, ap, subst, ℕ, Bool, Result, Ok, Err}
+use Rattle.std.specs.declared.alloc.AllocError.{AllocError}
+use Rattle.texts.specs.Bytes.{Bytes as Text}
+use Rattle.st_tree.specs.Trees.{Program}
+use Rattle.st_grammar.specs.Grammar.{chunk, method}
+use Rattle.st_grammar.specs.Fails.{AnyRule, rule_number}
+use Rattle.st_grammar_laws.specs.TreeOf.{TextFault, tree_of}
+use Rattle.object_programs.specs.Local.{Local, nothing}
+use Rattle.object_programs.specs.Run.{Outcome, give, gives, fails, returns, perform}
+use Rattle.tree_meaning.specs.Place.{MadeBlock}
+use Rattle.gem_language.specs.Commands.{Command, run_chunk, install_method, Reply, not_read, ReplyRun, reply_by, chunk_reply, method_reply, command_reply, reply_of}
+use Rattle.running_objects.specs.Seen.{Seen, with_local}
+use Rattle.running_objects.specs.Ran.{Ran}
+use Rattle.running_objects.specs.declared.stop.Stop.{Stop}
+use Rattle.running_objects.specs.declared.stop.Stop.TheVariants as stop
+use Rattle.running_objects.proofs.Running.{keeps_same}
+use Rattle.st_plain.specs.declared.reply.Reply.{Reply as PlainReply}
+use Rattle.st_plain.specs.declared.reply.Reply.TheVariants.{NotRead}
+use Rattle.st_plain.specs.Replies.{shown, told, Tells, RepliedBy, Replied}
+use Rattle.st_parser.specs.Parsed.{IsTree, IsFault}
+use Rattle.st_parser.specs.declared.faults.ParseFault.TheVariants.{Rule}
+
+-- an outcome that is known tells its reply
+tells_by : (outcome known : Outcome MadeBlock Reply) (after : Seen)
+    → outcome ≡ known → Tells known (shown (reply_of known.end)) after → Tells outcome (shown (reply_of known.end)) after
+tells_by outcome known after same tells =
+    let At : Outcome MadeBlock Reply → Type 0 = λ one. Tells one (shown (reply_of known.end)) after in
+    subst At (sym same) tells
+
+-- The reply to what ran.
+pub replied : (program : ReplyRun) (ended : Result Reply Stop) (result : Result PlainReply AllocError) {before after : Seen}
+    {later : Local MadeBlock} → Ran program before (nothing MadeBlock) ended after later → result ≡ told ended
+    → RepliedBy program before result after
+replied program (Ok reply) result {before} {after} {later} ran is =
+    let At : Result PlainReply AllocError → Type 0 = λ one. RepliedBy program before one after in
+    subst At (sym is) (record {
+      keeps = ran.keeps;
+      tells = tells_by (perform program before.setting (with_local before (nothing MadeBlock)))
+          (record { end = gives reply; state = with_local after later }) after ran.ends
+          (record { reply = refl; world = refl; budget = refl });
+    })
+replied program (Err (stop.Fails fault)) result {before} {after} {later} ran is =
+    let At : Result PlainReply AllocError → Type 0 = λ one. RepliedBy program before one after in
+    subst At (sym is) (record {
+      keeps = ran.keeps;
+      tells = tells_by (perform program before.setting (with_local before (nothing MadeBlock)))
+          (record { end = fails fault; state = with_local after later }) after ran.ends
+          (record { reply = refl; world = refl; budget = refl });
+    })
+replied program (Err (stop.Returns answer home)) result {before} {after} {later} ran is =
+    let At : Result PlainReply AllocError → Type 0 = λ one. RepliedBy program before one after in
+    subst At (sym is) (record {
+      keeps = ran.keeps;
+      tells = tells_by (perform program before.setting (with_local before (nothing MadeBlock)))
+          (record { end = returns answer home; state = with_local after later }) after ran.ends
+          (record { reply = refl; world = refl; budget = refl });
+    })
+replied program (Err stop.NoMemory) result {before} {after} {later} ran is =
+    let At : Result PlainReply AllocError → Type 0 = λ one. RepliedBy program before one after in
+    subst At (sym is) (record { keeps = ran.keeps; tells = tt })
+
+-- where memory ran out before anything was done
+pub replied_nothing : (program : ReplyRun) (seen : Seen) (wrong : AllocError) → RepliedBy program seen (Err wrong) seen
+replied_nothing program seen wrong = record { keeps = keeps_same seen; tells = tt }
+
+-- a text that has a tree, and one that has none
+by_tree : (reply : Program → ReplyRun) (read : Result Program TextFault) (tree : Program) {before after : Seen}
+    {result : Result PlainReply AllocError} → read ≡ Ok tree → RepliedBy (reply tree) before result after
+    → RepliedBy (reply_by reply read) before result after
+by_tree reply read tree {before} {after} {result} is said =
+    let At : Result Program TextFault → Type 0 = λ one. RepliedBy (reply_by reply one) before result after in
+    subst At (sym is) said
+
+by_fault : (reply : Program → ReplyRun) (read : Result Program TextFault) (fault : TextFault) (seen : Seen)
+    → read ≡ Err fault → RepliedBy (reply_by reply read) seen (Ok (NotRead fault.place (rule_number fault.rule))) seen
+by_fault reply read fault seen is =
+    let At : Result Program TextFault → Type 0 =
+    λ one. RepliedBy (reply_by reply one) seen (Ok (NotRead fault.place (rule_number fault.rule))) seen in
+    subst At (sym is) (record { keeps = keeps_same seen; tells = record { reply = refl; world = refl; budget = refl } })
+
+-- A chunk by its tree.
+pub chunk_read : (prints : Bool) (text : Text) (tree : Program) {before after : Seen} {result : Result PlainReply AllocError}
+    → IsTree chunk text tree → RepliedBy (chunk_reply prints tree) before result after
+    → Replied (run_chunk prints text) before result after
+unfolding command_reply
+chunk_read prints text tree is said = by_tree (chunk_reply prints) (tree_of chunk text) tree is.is said
+
+pub chunk_not_read : (prints : Bool) (text : Text) (place rule : ℕ) (seen : Seen)
+    → IsFault chunk text (Rule place rule) → Replied (run_chunk prints text) seen (Ok (NotRead place rule)) seen
+unfolding command_reply
+chunk_not_read prints text place rule seen (broken, is, fails) =
+    let At : ℕ → Type 0 = λ number. Replied (run_chunk prints text) seen (Ok (NotRead place number)) seen in
+    subst At (sym is)
+    (by_fault (chunk_reply prints) (tree_of chunk text) (record { place = place; rule = broken }) seen fails.is)
+
+-- A method by its tree.
+pub method_read : (class_side : Bool) (class source : Text) (tree : Program) {before after : Seen}
+    {result : Result PlainReply AllocError} → IsTree method source tree
+    → RepliedBy (method_reply class_side class source tree) before result after
+    → Replied (install_method class_side class source) before result after
+unfolding command_reply
+method_read class_side class source tree is said =
+    by_tree (method_reply class_side class source) (tree_of method source) tree is.is said
+
+pub method_not_read : (class_side : Bool) (class source : Text) (place rule : ℕ) (seen : Seen)
+    → IsFault method source (Rule place rule) → Replied (install_method class_side class source) seen (Ok (NotRead place rule)) seen
+unfolding command_reply
+method_not_read class_side class source place rule seen (broken, is, fails) =
+    let At : ℕ → Type 0 = λ number. Replied (install_method class_side class source) seen (Ok (NotRead place number)) seen in
+    subst At (sym is)
+    (by_fault (method_reply class_side class source) (tree_of method source) (record { place = place; rule = broken }) seen fails.is)
