@@ -1,2 +1,3 @@
+pub mod FormTests
+pub mod NameTests
 pub mod Searches
-pub mod Stacks

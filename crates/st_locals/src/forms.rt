@@ -1,6 +1,6 @@
 //! Which messages are special forms.
 ghost use Rattle.std.specs.Prelude.{◌≡◌};
-ghost use Rattle.st_tree.specs.Trees.{sends, expressions};
+ghost use Rattle.st_tree.specs.Trees.{expression, sends, expressions};
 ghost use Rattle.st_tree.specs.Views.{head_of};
 ghost use Rattle.tree_meaning.specs.Forms.{takes, is_block_head, is_block_of, are_one_block, are_two_blocks, are_limit_and_block, form_with_block, form_with_two_blocks, form_with_limit, form_of, form_under, loop_with_block, loop_of, first_loop};
 ghost use Rattle.tree_meaning.specs.Meaning.{is_super_head};
@@ -21,6 +21,7 @@ pub fn is_super_head(head: &Primary) -> bool
 }
 
 /// The form of a message that isn't sent to `super` and isn't in a cascade.
+#[tactic(auto, using(crate::proofs::FormTests::forms))]
 pub fn form_of(selector: &Text, arguments: &[Expr]) -> Form
     ensures { result ≡ form_of selector.now (expressions arguments.now) }
 {
@@ -48,26 +49,33 @@ pub fn form_under(to_super: bool, selector: &Text, arguments: &[Expr]) -> Form
 
 /// Whether the first of an expression's messages is a while loop, and while which truth value it
 /// goes on. The last message before a cascade is none.
+#[tactic(auto, using(crate::proofs::FormTests::first_loops))]
 pub fn first_loop(head: &Primary, messages: &[Message], cascade: &[Message]) -> Option<bool>
     ensures { result ≡ first_loop (head_of head.now) (sends messages.now) (sends cascade.now) }
 {
     let Some((first, rest)) = messages.split_first() else {
         return None;
     };
-    if rest.is_empty() && !cascade.is_empty() {
+    if !rest.is_empty() {
+        return loop_of(head, first);
+    }
+    if !cascade.is_empty() {
         return None;
     }
     loop_of(head, first)
 }
 
+#[tactic(auto, using(crate::proofs::FormTests::loops))]
 fn loop_of(head: &Primary, message: &Message) -> Option<bool>
     ensures { result ≡ loop_of (head_of head.now) message.now }
 {
-    if is_block_head(0, head) && are_one_block(&message.args) {
-        loop_with_block(message.selector.bytes())
-    } else {
-        None
+    if !is_block_head(0, head) {
+        return None;
     }
+    if !are_one_block(&message.args) {
+        return None;
+    }
+    loop_with_block(message.selector.bytes())
 }
 
 fn loop_with_block(selector: &[u8]) -> Option<bool>
@@ -100,21 +108,53 @@ fn is_block_head(count: usize, head: &Primary) -> bool
 fn is_block_of(count: usize, expr: &Expr) -> bool
     ensures { result ≡ is_block_of count expr.now }
 {
-    expr.assigns.is_empty()
-        && expr.messages.is_empty()
-        && expr.cascade.is_empty()
-        && is_block_head(count, &expr.head)
+    is_block_alone(
+        count,
+        &expr.assigns,
+        &expr.head,
+        &expr.messages,
+        &expr.cascade,
+    )
 }
 
+/// The same of an expression's parts.
+#[tactic(auto, using(crate::proofs::FormTests::blocks_alone))]
+fn is_block_alone(
+    count: usize,
+    assigns: &[Text],
+    head: &Primary,
+    messages: &[Message],
+    cascade: &[Message],
+) -> bool
+    ensures { result ≡ is_block_of count (expression assigns.now (head_of head.now)
+        (sends messages.now) (sends cascade.now)) }
+{
+    if !assigns.is_empty() {
+        return false;
+    }
+    if !messages.is_empty() {
+        return false;
+    }
+    if !cascade.is_empty() {
+        return false;
+    }
+    is_block_head(count, head)
+}
+
+#[tactic(auto, using(crate::proofs::FormTests::one_block))]
 fn are_one_block(arguments: &[Expr]) -> bool
     ensures { result ≡ are_one_block (expressions arguments.now) }
 {
     let Some((only, rest)) = arguments.split_first() else {
         return false;
     };
-    rest.is_empty() && is_block_of(0, only)
+    if !rest.is_empty() {
+        return false;
+    }
+    is_block_of(0, only)
 }
 
+#[tactic(auto, using(crate::proofs::FormTests::two_blocks))]
 fn are_two_blocks(arguments: &[Expr]) -> bool
     ensures { result ≡ are_two_blocks (expressions arguments.now) }
 {
@@ -124,9 +164,13 @@ fn are_two_blocks(arguments: &[Expr]) -> bool
     let Some((second, rest)) = others.split_first() else {
         return false;
     };
-    rest.is_empty() && is_block_of(0, first) && is_block_of(0, second)
+    if !rest.is_empty() {
+        return false;
+    }
+    is_block_of(0, first) && is_block_of(0, second)
 }
 
+#[tactic(auto, using(crate::proofs::FormTests::limit_and_block))]
 fn are_limit_and_block(arguments: &[Expr]) -> bool
     ensures { result ≡ are_limit_and_block (expressions arguments.now) }
 {
@@ -136,7 +180,10 @@ fn are_limit_and_block(arguments: &[Expr]) -> bool
     let Some((body, rest)) = others.split_first() else {
         return false;
     };
-    rest.is_empty() && is_block_of(1, body)
+    if !rest.is_empty() {
+        return false;
+    }
+    is_block_of(1, body)
 }
 
 fn form_with_block(selector: &[u8]) -> Form

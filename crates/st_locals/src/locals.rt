@@ -147,12 +147,12 @@ impl Locals {
     ) -> Result<Value, AllocError>
         requires { size_closure tree.now ≤ 2 ^ 40 }
         ensures answer { IfOk result (λ answer. answer ≡ Block (record {
-            number = length self.old.blocks;
-            params = params_count tree.now;
+          number = length self.old.blocks;
+          params = params_count tree.now;
         })) }
         ensures made { OnOk result (self.new ≡ record self.old {
-            blocks = self.old.blocks
-                ++ record { tree = tree.now; place = place.now; frame = frame.now } ∷ [];
+          blocks = self.old.blocks
+              ++ record { tree = tree.now; place = place.now; frame = frame.now } ∷ [];
         }) }
         ensures unchanged { OnErr result (self.new ≡ self.old) }
     {

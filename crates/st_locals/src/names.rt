@@ -16,6 +16,7 @@ pub fn is_super(name: &Text) -> bool
 
 /// What a name stands for at a place. An inner variable hides an outer one of the same name. It
 /// takes no memory.
+#[tactic(auto, using(crate::proofs::NameTests::names_mean))]
 pub fn where_is(name: &Text, place: &Place) -> Where
     ensures { result ≡ where_is name.now place.now.names }
 {
@@ -36,6 +37,7 @@ pub fn where_is(name: &Text, place: &Place) -> Where
 }
 
 /// The variable of a name among scopes of which the last one is the innermost.
+#[tactic(auto, using(crate::proofs::Searches::scopes_in_turn))]
 fn variable_in(name: &[u8], scopes: &[ScopeNames]) -> Where
     ensures { result ≡ variable_in name.now (reverse scopes.now) }
 {

@@ -46,11 +46,7 @@ impl Place {
 
     /// This place once the variables of a block that is evaluated here are in scope. A block
     /// without variables has no scope of its own.
-    pub fn with_variables(
-        &self,
-        params: &Vec<Text>,
-        temps: &Vec<Text>,
-    ) -> Result<Place, AllocError>
+    pub fn with_variables(&self, params: &Vec<Text>, temps: &Vec<Text>) -> Result<Place, AllocError>
         ensures { IfOk result (λ place. place
             ≡ with_variables (params.now.items ++ temps.now.items) self.now) }
     {

@@ -19,16 +19,25 @@ use Rattle.gem_language.specs.Sends.{outside, outside_by, Callee, callee}
 use Rattle.st_plain.specs.Leaving.{LeftSo}
 use Rattle.st_plain.proofs.Runs.{ending_ran}
 
+-- The variables of a method or a block: the arguments, and so many temporaries.
+variables_are : (arguments values : List Value) (count temps : ℕ) → values ≡ arguments ++ replicate count Nil → count ≡ temps
+    → values ≡ arguments ++ replicate temps Nil
+variables_are arguments values count temps is same =
+    let At : ℕ → Type 0 = λ one. values ≡ arguments ++ replicate one Nil in subst At same is
+
 -- An activation ran whose body ran in its frame, with its variables, and was then left.
 pub activation_ran : (body : Frame → ValueRun) (temps holder : ℕ) (class_side : Bool) (receiver : Value) (arguments : List Value)
     {before between : Seen} {local begun middle later : Local MadeBlock} (ended : Result Value Stop) {result : Result Value Stop}
-    (here : Mark) (frame : Frame) → here ≡ mark local → frame ≡ method_frame holder class_side receiver local
-    → begun ≡ begin_method (arguments ++ replicate temps Nil) local → Ran (body frame) before begun ended between middle
-    → LeftSo (leave_method here) ended between middle result later
+    (here : Mark) (copy : Value) (frame : Frame) (values : List Value) (count : ℕ)
+    → here ≡ mark local → copy ≡ receiver → frame ≡ method_frame holder class_side copy local
+    → values ≡ arguments ++ replicate count Nil → count ≡ temps → begun ≡ begin_method values local
+    → Ran (body frame) before begun ended between middle → LeftSo (leave_method here) ended between middle result later
     → Ran (activation body temps holder class_side receiver arguments) before local result between later
 unfolding activation
-activation_ran body temps holder class_side receiver arguments {before} {between} {local} {begun} {middle} {later} ended {result} here
-    frame is_mark is_frame is_begun ran left =
+activation_ran body temps holder class_side receiver arguments {before} {between} {local} {begun} {middle} {later} ended {result} here copy
+    frame values count is_mark is_copy is_frame are_values is_count is_begun ran left =
+    let AtCopy : Value → Type 0 = λ one. frame ≡ method_frame holder class_side one local in
+    let AtValues : List Value → Type 0 = λ one. begun ≡ begin_method one local in
     let AtMark : Mark → Type 0 = λ one. LeftSo (leave_method one) ended between middle result later in
     let AtFrame : Frame → Type 0 = λ one. Ran (body one) before begun ended between middle in
     let AtBegun : Local MadeBlock → Type 0 =
@@ -39,18 +48,20 @@ activation_ran body temps holder class_side receiver arguments {before} {between
     (ran_then (λ done. ending (body (method_frame holder class_side receiver local)) (λ end. leave_method (mark local) end))
     (ran_become before local (begin_method (arguments ++ replicate temps Nil) local))
     (ending_ran (λ end. leave_method (mark local) end) ended
-    (subst AtBegun is_begun (subst AtFrame is_frame ran)) (subst AtMark is_mark left)))
+    (subst AtBegun (subst AtValues (variables_are arguments values count temps are_values is_count) is_begun)
+    (subst AtFrame (subst AtCopy is_copy is_frame) ran)) (subst AtMark is_mark left)))
 
 -- The same of the evaluation of a made block.
 pub evaluation_ran : (body : Frame → ValueRun) (temps : ℕ) (frame : Frame) (arguments : List Value)
     {before between : Seen} {local opened middle later : Local MadeBlock} (ended : Result Value Stop) {result : Result Value Stop}
-    (here : Mark) (inner : Frame) → here ≡ mark local → inner ≡ with_scope here frame
-    → opened ≡ open_scope (arguments ++ replicate temps Nil) local → Ran (body inner) before opened ended between middle
-    → LeftSo (leave_block here) ended between middle result later
+    (here : Mark) (inner : Frame) (values : List Value) (count : ℕ) → here ≡ mark local → inner ≡ with_scope here frame
+    → values ≡ arguments ++ replicate count Nil → count ≡ temps → opened ≡ open_scope values local
+    → Ran (body inner) before opened ended between middle → LeftSo (leave_block here) ended between middle result later
     → Ran (evaluation body temps frame arguments) before local result between later
 unfolding evaluation
-evaluation_ran body temps frame arguments {before} {between} {local} {opened} {middle} {later} ended {result} here inner is_mark is_inner
-    is_opened ran left =
+evaluation_ran body temps frame arguments {before} {between} {local} {opened} {middle} {later} ended {result} here inner values count
+    is_mark is_inner are_values is_count is_opened ran left =
+    let AtValues : List Value → Type 0 = λ one. opened ≡ open_scope one local in
     let AtMark : Mark → Type 0 = λ one. LeftSo (leave_block one) ended between middle result later in
     let AtInner : Frame → Type 0 = λ one. Ran (body one) before opened ended between middle in
     let InMark : Mark → Type 0 = λ one. Ran (body (with_scope one frame)) before opened ended between middle in
@@ -61,7 +72,8 @@ evaluation_ran body temps frame arguments {before} {between} {local} {opened} {m
     (ran_then (λ done. ending (body (with_scope (mark local) frame)) (λ end. leave_block (mark local) end))
     (ran_become before local (open_scope (arguments ++ replicate temps Nil) local))
     (ending_ran (λ end. leave_block (mark local) end) ended
-    (subst AtOpened is_opened (subst InMark is_mark (subst AtInner is_inner ran))) (subst AtMark is_mark left)))
+    (subst AtOpened (subst AtValues (variables_are arguments values count temps are_values is_count) is_opened)
+    (subst InMark is_mark (subst AtInner is_inner ran))) (subst AtMark is_mark left)))
 
 -- where an activation more may begin
 depth_less : (depth : ℕ) → 0 < depth → suc (depth - 1) ≡ depth

@@ -38,15 +38,15 @@ replied program (Ok reply) result {before} {after} {later} ran is =
       keeps = ran.keeps;
       tells = tells_by (perform program before.setting (with_local before (nothing MadeBlock)))
           (record { end = gives reply; state = with_local after later }) after ran.ends
-          (record { reply = refl; world = refl; budget = refl });
+          (record { told_by = refl; world = refl; budget = refl });
     })
-replied program (Err (stop.Fails fault)) result {before} {after} {later} ran is =
+replied program (Err (stop.Fails wrong)) result {before} {after} {later} ran is =
     let At : Result PlainReply AllocError → Type 0 = λ one. RepliedBy program before one after in
     subst At (sym is) (record {
       keeps = ran.keeps;
       tells = tells_by (perform program before.setting (with_local before (nothing MadeBlock)))
-          (record { end = fails fault; state = with_local after later }) after ran.ends
-          (record { reply = refl; world = refl; budget = refl });
+          (record { end = fails wrong; state = with_local after later }) after ran.ends
+          (record { told_by = refl; world = refl; budget = refl });
     })
 replied program (Err (stop.Returns answer home)) result {before} {after} {later} ran is =
     let At : Result PlainReply AllocError → Type 0 = λ one. RepliedBy program before one after in
@@ -54,7 +54,7 @@ replied program (Err (stop.Returns answer home)) result {before} {after} {later}
       keeps = ran.keeps;
       tells = tells_by (perform program before.setting (with_local before (nothing MadeBlock)))
           (record { end = returns answer home; state = with_local after later }) after ran.ends
-          (record { reply = refl; world = refl; budget = refl });
+          (record { told_by = refl; world = refl; budget = refl });
     })
 replied program (Err stop.NoMemory) result {before} {after} {later} ran is =
     let At : Result PlainReply AllocError → Type 0 = λ one. RepliedBy program before one after in
@@ -77,36 +77,41 @@ by_fault : (reply : Program → ReplyRun) (read : Result Program TextFault) (fau
 by_fault reply read fault seen is =
     let At : Result Program TextFault → Type 0 =
     λ one. RepliedBy (reply_by reply one) seen (Ok (NotRead fault.place (rule_number fault.rule))) seen in
-    subst At (sym is) (record { keeps = keeps_same seen; tells = record { reply = refl; world = refl; budget = refl } })
+    subst At (sym is) (record { keeps = keeps_same seen; tells = record { told_by = refl; world = refl; budget = refl } })
 
 -- A chunk by its tree.
-pub chunk_read : (prints : Bool) (text : Text) (tree : Program) {before after : Seen} {result : Result PlainReply AllocError}
-    → IsTree chunk text tree → RepliedBy (chunk_reply prints tree) before result after
+pub chunk_read : (prints : Bool) (text bytes : Text) (tree : Program) {before after : Seen} {result : Result PlainReply AllocError}
+    → bytes ≡ text → IsTree chunk bytes tree → RepliedBy (chunk_reply prints tree) before result after
     → Replied (run_chunk prints text) before result after
 unfolding command_reply
-chunk_read prints text tree is said = by_tree (chunk_reply prints) (tree_of chunk text) tree is.is said
+chunk_read prints text bytes tree {before} {after} {result} same is said =
+    let At : Text → Type 0 = λ one. Replied (run_chunk prints one) before result after in
+    subst At same (by_tree (chunk_reply prints) (tree_of chunk bytes) tree is.is said)
 
-pub chunk_not_read : (prints : Bool) (text : Text) (place rule : ℕ) (seen : Seen)
-    → IsFault chunk text (Rule place rule) → Replied (run_chunk prints text) seen (Ok (NotRead place rule)) seen
+pub chunk_not_read : (prints : Bool) (text bytes : Text) (place rule : ℕ) (seen : Seen) → bytes ≡ text
+    → IsFault chunk bytes (Rule place rule) → Replied (run_chunk prints text) seen (Ok (NotRead place rule)) seen
 unfolding command_reply
-chunk_not_read prints text place rule seen (broken, is, fails) =
-    let At : ℕ → Type 0 = λ number. Replied (run_chunk prints text) seen (Ok (NotRead place number)) seen in
-    subst At (sym is)
-    (by_fault (chunk_reply prints) (tree_of chunk text) (record { place = place; rule = broken }) seen fails.is)
+chunk_not_read prints text bytes place rule seen same (broken, is, fails) =
+    let At : Text → Type 0 = λ one. Replied (run_chunk prints one) seen (Ok (NotRead place rule)) seen in
+    let AtRule : ℕ → Type 0 = λ number. Replied (run_chunk prints bytes) seen (Ok (NotRead place number)) seen in
+    subst At same (subst AtRule (sym is)
+    (by_fault (chunk_reply prints) (tree_of chunk bytes) (record { place = place; rule = broken }) seen fails.is))
 
 -- A method by its tree.
-pub method_read : (class_side : Bool) (class source : Text) (tree : Program) {before after : Seen}
-    {result : Result PlainReply AllocError} → IsTree method source tree
+pub method_read : (class_side : Bool) (class source bytes : Text) (tree : Program) {before after : Seen}
+    {result : Result PlainReply AllocError} → bytes ≡ source → IsTree method bytes tree
     → RepliedBy (method_reply class_side class source tree) before result after
     → Replied (install_method class_side class source) before result after
 unfolding command_reply
-method_read class_side class source tree is said =
-    by_tree (method_reply class_side class source) (tree_of method source) tree is.is said
+method_read class_side class source bytes tree same is said =
+    let At : Text → Type 0 = λ one. tree_of method one ≡ Ok tree in
+    by_tree (method_reply class_side class source) (tree_of method source) tree (subst At same is.is) said
 
-pub method_not_read : (class_side : Bool) (class source : Text) (place rule : ℕ) (seen : Seen)
-    → IsFault method source (Rule place rule) → Replied (install_method class_side class source) seen (Ok (NotRead place rule)) seen
+pub method_not_read : (class_side : Bool) (class source bytes : Text) (place rule : ℕ) (seen : Seen) → bytes ≡ source
+    → IsFault method bytes (Rule place rule) → Replied (install_method class_side class source) seen (Ok (NotRead place rule)) seen
 unfolding command_reply
-method_not_read class_side class source place rule seen (broken, is, fails) =
-    let At : ℕ → Type 0 = λ number. Replied (install_method class_side class source) seen (Ok (NotRead place number)) seen in
-    subst At (sym is)
-    (by_fault (method_reply class_side class source) (tree_of method source) (record { place = place; rule = broken }) seen fails.is)
+method_not_read class_side class source bytes place rule seen same (broken, is, fails) =
+    let At : Text → Type 0 = λ one. Replied (install_method class_side class one) seen (Ok (NotRead place rule)) seen in
+    let AtRule : ℕ → Type 0 = λ number. Replied (install_method class_side class bytes) seen (Ok (NotRead place number)) seen in
+    subst At same (subst AtRule (sym is)
+    (by_fault (method_reply class_side class bytes) (tree_of method bytes) (record { place = place; rule = broken }) seen fails.is))

@@ -85,6 +85,10 @@ module _ (when : Bool) (condition body : ValueRun) (before : Seen) (local : Loca
     pub within : after.budget.units ≤ left
     pub leads : Leads (while_turns when condition body) before local (choose go (turn left) (give Nil)) after later
 
+  -- it goes on where the test says so
+  pub is_turning : (now : Bool) {after : Seen} {later : Local MadeBlock} → now ≡ true → Turning now after later → Turning true after later
+  is_turning now {after} {later} is here = let At : Bool → Type 0 = λ one. Turning one after later in subst At is here
+
   unrolled : {rest : ValueRun} {after : Seen} {later : Local MadeBlock}
       → Leads (while_turns_up_to (suc before.budget.units) when condition body) before local rest after later
       → Leads (while_turns when condition body) before local rest after later

@@ -1,5 +1,7 @@
--- What the evaluator decides by values.
-use Rattle.std.specs.Prelude.{Bool, true, false, not, Option, None, Some, Result, Ok, Err}
+-- What the evaluator decides by values and blocks.
+use Rattle.std.specs.Prelude.{Bool, true, false, not, List, Option, None, Some, Result, Ok, Err}
+use Rattle.texts.specs.Bytes.{Bytes as Text}
+use Rattle.st_tree.specs.Trees.{Closure, closure}
 use Rattle.gem_object.specs.declared.value.Value.{Value}
 use Rattle.object_programs.specs.declared.fault.Fault.TheVariants as fault
 use Rattle.running_objects.specs.declared.stop.Stop.{Stop}
@@ -17,3 +19,7 @@ test_of truth.Neither when = Err (stop.Fails fault.NotBoolean)
 abbrev pub handed_value : Bool → Value → Option Value
 handed_value true number = Some number
 handed_value false number = None
+
+-- the parameters of a block
+abbrev pub params_of : Closure → List Text
+params_of (closure params temps body) = params

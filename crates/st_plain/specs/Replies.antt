@@ -16,8 +16,8 @@ use Rattle.st_plain.specs.declared.reply.Reply.TheVariants.{NotRead, Failed, Ran
 
 -- a reply, as the evaluator gives it
 abbrev pub shown : Reply → PlainReply
-shown (not_read fault) = NotRead fault.place (rule_number fault.rule)
-shown (failed fault) = Failed fault
+shown (not_read wrong) = NotRead wrong.place (rule_number wrong.rule)
+shown (failed wrong) = Failed wrong
 shown ran = Ran
 shown (printed text) = Printed text
 shown (installed selector) = Installed selector
@@ -25,7 +25,7 @@ shown (installed selector) = Installed selector
 -- What a command comes to whose program ended so, unless memory ran out.
 abbrev pub told : Result Reply Stop → Result PlainReply AllocError
 told (Ok reply) = Ok (shown reply)
-told (Err (stop.Fails fault)) = Ok (Failed fault)
+told (Err (stop.Fails wrong)) = Ok (Failed wrong)
 told (Err (stop.Returns answer home)) = Ok (Failed fault.DeadHome)
 told (Err stop.NoMemory) = Err alloc_error
 
@@ -46,7 +46,7 @@ got (Err ended) = Err ended
 -- The reply tells the outcome of a command, and these objects and this budget are those that it
 -- leaves.
 pub record Tells (outcome : Outcome MadeBlock Reply) (reply : PlainReply) (after : Seen) : Type 0 where
-  pub reply : reply ≡ shown (reply_of outcome.end)
+  pub told_by : reply ≡ shown (reply_of outcome.end)
   pub world : outcome.state.world ≡ after.world
   pub budget : outcome.state.budget ≡ after.budget
 

@@ -76,6 +76,7 @@ fn activate_chunk<O: Objects>(
 }
 
 /// A chunk answers its last statement's value.
+#[tactic(auto, using(crate::proofs::Runs::runs), unfolding(tree_meaning::specs::Bodies::chunk_body))]
 fn eval_statements_of_chunk<O: Objects>(
     alloc: Global,
     objects: &mut O,

@@ -16,11 +16,11 @@ ghost use Rattle.tree_meaning.specs.Operands.{truth_of, by_truth, int_pair};
 ghost use Rattle.tree_meaning.specs.Loops.{while_loop, while_turns, count_between, count_turns};
 ghost use Rattle.tree_meaning.specs.Parts.{first_argument, rest_arguments, first_body, hand, argument_values, cascade_in_turn, messages_in_turn, head_and_messages, statements_from, statements_in_turn};
 ghost use Rattle.tree_meaning.specs.Meaning.{is_super_head, message, head_value, head_in_place, closure_in_place, expression_value, messages_of, message_of, arguments_of, statement_value, statement_runs};
-ghost use Rattle.tree_meaning.specs.Bodies.{temps_count, method_body, block_body};
+ghost use Rattle.tree_meaning.specs.Bodies.{temps_count, statements_of, method_body, block_body};
 ghost use Rattle.tree_meaning.specs.Calls.{activation, evaluation, call_block_at};
 ghost use Rattle.gem_language.specs.Sends.{outside, callee, send_by, call_found, call_code, call_source, primitive_value};
 ghost use Rattle.running_objects.specs.Ran.{Ran};
-ghost use Rattle.st_plain.specs.Choices.{handed_value};
+ghost use Rattle.st_plain.specs.Choices.{handed_value, params_of};
 
 use crate::arguments::Arguments;
 use crate::border::{find_method, primitive, take_unit};
@@ -91,11 +91,11 @@ fn eval_whole<O: Objects>(
         let receiver = eval_head(alloc, objects, locals, place, frame, head, depth)?;
         return eval_chain(alloc, objects, locals, place, frame, messages, cascade, is_super_head(head), receiver, depth);
     };
-    let answer = eval_while(alloc, objects, locals, place, frame, when, head, messages, depth)?;
+    let value = eval_while(alloc, objects, locals, place, frame, when, head, messages, depth)?;
     let Some((_, rest)) = messages.split_first() else {
-        return Ok(answer);
+        return Ok(value);
     };
-    eval_chain(alloc, objects, locals, place, frame, rest, cascade, false, answer, depth)
+    eval_chain(alloc, objects, locals, place, frame, rest, cascade, false, value, depth)
 }
 
 // What begins an expression.
@@ -434,7 +434,8 @@ fn eval_in_place<O: Objects>(
     }
 }
 
-// A block in its place. Its variables are new in each evaluation; one without any has no scope.
+// A block in its place. Its variables are new in each evaluation: they stand in a scope of their
+// own, which is given back. A block without variables has none.
 #[cycle(evaluation)]
 fn eval_block<O: Objects>(
     alloc: Global,
@@ -450,18 +451,22 @@ fn eval_block<O: Objects>(
     ensures { Ran (closure_in_place (outside depth) block.now place.now handed frame.now)
         (O.seen objects.old) locals.old result (O.seen objects.new) locals.new }
 {
-    let Some(_) = block.params.split_first() else {
-        let Some(_) = block.temps.split_first() else {
-            return eval_body(alloc, objects, locals, place, frame, &block.params, &block.body, handed, depth);
-        };
-        return eval_scope(alloc, objects, locals, place, frame, block, handed, depth);
-    };
-    eval_scope(alloc, objects, locals, place, frame, block, handed, depth)
+    let variables = block.params.len() + block.temps.len();
+    if variables == 0 {
+        return eval_body(alloc, objects, locals, place, frame, block, handed, depth);
+    }
+    let inside = place.with_variables(&block.params, &block.temps)?;
+    let mark = locals.mark();
+    locals.open_scope(nil_values(alloc, variables)?)?;
+    let inner = frame.with_scope(mark)?;
+    let answer = eval_body(alloc, objects, locals, &inside, &inner, block, handed, depth)?;
+    locals.give_back(mark);
+    Ok(answer)
 }
 
-// A block with variables in its place: they stand in a scope of their own, which is given back.
+// The parameter of a block, which may be handed a value, and its statements.
 #[cycle(evaluation)]
-fn eval_scope<O: Objects>(
+fn eval_body<O: Objects>(
     alloc: Global,
     objects: &mut O,
     locals: &mut Locals,
@@ -472,44 +477,17 @@ fn eval_scope<O: Objects>(
     depth: u32,
 ) -> Result<Value, Stop>
     requires { size_closure block.now ≤ 2 ^ 40 }
-    ensures { Ran (closure_in_place (outside depth) block.now place.now handed frame.now)
+    ensures { Ran (and_then (hand (params_of block.now) handed frame.now) (λ done. statements_in_turn
+        (statement_runs (outside depth) (statements_of block.now)) place.now frame.now))
         (O.seen objects.old) locals.old result (O.seen objects.new) locals.new }
 {
-    let inside = place.with_variables(&block.params, &block.temps)?;
-    let mark = locals.mark();
-    let variables = nil_values(alloc, block.params.len() + block.temps.len())?;
-    locals.open_scope(variables)?;
-    let inner = frame.with_scope(mark)?;
-    let answer = eval_body(alloc, objects, locals, &inside, &inner, &block.params, &block.body, handed, depth)?;
-    locals.give_back(mark);
-    Ok(answer)
-}
-
-// The parameter, which may be handed a value, and the statements.
-#[cycle(evaluation)]
-fn eval_body<O: Objects>(
-    alloc: Global,
-    objects: &mut O,
-    locals: &mut Locals,
-    place: &Place,
-    frame: &Frame,
-    params: &[Text],
-    body: &[Stat],
-    handed: Option<Value>,
-    depth: u32,
-) -> Result<Value, Stop>
-    requires { size_statements (statements body.now) ≤ 2 ^ 40 }
-    ensures { Ran (and_then (hand params.now handed frame.now) (λ done. statements_in_turn
-        (statement_runs (outside depth) (statements body.now)) place.now frame.now))
-        (O.seen objects.old) locals.old result (O.seen objects.new) locals.new }
-{
-    let _ = hand(objects, locals, params, handed, frame)?;
-    eval_statements(alloc, objects, locals, place, frame, body, depth)
+    let _ = hand(objects, locals, &block.params, handed, frame)?;
+    eval_statements(alloc, objects, locals, place, frame, &block.body, depth)
 }
 
 // Statements one after the other: the answer is that of the last one.
 #[cycle(evaluation)]
-fn eval_statements<O: Objects>(
+pub(crate) fn eval_statements<O: Objects>(
     alloc: Global,
     objects: &mut O,
     locals: &mut Locals,

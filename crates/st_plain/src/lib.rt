@@ -5,6 +5,14 @@
 mod arguments;
 mod border;
 mod choices;
+mod chunk;
+mod command;
+mod eval;
 mod leaving;
+mod reply;
 mod sources;
 mod variables;
+
+pub use chunk::run_chunk;
+pub use command::{Command, install_source, run_command, run_text};
+pub use reply::Reply;

@@ -1,5 +1,6 @@
 //! Names, assignments, literals and new blocks.
 #![tactic(auto, using(crate::proofs::Runs::runs))]
+
 ghost use Rattle.std.specs.Prelude.{◌≤◌, ◌^◌};
 ghost use Rattle.st_tree.specs.Trees.{name};
 ghost use Rattle.st_tree.specs.Falls.{size_closure};

@@ -57,11 +57,8 @@ decreases-eval_in_place g l = 2 ^ 44 * l.depth + 8 * (size_head (head_of l.head.
 abbrev pub decreases-eval_block : goal.decreases-eval_block
 decreases-eval_block g l = 2 ^ 44 * l.depth + 8 * (size_closure l.block.now) + 5
 
-abbrev pub decreases-eval_scope : goal.decreases-eval_scope
-decreases-eval_scope g l = 2 ^ 44 * l.depth + 8 * (size_closure l.block.now) + 4
-
 abbrev pub decreases-eval_body : goal.decreases-eval_body
-decreases-eval_body g l = 2 ^ 44 * l.depth + 8 * (size_statements (statements l.body.now)) + 3
+decreases-eval_body g l = 2 ^ 44 * l.depth + 8 * (size_closure l.block.now) + 4
 
 abbrev pub decreases-eval_statements : goal.decreases-eval_statements
 decreases-eval_statements g l = 2 ^ 44 * l.depth + 8 * (size_statements (statements l.body.now)) + 2
