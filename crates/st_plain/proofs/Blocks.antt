@@ -28,6 +28,21 @@ none_of (name ∷ rest) second none = absurd (omega (arith, none))
 names_length : (params temps : List Text) → length params + length temps ≡ length (params ++ temps)
 names_length params temps = sym (length-append params temps)
 
+-- all names are counted, and their variables stand in the scope
+all_names : (params temps : List Text) (count : ℕ) → count ≡ length params + length temps → count ≡ length (params ++ temps)
+all_names params temps count is_count = is_count ∙ names_length params temps
+
+some_name : (params temps : List Text) (count : ℕ) → 0 < count → count ≡ length params + length temps → 0 < length (params ++ temps)
+some_name params temps count some is_count = let At : ℕ → Type 0 = λ one. 0 < one in subst At (all_names params temps count is_count) some
+
+variables_open : (params temps : List Text) (values : List Value) (count : ℕ) (local opened : Local MadeBlock)
+    → count ≡ length params + length temps → values ≡ replicate count Nil → opened ≡ open_scope values local
+    → opened ≡ open_scope (replicate (length (params ++ temps)) Nil) local
+variables_open params temps values count local opened is_count are_values is_opened =
+    let AtValues : List Value → Type 0 = λ one. opened ≡ open_scope one local in
+    let At : ℕ → Type 0 = λ one. opened ≡ open_scope (replicate one Nil) local in
+    subst At (all_names params temps count is_count) (subst AtValues are_values is_opened)
+
 module _ (params temps : List Text) (body : Place → Frame → ValueRun) (place : Place) (handed : Option Value) (frame : Frame) where
   -- what a block with these names does in its scope
   abbrev inside_by : List Text → Frame → ValueRun
@@ -47,18 +62,6 @@ module _ (params temps : List Text) (body : Place → Frame → ValueRun) (place
       (values : List Value) (count : ℕ) (some : 0 < count) (is_count : count ≡ length params + length temps)
       (is_mark : here ≡ mark local) (is_inside : inside ≡ with_variables (params ++ temps) place)
       (is_inner : inner ≡ with_scope here frame) (are_values : values ≡ replicate count Nil) (is_opened : opened ≡ open_scope values local) where
-    all : count ≡ length (params ++ temps)
-    all = is_count ∙ names_length params temps
-
-    is_some : 0 < length (params ++ temps)
-    is_some = let At : ℕ → Type 0 = λ one. 0 < one in subst At all some
-
-    are_opened : opened ≡ open_scope (replicate (length (params ++ temps)) Nil) local
-    are_opened =
-        let AtValues : List Value → Type 0 = λ one. opened ≡ open_scope one local in
-        let At : ℕ → Type 0 = λ one. opened ≡ open_scope (replicate one Nil) local in
-        subst At all (subst AtValues are_values is_opened)
-
     pub block_ran : (answer : Value) (later : Local MadeBlock)
         → Ran (and_then (hand params handed inner) (λ done. body inside inner)) before opened (Ok answer) after middle
         → later ≡ give_back here middle → Ran (block_in_place params temps body place handed frame) before local (Ok answer) after later
@@ -66,7 +69,8 @@ module _ (params temps : List Text) (body : Place → Frame → ValueRun) (place
         let AtPlace : Place → Type 0 =
         λ one. Ran (and_then (hand params handed inner) (λ done. body one inner)) before opened (Ok answer) after middle in
         in_scope_ran frame (inside_by (params ++ temps)) here inner is_mark is_inner (length (params ++ temps))
-        is_some answer later are_opened (subst AtPlace is_inside ran) is_later
+        (some_name params temps count some is_count) answer later
+        (variables_open params temps values count local opened is_count are_values is_opened) (subst AtPlace is_inside ran) is_later
 
     pub block_stop : (ended : Stop)
         → Ran (and_then (hand params handed inner) (λ done. body inside inner)) before opened (Err ended) after middle
@@ -75,7 +79,8 @@ module _ (params temps : List Text) (body : Place → Frame → ValueRun) (place
         let AtPlace : Place → Type 0 =
         λ one. Ran (and_then (hand params handed inner) (λ done. body one inner)) before opened (Err ended) after middle in
         in_scope_stop frame (inside_by (params ++ temps)) here inner is_mark is_inner (length (params ++ temps))
-        is_some ended are_opened (subst AtPlace is_inside ran)
+        (some_name params temps count some is_count) ended
+        (variables_open params temps values count local opened is_count are_values is_opened) (subst AtPlace is_inside ran)
 
 -- the parameter and the statements of a block
 abbrev pub body_run : Outside → Closure → Option Value → Place → Frame → ValueRun

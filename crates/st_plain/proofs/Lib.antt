@@ -2,5 +2,6 @@ pub mod Runs
 pub mod Blocks
 pub mod Activations
 pub mod Turns
+pub mod Counts
 pub mod Replies
-pub mod Sources
+pub mod Unread

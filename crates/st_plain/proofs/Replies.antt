@@ -1,5 +1,6 @@
 -- What the run of a command's program makes of the reply.
 use Rattle.std.proofs.Common.{◌≡◌, refl, sym, ap, subst, ℕ, Bool, Result, Ok, Err}
+use Rattle.std.specs.Prelude.{alloc_error}
 use Rattle.std.specs.declared.alloc.AllocError.{AllocError}
 use Rattle.texts.specs.Bytes.{Bytes as Text}
 use Rattle.st_tree.specs.Trees.{Program}
@@ -17,9 +18,10 @@ use Rattle.running_objects.specs.declared.stop.Stop.TheVariants as stop
 use Rattle.running_objects.proofs.Running.{keeps_same}
 use Rattle.st_plain.specs.declared.reply.Reply.{Reply as PlainReply}
 use Rattle.st_plain.specs.declared.reply.Reply.TheVariants.{NotRead}
-use Rattle.st_plain.specs.Replies.{shown, told, Tells, RepliedBy, Replied}
+use Rattle.st_plain.specs.Replies.{shown, not_read_by, told, Tells, RepliedBy, Replied}
 use Rattle.st_parser.specs.Parsed.{IsTree, IsFault}
-use Rattle.st_parser.specs.declared.faults.ParseFault.TheVariants.{Rule}
+use Rattle.st_parser.specs.declared.faults.ParseFault.TheVariants.{Rule, NoMemory}
+use Rattle.st_parser.specs.declared.faults.ParseFault.{ParseFault}
 
 -- an outcome that is known tells its reply
 tells_by : (outcome known : Outcome MadeBlock Reply) (after : Seen)
@@ -88,14 +90,18 @@ chunk_read prints text bytes tree {before} {after} {result} same is said =
     let At : Text → Type 0 = λ one. Replied (run_chunk prints one) before result after in
     subst At same (by_tree (chunk_reply prints) (tree_of chunk bytes) tree is.is said)
 
-pub chunk_not_read : (prints : Bool) (text bytes : Text) (place rule : ℕ) (seen : Seen) → bytes ≡ text
-    → IsFault chunk bytes (Rule place rule) → Replied (run_chunk prints text) seen (Ok (NotRead place rule)) seen
+pub chunk_not_read : (prints : Bool) (text bytes : Text) (fault : ParseFault) (seen : Seen) {result : Result PlainReply AllocError}
+    → bytes ≡ text → IsFault chunk bytes fault → result ≡ not_read_by fault → Replied (run_chunk prints text) seen result seen
 unfolding command_reply
-chunk_not_read prints text bytes place rule seen same (broken, is, fails) =
+chunk_not_read prints text bytes (Rule place rule) seen {result} same (broken, is, there) is_reply =
     let At : Text → Type 0 = λ one. Replied (run_chunk prints one) seen (Ok (NotRead place rule)) seen in
     let AtRule : ℕ → Type 0 = λ number. Replied (run_chunk prints bytes) seen (Ok (NotRead place number)) seen in
-    subst At same (subst AtRule (sym is)
-    (by_fault (chunk_reply prints) (tree_of chunk bytes) (record { place = place; rule = broken }) seen fails.is))
+    let AtReply : Result PlainReply AllocError → Type 0 = λ one. Replied (run_chunk prints text) seen one seen in
+    subst AtReply (sym is_reply) (subst At same (subst AtRule (sym is)
+    (by_fault (chunk_reply prints) (tree_of chunk bytes) (record { place = place; rule = broken }) seen there.is)))
+chunk_not_read prints text bytes NoMemory seen {result} same nothing_known is_reply =
+    let AtReply : Result PlainReply AllocError → Type 0 = λ one. Replied (run_chunk prints text) seen one seen in
+    subst AtReply (sym is_reply) (replied_nothing (command_reply (run_chunk prints text)) seen alloc_error)
 
 -- A method by its tree.
 pub method_read : (class_side : Bool) (class source bytes : Text) (tree : Program) {before after : Seen}
@@ -107,11 +113,16 @@ method_read class_side class source bytes tree same is said =
     let At : Text → Type 0 = λ one. tree_of method one ≡ Ok tree in
     by_tree (method_reply class_side class source) (tree_of method source) tree (subst At same is.is) said
 
-pub method_not_read : (class_side : Bool) (class source bytes : Text) (place rule : ℕ) (seen : Seen) → bytes ≡ source
-    → IsFault method bytes (Rule place rule) → Replied (install_method class_side class source) seen (Ok (NotRead place rule)) seen
+pub method_not_read : (class_side : Bool) (class source bytes : Text) (fault : ParseFault) (seen : Seen)
+    {result : Result PlainReply AllocError} → bytes ≡ source → IsFault method bytes fault → result ≡ not_read_by fault
+    → Replied (install_method class_side class source) seen result seen
 unfolding command_reply
-method_not_read class_side class source bytes place rule seen same (broken, is, fails) =
+method_not_read class_side class source bytes (Rule place rule) seen {result} same (broken, is, there) is_reply =
     let At : Text → Type 0 = λ one. Replied (install_method class_side class one) seen (Ok (NotRead place rule)) seen in
     let AtRule : ℕ → Type 0 = λ number. Replied (install_method class_side class bytes) seen (Ok (NotRead place number)) seen in
-    subst At same (subst AtRule (sym is)
-    (by_fault (method_reply class_side class bytes) (tree_of method bytes) (record { place = place; rule = broken }) seen fails.is))
+    let AtReply : Result PlainReply AllocError → Type 0 = λ one. Replied (install_method class_side class source) seen one seen in
+    subst AtReply (sym is_reply) (subst At same (subst AtRule (sym is)
+    (by_fault (method_reply class_side class bytes) (tree_of method bytes) (record { place = place; rule = broken }) seen there.is)))
+method_not_read class_side class source bytes NoMemory seen {result} same nothing_known is_reply =
+    let AtReply : Result PlainReply AllocError → Type 0 = λ one. Replied (install_method class_side class source) seen one seen in
+    subst AtReply (sym is_reply) (replied_nothing (command_reply (install_method class_side class source)) seen alloc_error)

@@ -11,6 +11,8 @@ use Rattle.gem_language.specs.Commands.{Command, run_chunk, install_method, Repl
 use Rattle.running_objects.specs.Seen.{Seen, with_local, Keeps}
 use Rattle.running_objects.specs.declared.stop.Stop.{Stop}
 use Rattle.running_objects.specs.declared.stop.Stop.TheVariants as stop
+use Rattle.st_parser.specs.declared.faults.ParseFault.{ParseFault}
+use Rattle.st_parser.specs.declared.faults.ParseFault.TheVariants.{Rule, NoMemory}
 use Rattle.st_plain.specs.declared.reply.Reply.{Reply as PlainReply}
 use Rattle.st_plain.specs.declared.reply.Reply.TheVariants.{NotRead, Failed, Ran, Printed, Installed}
 
@@ -21,6 +23,11 @@ shown (failed wrong) = Failed wrong
 shown ran = Ran
 shown (printed text) = Printed text
 shown (installed selector) = Installed selector
+
+-- the reply to a text without a tree, unless memory ran out
+abbrev pub not_read_by : ParseFault → Result PlainReply AllocError
+not_read_by (Rule place rule) = Ok (NotRead place rule)
+not_read_by NoMemory = Err alloc_error
 
 -- What a command comes to whose program ended so, unless memory ran out.
 abbrev pub told : Result Reply Stop → Result PlainReply AllocError
@@ -45,7 +52,8 @@ got (Err ended) = Err ended
 
 -- The reply tells the outcome of a command, and these objects and this budget are those that it
 -- leaves.
-pub record Tells (outcome : Outcome MadeBlock Reply) (reply : PlainReply) (after : Seen) : Type 0 where
+pub record Tells (outcome : Outcome MadeBlock Reply) (reply : PlainReply) (after : Seen)
+    : Type 0 where
   pub told_by : reply ≡ shown (reply_of outcome.end)
   pub world : outcome.state.world ≡ after.world
   pub budget : outcome.state.budget ≡ after.budget

@@ -8,10 +8,10 @@ ghost use Rattle.st_plain.specs.Commands.{command_of};
 
 use crate::border::{install, print};
 use crate::chunk::eval_chunk;
-use crate::reply::{Reply, reply_to_chunk, reply_to_method};
+use crate::reply::{Reply, reply_to_chunk, reply_to_fault, reply_to_method};
 use running_objects::{Objects, Stop};
 use st_locals::Locals;
-use st_parser::{ParseFault, parse_chunk, parse_method};
+use st_parser::{parse_chunk, parse_method};
 use st_tree::Tree;
 use std::alloc::{AllocError, Global};
 use texts::Text;
@@ -81,8 +81,7 @@ pub fn run_text<O: Objects>(
     }
     match parse_chunk(alloc, bytes) {
         Ok(tree) => run_read_chunk(alloc, objects, prints, &tree),
-        Err(ParseFault::Rule { at, rule }) => Ok(Reply::NotRead { at, rule }),
-        Err(ParseFault::NoMemory) => Err(AllocError),
+        Err(fault) => reply_to_fault(fault),
     }
 }
 
@@ -107,8 +106,7 @@ pub fn install_source<O: Objects>(
     }
     match parse_method(alloc, bytes) {
         Ok(tree) => install_read_method(alloc, objects, class_side, class, source, &tree),
-        Err(ParseFault::Rule { at, rule }) => Ok(Reply::NotRead { at, rule }),
-        Err(ParseFault::NoMemory) => Err(AllocError),
+        Err(fault) => reply_to_fault(fault),
     }
 }
 

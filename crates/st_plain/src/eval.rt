@@ -3,6 +3,7 @@
 //! Each function says of which program it does what, from the objects and the variables at hand.
 //! `depth` is how many activations more may begin.
 #![tactic(auto, using(crate::proofs::Runs::runs))]
+
 ghost use Rattle.std.specs.Prelude.{◌≤◌, ◌+◌, ◌^◌, ◌∷◌, [], false, None, length};
 ghost use Rattle.st_tree.specs.Trees.{sends, expressions, statements};
 ghost use Rattle.st_tree.specs.Falls.{size_head, size_closure, size_expression, size_send, size_statement, size_statements, size_sends, size_expressions, size_program};
@@ -60,8 +61,27 @@ fn eval_expression<O: Objects>(
         (O.seen objects.old) locals.old result (O.seen objects.new) locals.new }
 {
     let when = first_loop(&expression.head, &expression.messages, &expression.cascade);
-    let answer = eval_whole(alloc, objects, locals, place, frame, when, &expression.head, &expression.messages, &expression.cascade, depth)?;
-    assign_all(objects, locals, place, frame, &expression.assigns, answer, depth)
+    let answer = eval_whole(
+        alloc,
+        objects,
+        locals,
+        place,
+        frame,
+        when,
+        &expression.head,
+        &expression.messages,
+        &expression.cascade,
+        depth,
+    )?;
+    assign_all(
+        objects,
+        locals,
+        place,
+        frame,
+        &expression.assigns,
+        answer,
+        depth,
+    )
 }
 
 // What begins an expression, and its messages. Where the first message is a loop, what begins
@@ -89,13 +109,28 @@ fn eval_whole<O: Objects>(
 {
     let Some(when) = when else {
         let receiver = eval_head(alloc, objects, locals, place, frame, head, depth)?;
-        return eval_chain(alloc, objects, locals, place, frame, messages, cascade, is_super_head(head), receiver, depth);
+        return eval_chain(
+            alloc,
+            objects,
+            locals,
+            place,
+            frame,
+            messages,
+            cascade,
+            is_super_head(head),
+            receiver,
+            depth,
+        );
     };
-    let value = eval_while(alloc, objects, locals, place, frame, when, head, messages, depth)?;
+    let value = eval_while(
+        alloc, objects, locals, place, frame, when, head, messages, depth,
+    )?;
     let Some((_, rest)) = messages.split_first() else {
         return Ok(value);
     };
-    eval_chain(alloc, objects, locals, place, frame, rest, cascade, false, value, depth)
+    eval_chain(
+        alloc, objects, locals, place, frame, rest, cascade, false, value, depth,
+    )
 }
 
 // What begins an expression.
@@ -118,7 +153,9 @@ fn eval_head<O: Objects>(
         Primary::Name(name) => name_value(objects, locals, place, frame, name, depth),
         Primary::Lit(literal) => constant_value(objects, locals, literal, depth),
         Primary::Block(block) => make_block(objects, locals, place, frame, block),
-        Primary::Paren(expression) => eval_expression(alloc, objects, locals, place, frame, expression, depth),
+        Primary::Paren(expression) => eval_expression(
+            alloc, objects, locals, place, frame, expression, depth,
+        ),
     }
 }
 
@@ -146,10 +183,16 @@ fn eval_chain<O: Objects>(
         return Ok(receiver);
     };
     let Some(_) = rest.split_first() else {
-        return eval_last(alloc, objects, locals, place, frame, message, cascade, to_super, &receiver, depth);
+        return eval_last(
+            alloc, objects, locals, place, frame, message, cascade, to_super, &receiver, depth,
+        );
     };
-    let answer = eval_by_form(alloc, objects, locals, place, frame, message, to_super, &receiver, depth)?;
-    eval_chain(alloc, objects, locals, place, frame, rest, cascade, false, answer, depth)
+    let answer = eval_by_form(
+        alloc, objects, locals, place, frame, message, to_super, &receiver, depth,
+    )?;
+    eval_chain(
+        alloc, objects, locals, place, frame, rest, cascade, false, answer, depth,
+    )
 }
 
 // The last message, which begins the cascade, where there is one.
@@ -173,10 +216,14 @@ fn eval_last<O: Objects>(
         (O.seen objects.old) locals.old result (O.seen objects.new) locals.new }
 {
     let Some(_) = cascade.split_first() else {
-        let answer = eval_by_form(alloc, objects, locals, place, frame, message, to_super, receiver, depth)?;
+        let answer = eval_by_form(
+            alloc, objects, locals, place, frame, message, to_super, receiver, depth,
+        )?;
         return Ok(answer);
     };
-    eval_cascade(alloc, objects, locals, place, frame, message, cascade, to_super, receiver, depth)
+    eval_cascade(
+        alloc, objects, locals, place, frame, message, cascade, to_super, receiver, depth,
+    )
 }
 
 // A message and those after the semicolons, all to one receiver; the last answer counts.
@@ -199,10 +246,16 @@ fn eval_cascade<O: Objects>(
         (O.seen objects.old) locals.old result (O.seen objects.new) locals.new }
 {
     let Some((next, more)) = rest.split_first() else {
-        return eval_as_sent(alloc, objects, locals, place, frame, message, to_super, receiver, depth);
+        return eval_as_sent(
+            alloc, objects, locals, place, frame, message, to_super, receiver, depth,
+        );
     };
-    let _ = eval_as_sent(alloc, objects, locals, place, frame, message, to_super, receiver, depth)?;
-    eval_cascade(alloc, objects, locals, place, frame, next, more, to_super, receiver, depth)
+    let _ = eval_as_sent(
+        alloc, objects, locals, place, frame, message, to_super, receiver, depth,
+    )?;
+    eval_cascade(
+        alloc, objects, locals, place, frame, next, more, to_super, receiver, depth,
+    )
 }
 
 // A message as one that is sent.
@@ -225,7 +278,19 @@ fn eval_as_sent<O: Objects>(
         (O.seen objects.old) locals.old result (O.seen objects.new) locals.new }
 {
     let values = Arguments::new(alloc);
-    eval_arguments(alloc, objects, locals, place, frame, &message.selector, &message.args, to_super, receiver, values, depth)
+    eval_arguments(
+        alloc,
+        objects,
+        locals,
+        place,
+        frame,
+        &message.selector,
+        &message.args,
+        to_super,
+        receiver,
+        values,
+        depth,
+    )
 }
 
 // A message by its special form, where it has one.
@@ -247,7 +312,19 @@ fn eval_by_form<O: Objects>(
         (O.seen objects.old) locals.old result (O.seen objects.new) locals.new }
 {
     let form = form_under(to_super, &message.selector, &message.args);
-    eval_form(alloc, objects, locals, place, frame, form, &message.selector, &message.args, to_super, receiver, depth)
+    eval_form(
+        alloc,
+        objects,
+        locals,
+        place,
+        frame,
+        form,
+        &message.selector,
+        &message.args,
+        to_super,
+        receiver,
+        depth,
+    )
 }
 
 // A message of this form.
@@ -275,14 +352,25 @@ fn eval_form<O: Objects>(
     match form {
         Form::Plain => {
             let values = Arguments::new(alloc);
-            eval_arguments(alloc, objects, locals, place, frame, selector, arguments, to_super, receiver, values, depth)
+            eval_arguments(
+                alloc, objects, locals, place, frame, selector, arguments, to_super, receiver,
+                values, depth,
+            )
         }
         Form::OneArm(when, otherwise) => {
-            eval_one_arm(alloc, objects, locals, place, frame, arguments, when, otherwise, receiver, depth)
+            eval_one_arm(
+                alloc, objects, locals, place, frame, arguments, when, otherwise, receiver, depth,
+            )
         }
-        Form::TwoArms(when) => eval_two_arms(alloc, objects, locals, place, frame, arguments, when, receiver, depth),
-        Form::Counting => eval_counting(alloc, objects, locals, place, frame, arguments, receiver, depth),
-        Form::Repeating => eval_repeating(alloc, objects, locals, place, frame, arguments, receiver, depth),
+        Form::TwoArms(when) => eval_two_arms(
+            alloc, objects, locals, place, frame, arguments, when, receiver, depth,
+        ),
+        Form::Counting => eval_counting(
+            alloc, objects, locals, place, frame, arguments, receiver, depth,
+        ),
+        Form::Repeating => eval_repeating(
+            alloc, objects, locals, place, frame, arguments, receiver, depth,
+        ),
     }
 }
 
@@ -308,7 +396,9 @@ fn eval_one_arm<O: Objects>(
 {
     take_unit(objects, locals)?;
     match (truth_of(receiver), when) {
-        (Truth::True, true) | (Truth::False, false) => eval_first_block(alloc, objects, locals, place, frame, arguments, None, depth),
+        (Truth::True, true) | (Truth::False, false) => eval_first_block(
+            alloc, objects, locals, place, frame, arguments, None, depth,
+        ),
         (Truth::True, false) | (Truth::False, true) => Ok(singleton_value(otherwise)),
         (Truth::Neither, _) => Err(Stop::Fails(Fault::NotBoolean)),
     }
@@ -337,8 +427,12 @@ fn eval_two_arms<O: Objects>(
 {
     take_unit(objects, locals)?;
     match (truth_of(receiver), when) {
-        (Truth::True, true) | (Truth::False, false) => eval_first_block(alloc, objects, locals, place, frame, arguments, None, depth),
-        (Truth::True, false) | (Truth::False, true) => eval_second_block(alloc, objects, locals, place, frame, arguments, depth),
+        (Truth::True, true) | (Truth::False, false) => eval_first_block(
+            alloc, objects, locals, place, frame, arguments, None, depth,
+        ),
+        (Truth::True, false) | (Truth::False, true) => eval_second_block(
+            alloc, objects, locals, place, frame, arguments, depth,
+        ),
         (Truth::Neither, _) => Err(Stop::Fails(Fault::NotBoolean)),
     }
 }
@@ -385,7 +479,16 @@ fn eval_first_block<O: Objects>(
     let Some((first, _)) = arguments.split_first() else {
         return Ok(Value::Nil);
     };
-    eval_in_place(alloc, objects, locals, place, frame, &first.head, handed, depth)
+    eval_in_place(
+        alloc,
+        objects,
+        locals,
+        place,
+        frame,
+        &first.head,
+        handed,
+        depth,
+    )
 }
 
 // The second argument as a block in its place.
@@ -427,7 +530,9 @@ fn eval_in_place<O: Objects>(
         (O.seen objects.old) locals.old result (O.seen objects.new) locals.new }
 {
     match head {
-        Primary::Block(block) => eval_block(alloc, objects, locals, place, frame, block, handed, depth),
+        Primary::Block(block) => eval_block(
+            alloc, objects, locals, place, frame, block, handed, depth,
+        ),
         Primary::Name(_) => Ok(Value::Nil),
         Primary::Lit(_) => Ok(Value::Nil),
         Primary::Paren(_) => Ok(Value::Nil),
@@ -459,7 +564,9 @@ fn eval_block<O: Objects>(
     let mark = locals.mark();
     locals.open_scope(nil_values(alloc, variables)?)?;
     let inner = frame.with_scope(mark)?;
-    let answer = eval_body(alloc, objects, locals, &inside, &inner, block, handed, depth)?;
+    let answer = eval_body(
+        alloc, objects, locals, &inside, &inner, block, handed, depth,
+    )?;
     locals.give_back(mark);
     Ok(answer)
 }
@@ -573,7 +680,9 @@ fn eval_while<O: Objects>(
         (O.seen objects.old) locals.old result (O.seen objects.new) locals.new }
 {
     take_unit(objects, locals)?;
-    eval_turns(alloc, objects, locals, place, frame, when, head, messages, depth)
+    eval_turns(
+        alloc, objects, locals, place, frame, when, head, messages, depth,
+    )
 }
 
 // The turns of a while loop: each takes a unit before its body.
@@ -624,7 +733,16 @@ fn eval_loop_body<O: Objects>(
     let Some((first, _)) = messages.split_first() else {
         return Ok(Value::Nil);
     };
-    eval_first_block(alloc, objects, locals, place, frame, &first.args, None, depth)
+    eval_first_block(
+        alloc,
+        objects,
+        locals,
+        place,
+        frame,
+        &first.args,
+        None,
+        depth,
+    )
 }
 
 // `to:do:`: the limit, a unit, and the turns.
@@ -640,7 +758,7 @@ fn eval_counting<O: Objects>(
     depth: u32,
 ) -> Result<Value, Stop>
     requires { size_expressions (expressions arguments.now) ≤ 2 ^ 40 }
-    ensures { Ran (message (outside depth) Form.Counting [] 
+    ensures { Ran (message (outside depth) Form.Counting []
         (arguments_of (outside depth) (expressions arguments.now)) false receiver.now place.now frame.now)
         (O.seen objects.old) locals.old result (O.seen objects.new) locals.new }
 {
@@ -648,9 +766,13 @@ fn eval_counting<O: Objects>(
     take_unit(objects, locals)?;
     let pair = int_pair(receiver, &limit);
     let Some((_, rest)) = arguments.split_first() else {
-        return eval_counts(alloc, objects, locals, place, frame, pair, arguments, true, receiver, depth);
+        return eval_counts(
+            alloc, objects, locals, place, frame, pair, arguments, true, receiver, depth,
+        );
     };
-    eval_counts(alloc, objects, locals, place, frame, pair, rest, true, receiver, depth)
+    eval_counts(
+        alloc, objects, locals, place, frame, pair, rest, true, receiver, depth,
+    )
 }
 
 // `timesRepeat:`: a unit, and the turns from 1 on.
@@ -672,7 +794,9 @@ fn eval_repeating<O: Objects>(
 {
     take_unit(objects, locals)?;
     let pair = int_pair(&Value::Int(1), receiver);
-    eval_counts(alloc, objects, locals, place, frame, pair, arguments, false, receiver, depth)
+    eval_counts(
+        alloc, objects, locals, place, frame, pair, arguments, false, receiver, depth,
+    )
 }
 
 // A counting loop between two values: E5 unless both are integers.
@@ -696,7 +820,9 @@ fn eval_counts<O: Objects>(
         (O.seen objects.old) locals.old result (O.seen objects.new) locals.new }
 {
     match pair {
-        Pair::Ints(number, limit) => eval_count(alloc, objects, locals, place, frame, number, limit, arguments, hands, answer, depth),
+        Pair::Ints(number, limit) => eval_count(
+            alloc, objects, locals, place, frame, number, limit, arguments, hands, answer, depth,
+        ),
         Pair::Others => Err(Stop::Fails(Fault::ArgumentKind)),
     }
 }
@@ -725,7 +851,16 @@ fn eval_count<O: Objects>(
     let mut at = number;
     while at <= limit {
         take_unit(objects, locals)?;
-        let _ = eval_first_block(alloc, objects, locals, place, frame, arguments, handed(hands, at), depth)?;
+        let _ = eval_first_block(
+            alloc,
+            objects,
+            locals,
+            place,
+            frame,
+            arguments,
+            handed(hands, at),
+            depth,
+        )?;
         if at >= LARGEST_INTEGER {
             return Ok(answer.clone()?);
         }
@@ -756,11 +891,15 @@ fn eval_arguments<O: Objects>(
         (O.seen objects.old) locals.old result (O.seen objects.new) locals.new }
 {
     let Some((first, rest)) = arguments.split_first() else {
-        return send(alloc, objects, locals, frame, to_super, selector, receiver, values, depth);
+        return send(
+            alloc, objects, locals, frame, to_super, selector, receiver, values, depth,
+        );
     };
     let answer = eval_expression(alloc, objects, locals, place, frame, first, depth)?;
     values.push(answer)?;
-    eval_arguments(alloc, objects, locals, place, frame, selector, rest, to_super, receiver, values, depth)
+    eval_arguments(
+        alloc, objects, locals, place, frame, selector, rest, to_super, receiver, values, depth,
+    )
 }
 
 // A send: a unit, the look-up, and the method.
@@ -782,7 +921,16 @@ fn send<O: Objects>(
 {
     take_unit(objects, locals)?;
     let found = find_method(objects, locals, to_super, frame, receiver, selector)?;
-    call_found(alloc, objects, locals, selector, found, receiver, values.in_order(), depth)
+    call_found(
+        alloc,
+        objects,
+        locals,
+        selector,
+        found,
+        receiver,
+        values.in_order(),
+        depth,
+    )
 }
 
 // The method that was found is called: E1 where none was.
@@ -801,7 +949,9 @@ fn call_found<O: Objects>(
         (O.seen objects.old) locals.old result (O.seen objects.new) locals.new }
 {
     match found {
-        Some(found) => call_code(alloc, objects, locals, selector, &found, receiver, arguments, depth),
+        Some(found) => call_code(
+            alloc, objects, locals, selector, &found, receiver, arguments, depth,
+        ),
         None => Err(Stop::Fails(Fault::NotUnderstood(selector.clone()?))),
     }
 }
@@ -827,7 +977,9 @@ fn call_code<O: Objects>(
             call_primitive(alloc, objects, locals, answer, depth)
         }
         MethodCode::Source(source) => {
-            call_source(alloc, objects, locals, selector, found, source, receiver, arguments, depth)
+            call_source(
+                alloc, objects, locals, selector, found, source, receiver, arguments, depth,
+            )
         }
     }
 }
@@ -847,7 +999,14 @@ fn call_primitive<O: Objects>(
     match answer {
         PrimitiveAnswer::Gives(value) => Ok(value),
         PrimitiveAnswer::Evaluates(block, arguments) => {
-            call_block(alloc, objects, locals, block.number, arguments.into_items(), depth)
+            call_block(
+                alloc,
+                objects,
+                locals,
+                block.number,
+                arguments.into_items(),
+                depth,
+            )
         }
     }
 }
@@ -870,7 +1029,17 @@ fn call_source<O: Objects>(
         (O.seen objects.old) locals.old result (O.seen objects.new) locals.new }
 {
     match method_tree(alloc, source)? {
-        Some(tree) => call_method(alloc, objects, locals, &tree, found.holder, found.class_side, receiver, arguments, depth),
+        Some(tree) => call_method(
+            alloc,
+            objects,
+            locals,
+            &tree,
+            found.holder,
+            found.class_side,
+            receiver,
+            arguments,
+            depth,
+        ),
         None => Err(Stop::Fails(Fault::NotUnderstood(selector.clone()?))),
     }
 }
@@ -895,7 +1064,17 @@ fn call_method<O: Objects>(
     if depth == 0 {
         return Err(Stop::Fails(Fault::Depth));
     }
-    activate(alloc, objects, locals, tree, holder, class_side, receiver, arguments, depth - 1)
+    activate(
+        alloc,
+        objects,
+        locals,
+        tree,
+        holder,
+        class_side,
+        receiver,
+        arguments,
+        depth - 1,
+    )
 }
 
 // The activation of a method, in which so many more may begin.

@@ -1,9 +1,10 @@
 //! What commands come to.
 ghost use Rattle.std.specs.Prelude.{◌≡◌};
-ghost use Rattle.st_plain.specs.Replies.{told, said, got};
+ghost use Rattle.st_plain.specs.Replies.{not_read_by, told, said, got};
 
 use object_programs::Fault;
 use running_objects::Stop;
+use st_parser::ParseFault;
 use std::alloc::AllocError;
 use texts::Text;
 
@@ -25,6 +26,16 @@ pub enum Reply {
     Printed(Text),
     /// The class has the method with this selector.
     Installed(Text),
+}
+
+/// The reply to a text without a tree.
+pub(crate) fn reply_to_fault(fault: ParseFault) -> Result<Reply, AllocError>
+    ensures { result ≡ not_read_by fault }
+{
+    match fault {
+        ParseFault::Rule { at, rule } => Ok(Reply::NotRead { at, rule }),
+        ParseFault::NoMemory => Err(AllocError),
+    }
 }
 
 /// The reply to a chunk that ended so, with what is printed of its value.
