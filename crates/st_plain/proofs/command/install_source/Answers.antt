@@ -1,8 +1,0 @@
-use Rattle.st_plain.proofs.Replies.{method_read, method_not_read}
-use Rattle.st_plain.proofs.command.install_source.Goals as goal
-
-pub returns-in-Ok : goal.returns-in-Ok
-returns-in-Ok g c = method_read _ _ _ _ _ c.bytes-bytes.ensures c.in-Ok.ensures.tree c.install_read_method.ensures
-
-pub returns-in-Err : goal.returns-in-Err
-returns-in-Err g c = method_not_read _ _ _ _ _ _ c.bytes-bytes.ensures c.in-Err.ensures.fault c.reply_to_fault.ensures
