@@ -5,3 +5,9 @@ pub mod Names
 pub mod Places
 pub mod Segments
 pub mod Keys
+pub mod Sound
+pub mod KeyPuts
+mod Shared
+mod Rooms
+mod Notes
+pub mod Bytes

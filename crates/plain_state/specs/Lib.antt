@@ -1,4 +1,7 @@
 pub mod Classes
 pub mod Edit
+pub mod Keys
 pub mod Overlay
 pub mod Parts
+pub mod State
+pub mod Updates

@@ -6,7 +6,14 @@ mod calls;
 mod classes;
 mod edit;
 mod edits;
+pub mod laws;
 mod moves;
 mod overlay;
+mod pairs;
 mod parts;
+mod puts;
 mod spelled;
+mod state;
+mod updates;
+
+pub use state::PlainState;

@@ -1,12 +1,16 @@
 //! What a transaction has changed.
-ghost use Rattle.std.specs.Prelude.{◌≡◌, option_map, option_copied, is_some, OnOk, OnErr};
+ghost use Rattle.std.specs.Prelude.{◌≡◌, option_map, option_copied, is_some, IfOk, OnOk, OnErr};
 ghost use Rattle.std.specs.FinMap as map;
 ghost use Rattle.gem_image.specs.Image.{contents_of};
 ghost use Rattle.plain_state.specs.Edit.{edited_by};
+ghost use Rattle.object_programs.specs.Guard.{holds_of};
 ghost use Rattle.plain_state.specs.Overlay.{changed};
+ghost use Rattle.plain_state.specs.Updates.{takes, with_update};
 
 use crate::edit::Edit;
+use crate::updates::take_update;
 use gem_object::Object;
+use gem_update::Update;
 use indexmap::IndexMap;
 use std::alloc::{AllocError, Global};
 use std::marker::Model;
@@ -84,5 +88,22 @@ impl Overlay {
             return Ok(());
         };
         edit.apply(object)
+    }
+
+    /// Updates the object of this name, if there is one; whether it took the update.
+    ///
+    /// # Errors
+    ///
+    /// `AllocError` where memory ran out. All is as before.
+    pub(crate) fn update(&mut self, number: u64, update: Update) -> Result<bool, AllocError>
+        ensures taken { IfOk result (λ taken.
+            taken ≡ holds_of (takes update) (map.get self.old number)) }
+        ensures updated { OnOk result (self.new ≡ changed number (with_update update) self.old) }
+        ensures unchanged { OnErr result (self.new ≡ self.old) }
+    {
+        let Some(object) = self.entries.get_mut(&number) else {
+            return Ok(false);
+        };
+        take_update(object, update)
     }
 }
