@@ -227,8 +227,10 @@ pub both_missed : (x : Seen) (one other : Value)
 both_missed x one other =
     let begun : World = record x.world { touched = value_missing (fixed_by x.setting x.world) x.world.touched one } in
     let next : Seen = missed_value one x in
-    let At : World → Type 0 = λ world. record x.world { touched =
-    value_missing (fixed_by x.setting x.world) (value_missing (fixed_by x.setting x.world) x.world.touched one) other }
+    let At : World → Type 0 = λ world. record x.world {
+      touched =
+          value_missing (fixed_by x.setting x.world) (value_missing (fixed_by x.setting x.world) x.world.touched one) other;
+    }
     ≡ record world { touched = value_missing (fixed_by x.setting world) world.touched other } in
     subst At (value_missed x one) refl
     ∙ ap (λ setting. record next.world { touched = value_missing (fixed_by setting next.world) next.world.touched other })

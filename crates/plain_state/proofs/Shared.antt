@@ -1,5 +1,5 @@
 -- A reduced-conflict object with an update: whether it may stand, and what it lacks where it may not.
-use Rattle.std.proofs.Common.{◌≡◌, ◌==◌, ◌∙◌, refl, sym, ap, ap₂, subst, ℕ, ℤ, suc, ◌+◌, ◌<◌, ◌≤◌, ◌^◌, Bool, true, false, ◌&&◌, ◌||◌, cond, nat_lt, IsTrue, Option, Some, None, List, [], ◌∷◌, ◌++◌, map, length, fold, is_some, option_map, Ordering, arith}
+use Rattle.std.proofs.Common.{◌≡◌, ◌==◌, ◌∙◌, refl, sym, ap, ap₂, subst, ℕ, ℤ, ◌+ℤ◌, suc, ◌+◌, ◌<◌, ◌≤◌, ◌^◌, Bool, true, false, ◌&&◌, ◌||◌, cond, nat_lt, IsTrue, Option, Some, None, List, [], ◌∷◌, ◌++◌, map, length, fold, is_some, option_map, Ordering, arith}
 use Rattle.std.proofs.Math.Path.{fun_ext}
 use Rattle.std.proofs.lemmas.Bool.{false≢true, true≢false, and_parts, and_from, ltb-true, lt-ltb}
 use Rattle.std.proofs.lemmas.List.{length-append}
@@ -690,8 +690,9 @@ module _ (stays : SpellingStays) (setting : Setting) (world : World) (name : ℕ
       → may_replace name old (with_body after old) setting world ≡ may_update (fixed_by setting world) update one
   fits_by (change.Counter by) (body.Counter counter) after is done =
       let found = accepted body.Counter (option_map (λ (v : ℤ). record { value = v }) (counters.updated by counter.value)) (record {}) after done in
+      let number : ℤ = counter.value +ℤ by in
       replaced_as (body.Counter found.0) after true found.2
-      (counter_fit counter found.0 is (in_range _ (is_small_integer _) found.0 refl found.1))
+      (counter_fit counter found.0 is (in_range number (is_small_integer number) found.0 refl found.1))
   fits_by (change.Bag (bag.Add item)) (body.Bag pairs) after is done =
       replaced_as (body.Bag (bags.with_one_more value_order item pairs)) after _ (same_Some _ after done) (bag_add_fit item pairs is)
   fits_by (change.Bag (bag.Remove item)) (body.Bag pairs) after is done =
