@@ -1,9 +1,8 @@
 -- A dictionary with a value at a key.
-use Rattle.std.proofs.Common.{◌≡◌, ◌∙◌, refl, sym, ap, ap₂, subst, ℕ, suc, ◌+◌, ◌<◌, Bool, true, false, ◌&&◌, ◌||◌, not, cond, Option, Some, None, List, [], ◌∷◌, ◌++◌, length, fold, is_some, Ok, Err, arith}
-use Rattle.std.proofs.lemmas.Bool.{false≢true, true≢false, and_parts, and_from, ltb-true, lt-ltb}
+use Rattle.std.proofs.Common.{◌≡◌, ◌∙◌, refl, sym, ap, ap₂, subst, ℕ, suc, ◌+◌, Bool, true, false, ◌&&◌, ◌||◌, not, cond, Option, Some, None, List, [], ◌∷◌, ◌++◌, length, fold, is_some, Ok, Err, arith}
+use Rattle.std.proofs.lemmas.Bool.{false≢true, true≢false, and_parts, and_from}
 use Rattle.std.proofs.lemmas.List.Sums.{fold-append}
 use Rattle.std.specs.List.{list_all, list_any}
-use Rattle.std.specs.Ordering.{is_eq}
 use Rattle.std.specs.Cmp.{Equal-is}
 use Rattle.std.specs.FinMap.{get}
 use Rattle.insertion_map.specs.Pairs.{entry_of, with_pair}
@@ -22,14 +21,14 @@ use Rattle.object_programs.specs.Fixed.{class_part, fixed_of, fixed_by}
 use Rattle.object_programs.specs.Guard.{Parts, holds_of, is_known, asked_names, line_of_class, line_at, may_replace}
 use Rattle.object_programs.specs.Atom.{Put, with_missing, touch_missing}
 use Rattle.object_programs.specs.Laws.{lacking}
-use Rattle.object_programs.specs.Spelled.{is_storable, is_storable_pair, is_nil, keys_differ, is_dictionary_body}
+use Rattle.object_programs.specs.Spelled.{is_storable, is_storable_pair, is_nil, keys_differ}
 use Rattle.running_objects.specs.Seen.{Seen, IsSoundState}
 use Rattle.running_objects.specs.Acted.{Edited}
-use Rattle.running_objects.specs.Fitting.{is_known_value, may_enter, can_count}
+use Rattle.running_objects.specs.Fitting.{is_known_value, can_count}
 use Rattle.running_objects.proofs.Edits.{parts_stay, pairs_fit, old_pairs}
 use Rattle.running_objects.proofs.Puts.{none_missing, known_refs, rest_known, edit_of_same}
 use Rattle.plain_state.specs.Classes.{has_pairs}
-use Rattle.plain_state.specs.Keys.{has_room_for, may_put}
+use Rattle.plain_state.specs.Keys.{may_put}
 use Rattle.running_objects.specs.declared.stop.Stop.TheVariants as stop
 use Rattle.running_objects.proofs.Running.{acted_nothing}
 use Rattle.plain_state.specs.Parts.{missed_value, edited_in, SameObjects}

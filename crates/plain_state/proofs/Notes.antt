@@ -16,7 +16,7 @@ use Rattle.gem_world.specs.World.{World, before_changes, is_made}
 use Rattle.gem_world.specs.Changes.{with_body, put, note}
 use Rattle.object_programs.specs.Budget.{Budget}
 use Rattle.object_programs.specs.Fixed.{fixed_by}
-use Rattle.object_programs.specs.Guard.{holds_of, may_replace}
+use Rattle.object_programs.specs.Guard.{holds_of}
 use Rattle.object_programs.specs.Atom.{Note, replaced_where, updated_by, updated_at, updated_where, after_update}
 use Rattle.gem_world.specs.World.{Setting}
 use Rattle.gem_world.specs.Access.{a_write, is_allowed, with_touches}

@@ -2,7 +2,6 @@
 use Rattle.std.proofs.Common.{◌≡◌, ◌∙◌, rules, refl, sym, ap, subst, ℕ, zero, suc, ◌+◌, Bool, true, false, nat_lt, nat_le, List, [], ◌∷◌, length, Ordering, arith}
 use Rattle.std.proofs.Math.Path.{fun_ext}
 use Rattle.std.proofs.lemmas.Bool.{ltb-true, ltb-false, le-leb, lt-leb, le-ltb, lt-ltb}
-use Rattle.std.specs.Ordering.{is_eq}
 use Rattle.sorted_pairs.specs.Place.{StandsAt, FitsAt}
 use Rattle.gem_object.specs.Order.{value_order}
 use Rattle.gem_object.specs.contracts.value.ValueOrd.TheImpl as order

@@ -1,6 +1,5 @@
 -- A reduced-conflict object with an update: whether it may stand, and what it lacks where it may not.
-use Rattle.std.proofs.Common.{◌≡◌, ◌==◌, ◌∙◌, refl, sym, ap, ap₂, subst, ℕ, ℤ, ◌+ℤ◌, suc, ◌+◌, ◌<◌, ◌≤◌, ◌^◌, Bool, true, false, ◌&&◌, ◌||◌, cond, nat_lt, IsTrue, Option, Some, None, List, [], ◌∷◌, ◌++◌, map, length, fold, is_some, option_map, Ordering, arith}
-use Rattle.std.proofs.Math.Path.{fun_ext}
+use Rattle.std.proofs.Common.{◌≡◌, ◌==◌, ◌∙◌, refl, sym, ap, ap₂, subst, ℕ, ℤ, ◌+ℤ◌, suc, ◌+◌, ◌<◌, ◌≤◌, ◌^◌, Bool, true, false, ◌&&◌, ◌||◌, cond, nat_lt, Option, Some, None, List, [], ◌∷◌, ◌++◌, map, length, fold, is_some, option_map, Ordering, arith}
 use Rattle.std.proofs.lemmas.Bool.{false≢true, true≢false, and_parts, and_from, ltb-true, lt-ltb}
 use Rattle.std.proofs.lemmas.List.{length-append}
 use Rattle.std.proofs.lemmas.List.Folds.{list_all-append}
@@ -27,7 +26,6 @@ use Rattle.gem_object.proofs.Ties.{ties}
 use Rattle.rc_counter_bag.specs.Bag as bags
 use Rattle.rc_counter_bag.specs.Counter as counters
 use Rattle.rc_counter_bag.specs.declared.counter.Counter.{Counter}
-use Rattle.rc_counter_bag.specs.declared.counter.CounterRange.{CounterRange}
 use Rattle.rc_counter_bag.specs.declared.update.BagUpdate.TheVariants as bag
 use Rattle.rc_counter_bag.specs.declared.update.BagFault.TheVariants as bag_fault
 use Rattle.rc_counter_bag.proofs.Kept.{kept_first}
@@ -55,10 +53,10 @@ use Rattle.object_programs.specs.Laws.{AreSound, lacking}
 use Rattle.object_programs.specs.Spelled.{is_storable, is_storable_pair, is_spelled}
 use Rattle.object_programs.proofs.Spells.{tells_spelled}
 use Rattle.running_objects.specs.Seen.{Seen, IsSoundState}
-use Rattle.running_objects.specs.Fitting.{is_known_value, may_enter, can_count}
+use Rattle.running_objects.specs.Fitting.{is_known_value, can_count}
 use Rattle.running_objects.proofs.Edits.{all_known, replace_is, body_fits, old_known, old_rest}
 use Rattle.running_objects.proofs.Puts.{none_missing}
-use Rattle.plain_state.specs.Updates.{new_values, has_key, has_room, may_update, missed_update}
+use Rattle.plain_state.specs.Updates.{may_update, missed_update}
 use Rattle.plain_state.proofs.Slots.{value_missing, refs_of_one, values_missing, around_missing, value_missed}
 use Rattle.plain_state.proofs.Keys.{pair_known, pairs_known}
 use Rattle.plain_state.proofs.KeyPuts.{last_true, pair_missing, body_lacks, both_missed}

@@ -1,5 +1,5 @@
 -- Sound objects stay sound at every call of the parts of a state.
-use Rattle.std.proofs.Common.{◌≡◌, refl, ℕ, true, false, map, List, Option, Some, None, is_some, Result}
+use Rattle.std.proofs.Common.{◌≡◌, refl, ℕ, true, map, List, Option, Some, None, is_some, Result}
 use Rattle.std.proofs.lemmas.Bool.{false≢true}
 use Rattle.gem_object.specs.declared.body.Body.{Body}
 use Rattle.gem_object.specs.declared.object.Object.{Object}

@@ -16,7 +16,6 @@ use Rattle.gem_update.specs.Update.{updated}
 use Rattle.gem_update.specs.declared.update.Update.{Update}
 use Rattle.gem_update.specs.declared.update.Update.TheVariants.{Bag, RcDict, Queue}
 use Rattle.gem_image.specs.Image.{Contents}
-use Rattle.gem_world.specs.World.{World}
 use Rattle.gem_world.specs.Changes.{with_body, put}
 use Rattle.object_programs.specs.Guard.{Parts, holds_of}
 use Rattle.object_programs.specs.Atom.{updated_at}

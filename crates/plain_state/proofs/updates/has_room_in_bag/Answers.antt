@@ -1,4 +1,3 @@
-use Rattle.std.proofs.Common.{ap, length}
 use Rattle.plain_state.proofs.Rooms.{bag_there, bag_apart}
 use Rattle.plain_state.proofs.updates.has_room_in_bag.Goals as goal
 
