@@ -9,4 +9,4 @@ mod edits;
 mod moves;
 mod overlay;
 mod parts;
-mod spelled;
+mod puts;
