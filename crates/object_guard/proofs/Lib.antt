@@ -3,7 +3,6 @@ pub mod Keys
 pub mod Pieces
 pub mod Beside
 pub mod Names
-pub mod Few
 pub mod Lines
 pub mod Costs
 pub mod Rows

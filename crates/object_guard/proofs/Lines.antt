@@ -1,11 +1,10 @@
 -- Which name is missing on the way up from a class.
-use Rattle.std.proofs.Common.{◌≡◌, ◌∙◌, refl, sym, ap, ℕ, suc, ◌-◌, ◌<◌, ◌^◌, ◌++◌, Bool, true, false, cond, Option, Some, None, List, [], ◌∷◌, map, append_assoc, arith}
+use Rattle.std.proofs.Common.{◌≡◌, ◌∙◌, refl, sym, ap, ℕ, suc, ◌-◌, ◌<◌, ◌^◌, ◌++◌, Bool, true, false, cond, Option, Some, None, List, [], ◌∷◌, map, arith}
 use Rattle.std.specs.List.{flat_map}
 use Rattle.std.proofs.lemmas.List.Elements.{filter-append}
 use Rattle.gem_object.specs.declared.object.Object.{Object}
 use Rattle.gem_image.specs.Image.{contents_of}
-use Rattle.gem_sound.specs.Sound.{names_in}
-use Rattle.object_programs.specs.Fixed.{ClassPart, class_part, Fixed}
+use Rattle.object_programs.specs.Fixed.{ClassPart, Fixed}
 use Rattle.object_programs.specs.Guard.{Parts, line_above, line_of_class, line_of_part, line_within, line_at, asked_names}
 use Rattle.object_programs.specs.Atom.{asked_by_all}
 use Rattle.object_programs.specs.Programs.{part_of}
@@ -95,11 +94,6 @@ pub ends_out : (parts : Parts) (limit name : ℕ) (whole : List ℕ) → limit �
 unfolding line_up
 ends_out parts limit name whole zero so_far = sym (ap (λ (n : ℕ). missing_of parts (line_within parts n name)) zero) ∙ so_far
 
--- above what isn't a class there is no line
-pub line_is : (part : Option ClassPart) (more : ℕ → List ℕ) → line_of_class part more ≡ line_above (superclass_of part) more
-line_is None more = refl
-line_is (Some part) more = refl
-
 -- ---- the names that objects ask for
 
 -- the names that an object asks for and that are missing
@@ -111,14 +105,3 @@ pub missing_all : (parts : Parts) (objects : List Object)
 missing_all parts [] = refl
 missing_all parts (object ∷ rest) = ap (λ names. missing_for parts object ++ names) (missing_all parts rest)
     ∙ sym (filter-append (is_missing parts) (asked_names parts (contents_of object)) (asked_by_all parts (map contents_of rest)))
-
--- what an object asks for comes in three parts
-pub missing_parts : (parts : Parts) (object : Object) (before names above over : List ℕ)
-    → names ≡ missing_of parts (names_in (contents_of object)) → above ≡ missing_of parts (line_at parts object.class)
-    → over ≡ missing_of parts (line_of_class (class_part object.body) (line_at parts))
-    → ((before ++ names) ++ above) ++ over ≡ before ++ missing_for parts object
-missing_parts parts object before names above over one two three = rw (one, two, three)
-    (append_assoc (before ++ missing_of parts (names_in (contents_of object))) _ _
-    ∙ append_assoc before (missing_of parts (names_in (contents_of object))) _
-    ∙ ap (λ rest. before ++ rest) (sym (filter-append (is_missing parts) (names_in (contents_of object)) _
-    ∙ ap (λ rest. missing_of parts (names_in (contents_of object)) ++ rest) (filter-append (is_missing parts) (line_at parts object.class) _))))

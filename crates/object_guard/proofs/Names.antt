@@ -31,14 +31,14 @@ module _ (parts : Parts) where
   one_less limit some = omega (arith, some)
 
   -- names that inherit those of a class above it
-  pub room_over : (slots : ℕ) (names : List Text) (found : Option (List Text)) → length names ≤ slots
+  room_over : (slots : ℕ) (names : List Text) (found : Option (List Text)) → length names ≤ slots
       → holds_of (has_room slots) (option_map (λ inherited. inherited ++ names) found)
       ≡ holds_of (has_room (slots - length names)) found
   room_over slots names None few = refl
   room_over slots names (Some inherited) few = ap (λ (n : ℕ). nat_le n slots) (length-append inherited names)
       ∙ same_room (length inherited) (length names) slots few
 
-  pub no_room : (slots : ℕ) (names : List Text) (found : Option (List Text)) → slots < length names
+  no_room : (slots : ℕ) (names : List Text) (found : Option (List Text)) → slots < length names
       → holds_of (has_room slots) (option_map (λ inherited. inherited ++ names) found) ≡ false
   no_room slots names None many = refl
   no_room slots names (Some inherited) many = lt-leb (length (inherited ++ names)) slots

@@ -1,12 +1,11 @@
 -- What the guard asks of an object, taken apart as its test goes.
-use Rattle.std.proofs.Common.{◌≡◌, ◌∙◌, refl, sym, ap, ap₂, ℕ, ◌^◌, ◌<◌, Bool, true, false, ◌&&◌, nat_lt, Option, Some, None, List, [], ◌∷◌, ◌+◌, map}
+use Rattle.std.proofs.Common.{◌≡◌, ◌∙◌, refl, sym, ap, ap₂, ℕ, ◌^◌, ◌<◌, Bool, true, false, ◌&&◌, nat_lt, List, [], ◌∷◌, ◌+◌, map}
 use Rattle.std.specs.List.{list_all}
 use Rattle.std.proofs.lemmas.Bool.{and_parts, ltb-true}
 use Rattle.std.proofs.lemmas.List.Folds.{list_all-append}
 use Rattle.texts.specs.Bytes.{Bytes as Text}
 use Rattle.seg_rights.specs.declared.rights.Rights.{Rights}
 use Rattle.gem_object.specs.References.{names_in, names_in_pairs, names_in_items}
-use Rattle.gem_object.specs.declared.kind.Kind.{Kind}
 use Rattle.gem_object.specs.declared.value.Value.{Value}
 use Rattle.gem_object.specs.declared.value.Value.TheVariants as value
 use Rattle.gem_object.specs.declared.body.Body.{Body}
@@ -14,9 +13,8 @@ use Rattle.gem_object.specs.declared.body.Body.TheVariants as body
 use Rattle.gem_object.specs.declared.object.Object.{Object}
 use Rattle.gem_image.specs.Image.{Contents, contents_of}
 use Rattle.gem_sound.specs.Sound.{names_in as names_in_object}
-use Rattle.object_programs.specs.Fixed.{ClassPart, class_part, Fixed, same_kind}
-use Rattle.object_programs.specs.Guard.{Parts, holds_of, is_known, is_segment_at, accepts_by, accepts, named_fit, kernel_fits, kind_is_inherited, place_fits, fits, all_fit}
-use Rattle.object_programs.specs.Programs.{part_of}
+use Rattle.object_programs.specs.Fixed.{class_part}
+use Rattle.object_programs.specs.Guard.{Parts, is_known, is_segment_at, accepts, named_fit, kernel_fits, place_fits, fits, all_fit}
 use Rattle.object_programs.specs.Methods.{methods_fit}
 use Rattle.object_programs.specs.Spelled.{is_oid, is_spelled}
 use Rattle.running_objects.specs.Fitting.{is_known_value}
@@ -53,26 +51,6 @@ fits_by parts name object methods = rw methods (ap (λ b. nat_lt 0 name && b)
     (moved (list_all (is_known parts) (names_in_object object)) (is_segment_at parts object.segment)
     (accepts parts object.class object.body) (named_fit parts object.body) (kernel_fits name object.body)
     (place_fits parts name (class_part object.body)) (is_spelled object.body)))
-
--- ---- by what of a class is fixed
-
-pub accepts_is : (parts : Parts) (class : ℕ) (body : Body) (part : Option ClassPart) → part_of (parts class) ≡ part
-    → accepts_by parts class body part ≡ accepts parts class body
-accepts_is parts class body part is = by (parts class) is
-  where
-    by : (found : Option Fixed) → part_of found ≡ part
-        → accepts_by parts class body part ≡ holds_of (λ fixed. accepts_by parts class body fixed.as_class) found
-    by None none = ap (accepts_by parts class body) (sym none)
-    by (Some fixed) some = ap (accepts_by parts class body) (sym some)
-
-pub inherited_is : (parts : Parts) (superclass : ℕ) (kind : Kind) (part : Option ClassPart) → part_of (parts superclass) ≡ part
-    → holds_of (λ above. same_kind above.kind kind) part ≡ kind_is_inherited parts (Some superclass) kind
-inherited_is parts superclass kind part is = by (parts superclass) is
-  where
-    by : (found : Option Fixed) → part_of found ≡ part → holds_of (λ above. same_kind above.kind kind) part
-        ≡ holds_of (λ fixed. holds_of (λ above. same_kind above.kind kind) fixed.as_class) found
-    by None none = ap (holds_of (λ (above : ClassPart). same_kind above.kind kind)) (sym none)
-    by (Some fixed) some = ap (holds_of (λ (above : ClassPart). same_kind above.kind kind)) (sym some)
 
 -- a segment's owner has a number of a name
 pub owner_named : (rights : Rights Text) → is_spelled (body.Segment rights) ≡ true → rights.owner < 2 ^ 48

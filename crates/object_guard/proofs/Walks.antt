@@ -1,8 +1,7 @@
 -- Tests of all items of a list, place by place.
-use Rattle.std.proofs.Common.{◌≡◌, ◌∙◌, refl, sym, ap, ℕ, zero, suc, ◌+◌, ◌≤◌, Bool, true, false, ◌&&◌, Some, None, List, [], ◌∷◌, length, take, arith}
+use Rattle.std.proofs.Common.{◌≡◌, ◌∙◌, refl, sym, ap, ℕ, ◌+◌, Bool, true, false, ◌&&◌, Some, List, [], ◌∷◌, take}
 use Rattle.std.specs.List.{list_all, slice_get}
 use Rattle.std.proofs.lemmas.Bool.{and_from}
-use Rattle.std.proofs.lemmas.List.{take_all}
 use Rattle.std.proofs.lemmas.List.Folds.{list_all_more, list_all_at}
 use Rattle.std.proofs.lemmas.Option.{slice_get_within, get_or_from_slice_get}
 
@@ -18,10 +17,6 @@ module _ {X : Type 0} (test : X → Bool) (xs : List X) (at : ℕ) where
   one_fails x here fails = sym (list_all_at test xs at x (slice_get_within xs at x here)
       (ap test (get_or_from_slice_get xs at x x here) ∙ fails))
 
-  -- there is no item at the place or after it
-  pub none_left : length xs ≤ at → list_all test (take at xs) ≡ true → true ≡ list_all test xs
-  none_left past before = sym (ap (list_all test) (sym (take_all at xs past)) ∙ before)
-
 -- two tests of all items are one
 pub both_hold : {X : Type 0} (test other : X → Bool) (xs : List X)
     → list_all (λ x. test x && other x) xs ≡ (list_all test xs && list_all other xs)
@@ -34,8 +29,3 @@ both_hold test other (x ∷ xs) = ap (λ b. (test x && other x) && b) (both_hold
     by true false false d = refl
     by true false true d = refl
     by true true c d = refl
-
-pub past_end : {X : Type 0} (xs : List X) (at : ℕ) → None ≡ slice_get xs at → length xs ≤ at
-past_end [] at none = omega arith
-past_end (x ∷ xs) zero none = cc
-past_end (x ∷ xs) (suc at) none = let rest = past_end xs at none in omega arith
