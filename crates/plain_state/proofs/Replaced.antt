@@ -1,5 +1,5 @@
 -- A body that is put in place of another, and what is touched where it doesn't fit.
-use Rattle.std.proofs.Common.{◌≡◌, ◌∙◌, refl, sym, ap, ap₂, subst, ℕ, ◌+◌, ◌^◌, ◌<◌, Bool, true, false, ◌&&◌, not, cond, Option, Some, None, List, [], ◌∷◌, ◌++◌, fold, is_some, option_map, Ok, Err}
+use Rattle.std.proofs.Common.{◌≡◌, ◌∙◌, refl, sym, ap, ap₂, ℕ, Bool, true, false, ◌&&◌, not, cond, Option, Some, None, List, [], ◌∷◌, fold, is_some, option_map, Ok, Err}
 use Rattle.std.proofs.lemmas.Bool.{false≢true}
 use Rattle.std.proofs.lemmas.Option.{same_Some}
 use Rattle.std.proofs.lemmas.List.{append-nil}
@@ -7,10 +7,10 @@ use Rattle.std.specs.FinMap.{get, insert}
 use Rattle.gem_object.specs.declared.object.Object.{Object}
 use Rattle.gem_object.specs.declared.body.Body.{Body}
 use Rattle.gem_image.specs.Image.{Contents, contents_of}
-use Rattle.gem_world.specs.World.{World, shown, with_name}
+use Rattle.gem_world.specs.World.{shown, with_name}
 use Rattle.gem_world.specs.Changes.{with_body, put}
 use Rattle.object_programs.specs.Fixed.{Fixed, fixed_of, fixed_by}
-use Rattle.object_programs.specs.Guard.{Parts, holds_of, is_there, is_known, parts_with, asked_names, may_change, may_replace}
+use Rattle.object_programs.specs.Guard.{Parts, holds_of, is_there, asked_names, may_change, may_replace}
 use Rattle.object_programs.specs.Methods.{methods_fit}
 use Rattle.object_programs.specs.Atom.{Put, with_missing, touch_missing, replaced_where, edited_at, edited}
 use Rattle.object_programs.specs.Laws.{answered}

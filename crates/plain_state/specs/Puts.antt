@@ -1,12 +1,10 @@
 -- What becomes of a state where a body is put or objects are made.
-use Rattle.std.specs.Prelude.{ℕ, ◌+◌, ◌-◌, List, [], ◌∷◌, fold, map, Option, Some, None}
-use Rattle.std.specs.Ordering.{nat_cmp}
-use Rattle.std.specs.FinMap.{FinMap, insert}
+use Rattle.std.specs.Prelude.{ℕ, List, fold, map}
 use Rattle.gem_object.specs.declared.object.Object.{Object}
-use Rattle.gem_image.specs.Image.{Contents, contents_of}
+use Rattle.gem_image.specs.Image.{contents_of}
 use Rattle.gem_world.specs.World.{with_name}
 use Rattle.object_programs.specs.Fixed.{fixed_by}
-use Rattle.object_programs.specs.Atom.{touch_missing, objects_cost, with_new, asked_by_all}
+use Rattle.object_programs.specs.Atom.{touch_missing, asked_by_all}
 use Rattle.running_objects.specs.Seen.{Seen}
 use Rattle.object_guard.specs.Parts.{with_objects}
 use Rattle.plain_state.specs.Parts.{in_world}
