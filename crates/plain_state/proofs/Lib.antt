@@ -1,7 +1,7 @@
 pub mod Changes
 pub mod Touched
 pub mod Slots
-pub mod Names
+pub mod Replaced
 pub mod Places
 pub mod Segments
 pub mod Keys

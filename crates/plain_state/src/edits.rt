@@ -15,9 +15,9 @@ ghost use Rattle.plain_state.specs.declared.edit.Edit.TheVariants as edit;
 use crate::classes::is_in_kernel;
 use crate::edit::{Edit, byte_count, slot_count};
 use crate::parts::Parts;
-use crate::spelled::is_storable;
 use gem_object::{Body, Value};
 use gem_value::Oid;
+use object_guard::is_storable;
 use running_objects::Stop;
 use std::alloc::AllocError;
 

@@ -7,12 +7,12 @@ mod classes;
 mod edit;
 mod edits;
 pub mod laws;
+mod makes;
 mod moves;
 mod overlay;
 mod pairs;
 mod parts;
 mod puts;
-mod spelled;
 mod state;
 mod updates;
 

@@ -7,7 +7,7 @@ use Rattle.texts.specs.Bytes.{Bytes as Text}
 use Rattle.object_programs.specs.Fixed.{ClassPart, Fixed}
 use Rattle.object_programs.specs.Guard.{Parts, holds_of, names_above, names_of_class, names_of_part, names_within, names_at}
 use Rattle.object_programs.specs.Programs.{part_of}
-use Rattle.plain_state.specs.Classes.{has_room}
+use Rattle.object_guard.specs.Parts.{has_room}
 
 same_room : (a b slots : ℕ) → b ≤ slots → nat_le (a + b) slots ≡ nat_le a (slots - b)
 same_room a b slots few = elim (leb_tells (a + b) slots) [
