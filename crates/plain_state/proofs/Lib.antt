@@ -11,3 +11,5 @@ mod Shared
 mod Rooms
 mod Notes
 pub mod Bytes
+mod Sums
+mod Growths

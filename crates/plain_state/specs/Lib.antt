@@ -1,5 +1,6 @@
 pub mod Classes
 pub mod Edit
+pub mod Growth
 pub mod Keys
 pub mod Overlay
 pub mod Parts

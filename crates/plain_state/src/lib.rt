@@ -6,6 +6,8 @@ mod calls;
 mod classes;
 mod edit;
 mod edits;
+mod entry;
+mod growth;
 pub mod laws;
 mod makes;
 mod moves;

@@ -85,11 +85,18 @@ impl Parts {
         self.user
     }
 
-    /// The bytes that the fields of the object's body take where it is stored.
+    /// The bytes that the fields of the object's body take where it is stored. Of an object that
+    /// was written or made they are known without a look at its contents.
     pub(crate) fn stored_bytes(&self, oid: Oid) -> Option<u64>
         ensures { result ≡ option_map stored_bytes (object_at oid self.now) }
     {
-        Some(self.look(oid)?.body.size())
+        match self.changes.stored_bytes(oid.number()) {
+            Some(bytes) => Some(bytes),
+            None => {
+                let object = object_before(&self.place, &self.view, oid)?;
+                Some(object.body.size())
+            }
+        }
     }
 
     /// Makes the budget whole.

@@ -23,24 +23,24 @@ returns-in_default-clause-updated c =
 
 pub returns-clause-taken : goal.returns-clause-taken
 returns-clause-taken c =
-    let there : lookup (nat_eq c.args.number) c.self.inside.entries.entries ≡ Some c.in-Some.object.now = sym c.in-Some.ensures.value in
+    let there : lookup (nat_eq c.args.number) c.self.inside.entries.entries ≡ Some c.in-Some.entry.now = sym c.in-Some.ensures.value in
     let same : holds_of (takes c.args.update) (get (contents_by_name c.self.inside.entries.entries) c.args.number)
-    ≡ takes c.args.update (contents_of c.in-Some.object.now) = ap (holds_of (takes c.args.update))
+    ≡ takes c.args.update (contents_of c.in-Some.entry.now) = ap (holds_of (takes c.args.update))
     (get_by_name c.self.inside.entries.entries c.args.number ∙ ap (option_map contents_of) there) in
-    rw (← c.self.view_is) (subst (λ (b : Bool). IfOk c.take_update.result (λ taken. taken ≡ b)) (sym same) c.take_update.ensures.taken)
+    rw (← c.self.view_is) (subst (λ (b : Bool). IfOk c.update.result (λ taken. taken ≡ b)) (sym same) c.update.ensures.taken)
 
 pub returns-clause-updated : goal.returns-clause-updated
 returns-clause-updated c =
-    let there : lookup (nat_eq c.args.number) c.self.inside.entries.entries ≡ Some c.in-Some.object.now = sym c.in-Some.ensures.value in
-    on_ok_weaker c.take_update.result (λ edited. rw (← c.self.view_is)
-    (ap contents_by_name ((c.get_mut.follows.holds c.take_update.new.object).0)
-    ∙ set_by_name c.self.inside.entries.entries c.args.number c.take_update.new.object c.in-Some.object.now
-    (with_update c.args.update) there edited)) c.take_update.ensures.updated
+    let there : lookup (nat_eq c.args.number) c.self.inside.entries.entries ≡ Some c.in-Some.entry.now = sym c.in-Some.ensures.value in
+    on_ok_weaker c.update.result (λ edited. rw (← c.self.view_is)
+    (ap contents_by_name ((c.get_mut.follows.holds c.update.new.self).0)
+    ∙ set_by_name c.self.inside.entries.entries c.args.number c.update.new.self c.in-Some.entry.now
+    (with_update c.args.update) there edited)) c.update.ensures.updated
 
 pub returns-clause-unchanged : goal.returns-clause-unchanged
 returns-clause-unchanged c =
-    let there : lookup (nat_eq c.args.number) c.self.inside.entries.entries ≡ Some c.in-Some.object.now = sym c.in-Some.ensures.value in
-    on_err_weaker c.take_update.result (λ same. rw (← c.self.view_is)
-    (ap contents_by_name ((c.get_mut.follows.holds c.take_update.new.object).0)
+    let there : lookup (nat_eq c.args.number) c.self.inside.entries.entries ≡ Some c.in-Some.entry.now = sym c.in-Some.ensures.value in
+    on_err_weaker c.update.result (λ same. rw (← c.self.view_is)
+    (ap contents_by_name ((c.get_mut.follows.holds c.update.new.self).0)
     ∙ ap (λ object. contents_by_name (set_value (nat_eq c.args.number) c.self.inside.entries.entries object)) same
-    ∙ same_by_name c.self.inside.entries.entries c.args.number c.in-Some.object.now there)) c.take_update.ensures.unchanged
+    ∙ same_by_name c.self.inside.entries.entries c.args.number c.in-Some.entry.now there)) c.update.ensures.unchanged
