@@ -26,10 +26,10 @@ use Rattle.plain_state.specs.Classes.{has_pairs}
 use Rattle.plain_state.specs.Parts.{edited_in}
 use Rattle.plain_state.proofs.Slots.{old_shown, edit_done}
 
-pair_known : Parts → Value × Value → Bool
+unfoldable pub pair_known : Parts → Value × Value → Bool
 pair_known parts pair = list_all (is_known_value parts) (pair.0 ∷ pair.1 ∷ [])
 
-pairs_known : (parts : Parts) (pairs : List (Value × Value))
+pub pairs_known : (parts : Parts) (pairs : List (Value × Value))
     → list_all (is_known parts) (names_in_pairs pairs) ≡ list_all (pair_known parts) pairs
 unfolding pair_known
 pairs_known parts [] = refl
@@ -49,7 +49,7 @@ none_by test pair rest left b true is none fewer = absurd (true≢false none)
 none_by test pair rest left true false is none fewer = none
 none_by test pair rest left false false is none fewer = ap (λ a. a || list_any test left) is ∙ fewer none
 
-not_false : (b : Bool) → not b ≡ true → b ≡ false
+pub not_false : (b : Bool) → not b ≡ true → b ≡ false
 not_false true is = absurd (false≢true is)
 not_false false is = refl
 
@@ -106,7 +106,7 @@ module _ (key : Value) where
       (and_from (keys_differ left) _ (differ_left pairs differ.0) (all_left (λ pair. not (is_nil pair.0)) pairs differ.1)))
 
 module _ (x : Seen) (name : ℕ) (key : Value) (sound : IsSoundState x) where
-  pairs_by : (one : Body) → has_pairs one ≡ true → (pairs : List (Value × Value)) × (one ≡ body.Dict pairs)
+  pub pairs_by : (one : Body) → has_pairs one ≡ true → (pairs : List (Value × Value)) × (one ≡ body.Dict pairs)
   pairs_by (body.Dict pairs) has = (pairs, refl)
   pairs_by (body.Plain values) has = absurd (false≢true has)
   pairs_by (body.Bytes bytes) has = absurd (false≢true has)

@@ -1,7 +1,15 @@
 pub mod Changes
 pub mod Touched
 pub mod Slots
-pub mod Names
+pub mod Replaced
 pub mod Places
 pub mod Segments
 pub mod Keys
+pub mod Sound
+pub mod KeyPuts
+mod Shared
+mod Rooms
+mod Notes
+pub mod Bytes
+mod Sums
+mod Growths

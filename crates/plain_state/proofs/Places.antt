@@ -31,7 +31,8 @@ use Rattle.plain_state.specs.Parts.{missed_value, edited_in}
 use Rattle.plain_state.proofs.Slots.{old_shown, edit_done, edit_lacks, value_missing, around_missing, values_missing, value_missed, missed_setting, missed_budget, slots_lack}
 use Rattle.running_objects.specs.Fitting.{is_known_value, can_count}
 use Rattle.running_objects.proofs.Edits.{kind_of_slots, old_rest, old_known, body_fits, replace_is, all_known, all_split, all_inserted, all_removed}
-use Rattle.plain_state.specs.Classes.{has_room, accepts_slots_by, accepts_slots, is_in_kernel, may_insert, slots_of, slots_in}
+use Rattle.object_guard.specs.Parts.{has_room}
+use Rattle.plain_state.specs.Classes.{accepts_slots_by, accepts_slots, is_in_kernel, may_insert, slots_of, slots_in}
 
 -- ---- whether a class may have so many slots
 

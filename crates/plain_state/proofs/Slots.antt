@@ -78,7 +78,7 @@ value_missing parts touched (value.Char code) = touched
 value_missing parts touched (value.Sym name) = touched
 value_missing parts touched (value.Block block) = touched
 
-refs_of_one : (parts : Parts) (touched : List ℕ) (value : Value) (rest : List Value)
+pub refs_of_one : (parts : Parts) (touched : List ℕ) (value : Value) (rest : List Value)
     → fold (with_missing parts) touched (names_in_values (value ∷ rest))
     ≡ fold (with_missing parts) (value_missing parts touched value) (names_in_values rest)
 unfolding value_missing

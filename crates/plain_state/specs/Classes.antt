@@ -1,10 +1,8 @@
--- What of a class the guard sees, and whether an object may have so many slots.
-use Rattle.std.specs.Prelude.{ℕ, ◌+◌, Bool, true, false, not, ◌&&◌, ◌||◌, nat_le, nat_lt, nat_eq, length, List, [], Option, Some, None}
-use Rattle.texts.specs.Bytes.{Bytes as Text}
+-- Whether an object may have so many slots.
+use Rattle.std.specs.Prelude.{ℕ, ◌+◌, Bool, true, false, not, ◌&&◌, ◌||◌, nat_le, nat_lt, nat_eq, length, [], Option, Some, None}
 use Rattle.gem_object.specs.Kinds as kinds
 use Rattle.gem_object.specs.declared.kind.Kind.{Kind}
 use Rattle.gem_object.specs.declared.value.Value.{Value}
-use Rattle.gem_object.specs.declared.body.ClassBody.{ClassBody}
 use Rattle.gem_object.specs.declared.body.Body.{Body}
 use Rattle.gem_object.specs.declared.body.Body.TheVariants.{Plain, Dict}
 use Rattle.gem_image.specs.Image.{Contents}
@@ -13,15 +11,7 @@ use Rattle.object_programs.specs.Guard.{Parts, holds_of, names_at}
 use Rattle.object_programs.specs.Programs.{part_of}
 use Rattle.object_programs.specs.Spelled.{is_storable}
 use Rattle.running_objects.specs.Fitting.{is_known_value, can_count}
-
--- what of a class is fixed
-abbrev pub part_of_class : ClassBody → ClassPart
-part_of_class class =
-    record { superclass = class.superclass; kind = class.kind; names = class.names }
-
--- whether so many slots are enough for these names
-abbrev pub has_room : (slots : ℕ) → List Text → Bool
-has_room slots names = nat_le (length names) slots
+use Rattle.object_guard.specs.Parts.{has_room}
 
 -- whether instances of classes of this kind have slots
 abbrev pub takes_slots : Kind → Bool

@@ -1,9 +1,11 @@
 //! Edits of one object.
-ghost use Rattle.std.specs.Prelude.{◌≡◌, OnOk, OnErr, length};
-ghost use Rattle.gem_object.specs.Edits.{plain_slots, body_bytes, with_slot, with_slot_more, without_slot, with_byte};
+ghost use Rattle.std.specs.Prelude.{◌≡◌, IfOk, OnOk, OnErr, length};
+ghost use Rattle.gem_object.specs.Edits.{plain_slots, body_bytes, with_slot, with_slot_more, without_slot, with_byte, with_value_at, without_value_at};
 ghost use Rattle.gem_image.specs.Image.{contents_of};
 ghost use Rattle.plain_state.specs.Edit.{edited_by};
+ghost use Rattle.plain_state.specs.Growth.{Grows};
 
+use crate::growth::{Growth, pair_put, pair_removed, slot_inserted, slot_removed, slot_replaced};
 use gem_object::{Body, Object, Value};
 use gem_value::Oid;
 use std::alloc::AllocError;
@@ -30,45 +32,31 @@ pub(crate) enum Edit {
 }
 
 impl Edit {
-    /// Edits the object.
+    /// Edits the object; how the bytes of its body change.
     ///
     /// # Errors
     ///
     /// `AllocError` where memory ran out. The object is as before.
-    pub(crate) fn apply(self, object: &mut Object) -> Result<(), AllocError>
+    pub(crate) fn apply(self, object: &mut Object) -> Result<Growth, AllocError>
         ensures edited { OnOk result
             (contents_of object.new ≡ edited_by self (contents_of object.old)) }
+        ensures grown { IfOk result (λ growth. Grows growth object.old.body object.new.body) }
         ensures unchanged { OnErr result (object.new ≡ object.old) }
     {
         match self {
-            Edit::SetSlot(at, value) => {
-                set_slot(&mut object.body, at, value);
-                Ok(())
-            }
+            Edit::SetSlot(at, value) => Ok(set_slot(&mut object.body, at, value)),
             Edit::InsertSlot(at, value) => insert_slot(&mut object.body, at, value),
-            Edit::RemoveSlot(at) => {
-                remove_slot(&mut object.body, at);
-                Ok(())
-            }
-            Edit::SetByte(at, byte) => {
-                set_byte(&mut object.body, at, byte);
-                Ok(())
-            }
-            Edit::PutAt(key, value) => {
-                object.body.put_at(key, value)?;
-                Ok(())
-            }
-            Edit::RemoveAt(key) => {
-                object.body.remove_at(&key);
-                Ok(())
-            }
+            Edit::RemoveSlot(at) => Ok(remove_slot(&mut object.body, at)),
+            Edit::SetByte(at, byte) => Ok(set_byte(&mut object.body, at, byte)),
+            Edit::PutAt(key, value) => put_at(&mut object.body, key, value),
+            Edit::RemoveAt(key) => Ok(remove_at(&mut object.body, &key)),
             Edit::PutBody(body) => {
                 object.body = body;
-                Ok(())
+                Ok(Growth::Anew)
             }
             Edit::MoveTo(segment) => {
                 object.segment = segment;
-                Ok(())
+                Ok(Growth::none())
             }
         }
     }
@@ -94,34 +82,64 @@ pub(crate) fn byte_count(body: &Body) -> usize
     }
 }
 
-fn set_slot(body: &mut Body, at: usize, value: Value)
-    ensures { body.new ≡ with_slot at value body.old }
+fn set_slot(body: &mut Body, at: usize, value: Value) -> Growth
+    ensures set { body.new ≡ with_slot at value body.old }
+    ensures grown { Grows result body.old body.new }
 {
+    let growth = slot_replaced(body, at, &value);
     if at < slot_count(body) {
         body.set_slot(at, value);
     }
+    growth
 }
 
-fn insert_slot(body: &mut Body, at: usize, value: Value) -> Result<(), AllocError>
+fn insert_slot(body: &mut Body, at: usize, value: Value) -> Result<Growth, AllocError>
     ensures added { OnOk result (body.new ≡ with_slot_more at value body.old) }
+    ensures grown { IfOk result (λ growth. Grows growth body.old body.new) }
     ensures unchanged { OnErr result (body.new ≡ body.old) }
 {
     let at = at.min(slot_count(body));
-    body.insert_slot(at, value)
+    let growth = slot_inserted(body, at, &value);
+    body.insert_slot(at, value)?;
+    Ok(growth)
 }
 
-fn remove_slot(body: &mut Body, at: usize)
-    ensures { body.new ≡ without_slot at body.old }
+fn remove_slot(body: &mut Body, at: usize) -> Growth
+    ensures removed { body.new ≡ without_slot at body.old }
+    ensures grown { Grows result body.old body.new }
 {
+    let growth = slot_removed(body, at);
     if at < slot_count(body) {
         body.remove_slot(at);
     }
+    growth
 }
 
-fn set_byte(body: &mut Body, at: usize, byte: u8)
-    ensures { body.new ≡ with_byte at byte body.old }
+fn set_byte(body: &mut Body, at: usize, byte: u8) -> Growth
+    ensures set { body.new ≡ with_byte at byte body.old }
+    ensures grown { Grows result body.old body.new }
 {
     if at < byte_count(body) {
         body.set_byte(at, byte);
     }
+    Growth::none()
+}
+
+fn put_at(body: &mut Body, key: Value, value: Value) -> Result<Growth, AllocError>
+    ensures put { OnOk result (body.new ≡ with_value_at key value body.old) }
+    ensures grown { IfOk result (λ growth. Grows growth body.old body.new) }
+    ensures unchanged { OnErr result (body.new ≡ body.old) }
+{
+    let growth = pair_put(body, &key, &value);
+    body.put_at(key, value)?;
+    Ok(growth)
+}
+
+fn remove_at(body: &mut Body, key: &Value) -> Growth
+    ensures removed { body.new ≡ without_value_at key.now body.old }
+    ensures grown { Grows result body.old body.new }
+{
+    let growth = pair_removed(body, key);
+    body.remove_at(key);
+    growth
 }

@@ -7,7 +7,7 @@ ghost use Rattle.object_programs.specs.Guard.{holds_of};
 ghost use Rattle.running_objects.specs.Seen.{IsSoundState};
 ghost use Rattle.running_objects.specs.Acted.{Edited};
 ghost use Rattle.running_objects.specs.Fitting.{may_enter, is_known_value};
-ghost use Rattle.plain_state.specs.Parts.{missed_value, edited_in};
+ghost use Rattle.plain_state.specs.Parts.{missed_value, edited_in, SameObjects};
 ghost use Rattle.plain_state.specs.Edit.{edited_by};
 ghost use Rattle.plain_state.specs.Classes.{slots_in, may_insert, has_pairs};
 ghost use Rattle.plain_state.specs.declared.edit.Edit.TheVariants as edit;
@@ -15,9 +15,9 @@ ghost use Rattle.plain_state.specs.declared.edit.Edit.TheVariants as edit;
 use crate::classes::is_in_kernel;
 use crate::edit::{Edit, byte_count, slot_count};
 use crate::parts::Parts;
-use crate::spelled::is_storable;
 use gem_object::{Body, Value};
 use gem_value::Oid;
+use object_guard::is_storable;
 use running_objects::Stop;
 use std::alloc::AllocError;
 
@@ -34,7 +34,7 @@ impl Parts {
     }
 
     /// Whether the object is there to which the value refers, if it refers to one.
-    fn knows(&self, value: &Value) -> bool
+    pub(crate) fn knows(&self, value: &Value) -> bool
         ensures { result ≡ is_known_value (fixed_by self.now.setting self.now.world) value.now }
     {
         match value {
@@ -44,7 +44,7 @@ impl Parts {
     }
 
     /// Whether the value may come into a slot.
-    fn may_enter(&self, value: &Value) -> bool
+    pub(crate) fn may_enter(&self, value: &Value) -> bool
         ensures { result ≡ may_enter (fixed_by self.now.setting self.now.world) value.now }
     {
         self.knows(value) && is_storable(value)
@@ -62,6 +62,16 @@ impl Parts {
             return Ok(());
         }
         self.miss(*oid)
+    }
+
+    /// Touches the names to which the key and the value refer, where there is no object.
+    pub(crate) fn miss_both(&mut self, key: &Value, value: &Value) -> Result<(), AllocError>
+        ensures missed { OnOk result
+            (self.new ≡ missed_value value.now (missed_value key.now self.old)) }
+        ensures same { OnErr result (SameObjects self.old self.new) }
+    {
+        self.miss_value(key)?;
+        self.miss_value(value)
     }
 
     /// Edits a written object.
@@ -172,7 +182,7 @@ impl Parts {
     }
 
     /// Whether there is a written dictionary of this name.
-    fn has_pairs(&self, oid: Oid) -> bool
+    pub(crate) fn has_pairs(&self, oid: Oid) -> bool
         ensures { result ≡ holds_of (λ object. has_pairs object.body)
             (get self.now.world.changes oid) }
     {

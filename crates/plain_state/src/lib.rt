@@ -6,7 +6,16 @@ mod calls;
 mod classes;
 mod edit;
 mod edits;
+mod entry;
+mod growth;
+pub mod laws;
+mod makes;
 mod moves;
 mod overlay;
+mod pairs;
 mod parts;
-mod spelled;
+mod puts;
+mod state;
+mod updates;
+
+pub use state::PlainState;

@@ -1,12 +1,17 @@
 //! What a transaction has changed.
-ghost use Rattle.std.specs.Prelude.{◌≡◌, option_map, option_copied, is_some, OnOk, OnErr};
+ghost use Rattle.std.specs.Prelude.{◌≡◌, option_map, option_copied, is_some, IfOk, OnOk, OnErr};
 ghost use Rattle.std.specs.FinMap as map;
 ghost use Rattle.gem_image.specs.Image.{contents_of};
 ghost use Rattle.plain_state.specs.Edit.{edited_by};
+ghost use Rattle.object_programs.specs.Guard.{holds_of};
+ghost use Rattle.running_objects.specs.Acted.{stored_bytes};
 ghost use Rattle.plain_state.specs.Overlay.{changed};
+ghost use Rattle.plain_state.specs.Updates.{takes, with_update};
 
 use crate::edit::Edit;
+use crate::entry::Entry;
 use gem_object::Object;
+use gem_update::Update;
 use indexmap::IndexMap;
 use std::alloc::{AllocError, Global};
 use std::marker::Model;
@@ -15,7 +20,7 @@ use std::marker::Model;
 /// objects are, but for the number of the last commit.
 #[derive(Drop)]
 pub(crate) struct Overlay {
-    entries: IndexMap<u64, Object>,
+    entries: IndexMap<u64, Entry>,
 }
 
 impl Model for Overlay {
@@ -48,7 +53,15 @@ impl Overlay {
     pub(crate) fn look(&self, number: u64) -> Option<&Object>
         ensures { option_map contents_of (option_copied result) ≡ map.get self.now number }
     {
-        self.entries.get(&number)
+        Some(self.entries.get(&number)?.object())
+    }
+
+    /// The bytes that the fields of this name's object take where it is stored, if there is one.
+    /// They are known without a look at the contents.
+    pub(crate) fn stored_bytes(&self, number: u64) -> Option<u64>
+        ensures { result ≡ option_map stored_bytes (map.get self.now number) }
+    {
+        Some(self.entries.get(&number)?.stored_bytes())
     }
 
     /// Whether there is an object of this name.
@@ -67,7 +80,7 @@ impl Overlay {
         ensures put { OnOk result (self.new ≡ map.insert self.old number (contents_of object)) }
         ensures unchanged { OnErr result (self.new ≡ self.old) }
     {
-        self.entries.insert(number, object)?;
+        self.entries.insert(number, Entry::new(object))?;
         Ok(())
     }
 
@@ -80,9 +93,26 @@ impl Overlay {
         ensures edited { OnOk result (self.new ≡ changed number (edited_by edit) self.old) }
         ensures unchanged { OnErr result (self.new ≡ self.old) }
     {
-        let Some(object) = self.entries.get_mut(&number) else {
+        let Some(entry) = self.entries.get_mut(&number) else {
             return Ok(());
         };
-        edit.apply(object)
+        entry.edit(edit)
+    }
+
+    /// Updates the object of this name, if there is one; whether it took the update.
+    ///
+    /// # Errors
+    ///
+    /// `AllocError` where memory ran out. All is as before.
+    pub(crate) fn update(&mut self, number: u64, update: Update) -> Result<bool, AllocError>
+        ensures taken { IfOk result (λ taken.
+            taken ≡ holds_of (takes update) (map.get self.old number)) }
+        ensures updated { OnOk result (self.new ≡ changed number (with_update update) self.old) }
+        ensures unchanged { OnErr result (self.new ≡ self.old) }
+    {
+        let Some(entry) = self.entries.get_mut(&number) else {
+            return Ok(false);
+        };
+        entry.update(update)
     }
 }

@@ -5,7 +5,9 @@ ghost use Rattle.gem_image.specs.Rights.{rights_at, groups_at, right_in, right_o
 ghost use Rattle.gem_world.specs.World.{shown_objects, as_of, are_shared, is_made, is_private};
 ghost use Rattle.gem_world.specs.Access.{a_read, a_write, right_at, is_allowed};
 ghost use Rattle.running_objects.specs.Seen.{object_at};
+ghost use Rattle.running_objects.specs.Acted.{stored_bytes};
 ghost use Rattle.plain_state.specs.Parts.{touched, missed, asked, held, SameObjects};
+ghost use Rattle.plain_state.specs.State.{with_whole_budget};
 
 use crate::overlay::Overlay;
 use gem_image::Image;
@@ -13,6 +15,7 @@ use gem_object::{Body, Object};
 use gem_update::Update;
 use gem_value::Oid;
 use indexmap::IndexSet;
+use object_programs::{SPACE_LIMIT, UNIT_LIMIT};
 use seg_rights::{Right, Rights, may_read, may_write};
 use std::alloc::{AllocError, Global};
 use std::marker::Model;
@@ -80,6 +83,29 @@ impl Parts {
         ensures { result ≡ self.now.setting.user }
     {
         self.user
+    }
+
+    /// The bytes that the fields of the object's body take where it is stored. Of an object that
+    /// was written or made they are known without a look at its contents.
+    pub(crate) fn stored_bytes(&self, oid: Oid) -> Option<u64>
+        ensures { result ≡ option_map stored_bytes (object_at oid self.now) }
+    {
+        match self.changes.stored_bytes(oid.number()) {
+            Some(bytes) => Some(bytes),
+            None => {
+                let object = object_before(&self.place, &self.view, oid)?;
+                Some(object.body.size())
+            }
+        }
+    }
+
+    /// Makes the budget whole.
+    pub(crate) fn refill(&mut self)
+        ensures { self.new ≡ with_whole_budget self.old }
+    {
+        self.units = UNIT_LIMIT;
+        self.slots = SPACE_LIMIT;
+        self.text.clear();
     }
 
     /// Whether there is an object of this name.
@@ -241,7 +267,7 @@ fn right_on_segment(rights: &Rights<Text>, user: Oid) -> Right
 
 /// The object of this name before anything was changed: a reduced-conflict one as of the view, any
 /// other as of the place.
-fn object_before<'a>(place: &'a Image, view: &'a Image, oid: Oid) -> Option<&'a Object>
+pub(crate) fn object_before<'a>(place: &'a Image, view: &'a Image, oid: Oid) -> Option<&'a Object>
     ensures { option_map contents_of (option_copied result)
         ≡ as_of (objects_in place.now oid) (objects_in view.now oid) }
 {

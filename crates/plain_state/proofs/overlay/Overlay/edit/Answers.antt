@@ -14,16 +14,16 @@ returns-in_default-clause-edited c =
 
 pub returns-clause-edited : goal.returns-clause-edited
 returns-clause-edited c =
-    let there : lookup (nat_eq c.args.number) c.self.inside.entries.entries ≡ Some c.in-Some.object.now = sym c.in-Some.ensures.value in
-    on_ok_weaker c.apply.result (λ edited. rw (← c.self.view_is)
-    (ap contents_by_name ((c.get_mut.follows.holds c.apply.new.object).0)
-    ∙ set_by_name c.self.inside.entries.entries c.args.number c.apply.new.object c.in-Some.object.now
-    (edited_by c.args.edit) there edited)) c.apply.ensures.edited
+    let there : lookup (nat_eq c.args.number) c.self.inside.entries.entries ≡ Some c.in-Some.entry.now = sym c.in-Some.ensures.value in
+    on_ok_weaker c.edit.result (λ edited. rw (← c.self.view_is)
+    (ap contents_by_name ((c.get_mut.follows.holds c.edit.new.self).0)
+    ∙ set_by_name c.self.inside.entries.entries c.args.number c.edit.new.self c.in-Some.entry.now
+    (edited_by c.args.edit) there edited)) c.edit.ensures.edited
 
 pub returns-clause-unchanged : goal.returns-clause-unchanged
 returns-clause-unchanged c =
-    let there : lookup (nat_eq c.args.number) c.self.inside.entries.entries ≡ Some c.in-Some.object.now = sym c.in-Some.ensures.value in
-    on_err_weaker c.apply.result (λ same. rw (← c.self.view_is)
-    (ap contents_by_name ((c.get_mut.follows.holds c.apply.new.object).0)
+    let there : lookup (nat_eq c.args.number) c.self.inside.entries.entries ≡ Some c.in-Some.entry.now = sym c.in-Some.ensures.value in
+    on_err_weaker c.edit.result (λ same. rw (← c.self.view_is)
+    (ap contents_by_name ((c.get_mut.follows.holds c.edit.new.self).0)
     ∙ ap (λ object. contents_by_name (set_value (nat_eq c.args.number) c.self.inside.entries.entries object)) same
-    ∙ same_by_name c.self.inside.entries.entries c.args.number c.in-Some.object.now there)) c.apply.ensures.unchanged
+    ∙ same_by_name c.self.inside.entries.entries c.args.number c.in-Some.entry.now there)) c.edit.ensures.unchanged
