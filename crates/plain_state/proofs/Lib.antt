@@ -13,3 +13,6 @@ mod Notes
 pub mod Bytes
 mod Sums
 mod Growths
+mod NewObjects
+mod InTurn
+mod Costs

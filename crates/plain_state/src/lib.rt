@@ -10,6 +10,7 @@ mod entry;
 mod growth;
 pub mod laws;
 mod makes;
+mod many;
 mod moves;
 mod overlay;
 mod pairs;

@@ -1,15 +1,17 @@
 //! What a transaction has changed.
-ghost use Rattle.std.specs.Prelude.{◌≡◌, option_map, option_copied, is_some, IfOk, OnOk, OnErr};
+ghost use Rattle.std.specs.Prelude.{◌≡◌, ◌≤◌, ◌+◌, ◌^◌, length, option_map, option_copied, is_some, IfOk, OnOk, OnErr};
 ghost use Rattle.std.specs.FinMap as map;
 ghost use Rattle.gem_image.specs.Image.{contents_of};
 ghost use Rattle.plain_state.specs.Edit.{edited_by};
 ghost use Rattle.object_programs.specs.Guard.{holds_of};
 ghost use Rattle.running_objects.specs.Acted.{stored_bytes};
 ghost use Rattle.plain_state.specs.Overlay.{changed};
+ghost use Rattle.plain_state.specs.Puts.{with_all};
 ghost use Rattle.plain_state.specs.Updates.{takes, with_update};
 
 use crate::edit::Edit;
 use crate::entry::Entry;
+use crate::many::insert_all;
 use gem_object::Object;
 use gem_update::Update;
 use indexmap::IndexMap;
@@ -81,6 +83,21 @@ impl Overlay {
         ensures unchanged { OnErr result (self.new ≡ self.old) }
     {
         self.entries.insert(number, Entry::new(object))?;
+        Ok(())
+    }
+
+    /// Puts objects at this name and at those after it.
+    ///
+    /// # Errors
+    ///
+    /// `AllocError` where memory ran out. All is as before.
+    pub(crate) fn put_all(&mut self, first: u64, objects: Vec<Object>) -> Result<(), AllocError>
+        requires { first + length objects.items ≤ 2 ^ 48 }
+        ensures put { OnOk result (self.new ≡ with_all first objects.items self.old) }
+        ensures unchanged { OnErr result (self.new ≡ self.old) }
+    {
+        self.entries.reserve(objects.len())?;
+        insert_all(&mut self.entries, first, objects);
         Ok(())
     }
 
