@@ -4,6 +4,7 @@
 
 mod arguments;
 mod edits;
+mod entering;
 mod kinds;
 mod making;
 mod strings;
@@ -16,6 +17,7 @@ pub use edits::{
     insert_slot, put_pair, remove_pair, remove_slot, replace_body, replace_byte, replace_slot,
     update,
 };
+pub use entering::make_and_enter;
 pub use kinds::{
     check_kind, class_of_reference, class_of_value, is_kind_of, is_under, named_slots,
 };
