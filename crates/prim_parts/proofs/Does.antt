@@ -1,5 +1,5 @@
 -- How what code did in turn makes what a program does, where nothing local is seen or changed.
-use Rattle.std.proofs.Common.{◌≡◌, refl, sym, ap, ◌∙◌, subst, ℕ, Bool, true, false, Option, Some, None, Result, Ok, Err}
+use Rattle.std.proofs.Common.{◌≡◌, refl, sym, ap, ◌∙◌, subst, ℕ, Bool, true, false, Option, Some, None, [], option_map, Result, Ok, Err}
 use Rattle.gem_object.specs.declared.value.Value.{Value}
 use Rattle.gem_object.specs.declared.body.Body.{Body}
 use Rattle.gem_image.specs.Image.{Contents}
@@ -7,16 +7,17 @@ use Rattle.gem_world.specs.World.{Setting}
 use Rattle.gem_world.specs.Access.{Access, a_read, a_write}
 use Rattle.tree_meaning.specs.Place.{MadeBlock}
 use Rattle.object_programs.specs.Local.{Local}
-use Rattle.object_programs.specs.Atom.{Atom, Ask, Put}
-use Rattle.object_programs.specs.Run.{Run, give, fail, atom, and_then, State, Outcome, onward, perform}
-use Rattle.object_programs.specs.Programs.{need, check}
+use Rattle.object_programs.specs.Atom.{Atom, Ask, Kind, Who, Put}
+use Rattle.object_programs.specs.Fixed.{Fixed, fixed_of}
+use Rattle.object_programs.specs.Run.{Run, give, fail, atom, and_then, Ending, gives, returns, fails, State, Outcome, onward, perform}
+use Rattle.object_programs.specs.Programs.{need, check, known}
 use Rattle.object_programs.specs.declared.fault.Fault.{Fault}
 use Rattle.running_objects.specs.Seen.{Seen, object_at, with_local, Keeps}
 use Rattle.running_objects.specs.Ran.{EndsSo, Ran}
-use Rattle.running_objects.specs.Acted.{Acted, Reached, Edited}
+use Rattle.running_objects.specs.Acted.{Acted, Reached, Known, Edited}
 use Rattle.running_objects.specs.declared.stop.Stop.{Stop}
 use Rattle.running_objects.specs.declared.stop.Stop.TheVariants as stop
-use Rattle.running_objects.proofs.Running.{keeps_same, acted_ran, ran_then, ran_stop, seen_twice}
+use Rattle.running_objects.proofs.Running.{keeps_same, acted_says, acted_ran, ran_then, ran_stop, seen_twice}
 use Rattle.prim_parts.specs.Does.{Does, Computes}
 
 -- with what is local at hand, and back
@@ -91,3 +92,77 @@ computes_then {A} {C} {first} {second} {answer} {before} {after} {result} one re
 pub computes_stop : {A C : Type 0} {first : Run MadeBlock C} {second : C → Run MadeBlock A} {ended : Stop} (seen : Seen)
     → Computes first (Err ended) → Does (and_then first second) seen (Err ended) seen
 computes_stop seen one = does_stop (does_compute seen one)
+
+-- The same, where programs are grouped otherwise.
+grouped : {A C D : Type 0} (setting : Setting) (outcome : Outcome MadeBlock C) (second : C → Run MadeBlock D)
+    (third : D → Run MadeBlock A)
+    → onward outcome.end outcome.state (λ found left. perform (and_then (second found) third) setting left)
+    ≡ (let middle = onward outcome.end outcome.state (λ found left. perform (second found) setting left) in
+    onward middle.end middle.state (λ found left. perform (third found) setting left))
+grouped {A} {C} {D} setting outcome second third = by outcome.end
+  where
+    by : (end : Ending C)
+        → onward end outcome.state (λ found left. perform (and_then (second found) third) setting left)
+        ≡ (let middle = onward end outcome.state (λ found left. perform (second found) setting left) in
+        onward middle.end middle.state (λ found left. perform (third found) setting left))
+    by (gives answer) = refl
+    by (returns value home) = refl
+    by (fails fault) = refl
+
+pub does_assoc : {A C D : Type 0} {first : Run MadeBlock C} {second : C → Run MadeBlock D} {third : D → Run MadeBlock A}
+    {before after : Seen} {result : Result A Stop}
+    → Does (and_then first (λ found. and_then (second found) third)) before result after
+    → Does (and_then (and_then first second) third) before result after
+does_assoc {A} {C} {D} {first} {second} {third} {before} {after} {result} does = record {
+  keeps = does.keeps;
+  ends = λ local.
+      let At : Outcome MadeBlock A → Type 0 = λ outcome. EndsSo outcome result (with_local after local) in
+      subst At (grouped before.setting (perform first before.setting (with_local before local)) second third)
+      (does.ends local);
+}
+
+pub does_assoc_back : {A C D : Type 0} {first : Run MadeBlock C} {second : C → Run MadeBlock D}
+    {third : D → Run MadeBlock A} {before after : Seen} {result : Result A Stop}
+    → Does (and_then (and_then first second) third) before result after
+    → Does (and_then first (λ found. and_then (second found) third)) before result after
+does_assoc_back {A} {C} {D} {first} {second} {third} {before} {after} {result} does = record {
+  keeps = does.keeps;
+  ends = λ local.
+      let At : Outcome MadeBlock A → Type 0 = λ outcome. EndsSo outcome result (with_local after local) in
+      subst At (sym (grouped before.setting (perform first before.setting (with_local before local)) second third))
+      (does.ends local);
+}
+
+-- after the user was asked for
+pub does_who : {A : Type 0} {rest : ℕ → Run MadeBlock A} {before after : Seen} {result : Result A Stop} (user : ℕ)
+    → user ≡ before.setting.user → Does (rest user) before result after → Does (and_then (atom Who) rest) before result after
+does_who {A} {rest} {before} {after} {result} user is does =
+    let At : ℕ → Type 0 = λ name. Does (rest name) before result after in
+    does_then (does_atom (acted_says Who before before before.setting.user refl refl)) (subst At is does)
+
+-- after the fixed part of an object was asked for, with the object that was then asked for
+pub known_then : {A : Type 0} {fault : Fault} {name : ℕ} {before between after : Seen} {held : Contents}
+    {result : Result A Stop} {rest : Fixed → Run MadeBlock A} → Known name before (Ok tt) between
+    → Some held ≡ object_at name between → Does (rest (fixed_of held)) between result after
+    → Does (and_then (known fault name) rest) before result after
+known_then {A} {fault} {name} {before} {between} {after} {held} {result} {rest} asked shown does =
+    let At : Option Fixed → Type 0 = λ found. Does (need fault found) between (Ok (fixed_of held)) between in
+    let found : Does (known fault name) before (Ok (fixed_of held)) between =
+    does_then (does_atom asked) (subst At (ap (option_map fixed_of) shown) (does_give (fixed_of held) between)) in
+    does_then found does
+
+-- where there is no such object, and where the call stopped
+pub known_none : {A : Type 0} {fault : Fault} {name : ℕ} {before after : Seen} {rest : Fixed → Run MadeBlock A}
+    → Known name before (Ok tt) after → None ≡ object_at name after
+    → Does (and_then (known fault name) rest) before (Err (stop.Fails fault)) after
+known_none {A} {fault} {name} {before} {after} {rest} asked shown =
+    let At : Option Fixed → Type 0 = λ found. Does (need fault found) after (Err (stop.Fails fault)) after in
+    let found : Does (known fault name) before (Err (stop.Fails fault)) after =
+    does_then (does_atom asked) (subst At (ap (option_map fixed_of) shown) (does_fail fault after)) in
+    does_stop found
+
+pub known_stop : {A : Type 0} {fault : Fault} {name : ℕ} {before after : Seen} {ended : Stop} {rest : Fixed → Run MadeBlock A}
+    → Known name before (Err ended) after → Does (and_then (known fault name) rest) before (Err ended) after
+known_stop {A} {fault} {name} {before} {after} {ended} {rest} asked =
+    let found : Does (known fault name) before (Err ended) after = does_stop (does_atom asked) in
+    does_stop found

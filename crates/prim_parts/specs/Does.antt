@@ -29,6 +29,16 @@ abbrev pub pointed : {A : Type 0} → Result (Bor A) Stop → Result A Stop
 pointed (Ok found) = Ok found.now
 pointed (Err ended) = Err ended
 
+-- what two and three references point to, where they are there
+abbrev pub pointed_two : {A : Type 0} → Result (Bor A × Bor A) Stop → Result (A × A) Stop
+pointed_two (Ok found) = Ok (found.0.now, found.1.now)
+pointed_two (Err ended) = Err ended
+
+abbrev pub pointed_three : {A : Type 0} → Result (Bor A × Bor A × Bor A) Stop
+    → Result (A × (A × A)) Stop
+pointed_three (Ok found) = Ok (found.0.now, (found.1.now, found.2.now))
+pointed_three (Err ended) = Err ended
+
 -- there is an object of this name
 abbrev pub IsThere : ℕ → Seen → Type 0
 IsThere name seen = is_some (object_at name seen) ≡ true

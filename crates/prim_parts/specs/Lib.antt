@@ -1,3 +1,4 @@
 pub mod Does
 pub mod Edits
 pub mod Entering
+pub mod Walks

@@ -2,9 +2,9 @@
 ghost use Rattle.std.specs.Prelude.{◌≡◌};
 ghost use Rattle.object_programs.specs.Programs.{need, check};
 ghost use Rattle.object_programs.specs.declared.fault.Fault.TheVariants as fault;
-ghost use Rattle.prim_rules.specs.Parts.{int_in, character_in, symbol_in, reference_in, block_in, truth, one_of, no_arguments};
+ghost use Rattle.prim_rules.specs.Parts.{int_in, character_in, symbol_in, reference_in, block_in, truth, one_of, two_of, three_of, no_arguments};
 ghost use Rattle.prim_rules.specs.Receivers.{check_stored};
-ghost use Rattle.prim_parts.specs.Does.{Computes, pointed};
+ghost use Rattle.prim_parts.specs.Does.{Computes, pointed, pointed_two, pointed_three};
 
 use gem_object::{BlockRef, Value};
 use gem_value::Oid;
@@ -88,6 +88,27 @@ pub fn one_of(arguments: &[Value]) -> Result<&Value, Stop>
 {
     match arguments {
         [value] => Ok(value),
+        _ => Err(Stop::Fails(Fault::ArgumentKind)),
+    }
+}
+
+/// The two arguments; E5 where there are more or fewer.
+pub fn two_of(arguments: &[Value]) -> Result<(&Value, &Value), Stop>
+    ensures { Computes (need fault.ArgumentKind (two_of arguments.now)) (pointed_two result) }
+{
+    match arguments {
+        [first, second] => Ok((first, second)),
+        _ => Err(Stop::Fails(Fault::ArgumentKind)),
+    }
+}
+
+/// The three arguments; E5 where there are more or fewer.
+pub fn three_of(arguments: &[Value]) -> Result<(&Value, &Value, &Value), Stop>
+    ensures { Computes (need fault.ArgumentKind (three_of arguments.now))
+        (pointed_three result) }
+{
+    match arguments {
+        [first, second, third] => Ok((first, second, third)),
         _ => Err(Stop::Fails(Fault::ArgumentKind)),
     }
 }
