@@ -1,5 +1,7 @@
 -- How what code did in turn makes what a program does, where nothing local is seen or changed.
 use Rattle.std.proofs.Common.{◌≡◌, refl, sym, ap, ◌∙◌, subst, ℕ, Bool, true, false, Option, Some, None, [], option_map, Result, Ok, Err}
+use Rattle.std.specs.Result.{IsErrAnd}
+use Rattle.std.proofs.lemmas.Result.{err_from_is_err_and}
 use Rattle.gem_object.specs.declared.value.Value.{Value}
 use Rattle.gem_object.specs.declared.body.Body.{Body}
 use Rattle.gem_image.specs.Image.{Contents}
@@ -61,6 +63,15 @@ pub does_stop : {A C : Type 0} {first : Run MadeBlock C} {second : C → Run Mad
     {before after : Seen} → Does first before (Err ended) after → Does (and_then first second) before (Err ended) after
 does_stop {A} {C} {first} {second} {ended} {before} {after} one =
     ran_does one.keeps (λ local. ran_stop second (does_ran one local))
+
+-- where a `?` hands an error on: give it the two fields of `from_residual`
+pub does_exit : {A C : Type 0} {first : Run MadeBlock C} {second : C → Run MadeBlock A} {ended : Stop}
+    {before after : Seen} (result : Result A Stop) → IsErrAnd result (λ given. given ≡ ended)
+    → Does first before (Err ended) after → Does (and_then first second) before result after
+does_exit {A} {C} {first} {second} {ended} {before} {after} result exit one =
+    let given = err_from_is_err_and result exit in
+    let At : Result A Stop → Type 0 = λ found. Does (and_then first second) before found after in
+    subst At (sym (given.1 ∙ ap Err given.2)) (does_stop one)
 
 -- after an access that was allowed, with the object that was then asked for
 pub does_reached : {A : Type 0} {access : Access} {name : ℕ} {before between after : Seen} {held : Contents}

@@ -79,6 +79,7 @@ module _ (seen : Seen) (sound : IsSoundState seen) where
       same own class is of_kernel =
           let one : class ≡ own = cc in
           ap (λ (name : ℕ). is_some (kernel_body name)) one ∙ of_kernel
+
       by : (one : Value) → Some class ≡ class_of_plain one → is_some (kernel_body class) ≡ true
       by value.Nil is = same UNDEFINED_OBJECT_CLASS class is refl
       by value.False is = same FALSE_CLASS class is refl
@@ -106,7 +107,8 @@ module _ (seen : Seen) (sound : IsSoundState seen) where
       → is_known (parts_seen seen) superclass ≡ true
   superclass_known name superclass part known is up =
       let parts : Parts = parts_seen seen in
-      let line = and_parts (is_known parts name) (list_all (is_known parts) (line_of_part (parts name) (line_within parts (suc zero))))
+      let line = and_parts (is_known parts name)
+      (list_all (is_known parts) (line_of_part (parts name) (line_within parts (suc zero))))
       (line_known seen.setting seen.world sound (suc (suc zero)) name known) in
       (and_parts (is_known parts superclass) _
       (over_class (parts name) part superclass (line_within parts (suc zero)) is up line.1)).0

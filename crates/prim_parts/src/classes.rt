@@ -1,4 +1,4 @@
-//! The classes from one up to the last superclass, as the fixed parts tell them. Nothing is touched.
+//! The classes from one up to the last superclass, as their fixed parts tell. Nothing is touched.
 ghost use Rattle.std.specs.Prelude.{◌≡◌, ◌≤◌, option_map, option_copied, ◌++◌, IfOk, OnOk};
 ghost use Rattle.object_programs.specs.Programs.{part_of};
 ghost use Rattle.prim_parts.specs.Walks.{part_of_class, parts_seen, classes_up, has_class, count_names, names_of};

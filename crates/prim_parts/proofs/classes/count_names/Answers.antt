@@ -8,7 +8,8 @@ use Rattle.prim_parts.proofs.classes.count_names.Goals as goal
 pub returns-in_default : goal.returns-in_default
 returns-in_default g c =
     let parts : Parts = parts_seen (g.O.Objects.seen c.args.objects.now) in
-    let none : part_of (parts c.loop-limit.class) ≡ None = grind (arith, c.class_at.ensures, c.in_default.is, c.in_default.not-Some) in
+    let none : part_of (parts c.loop-limit.class) ≡ None =
+    grind (arith, c.class_at.ensures, c.in_default.is, c.in_default.not-Some) in
     counted_none parts c.loop-limit.limit c.loop-limit.class c.loop-limit.count
     (count_names (classes_up parts c.args.limit c.args.class)) c.loop-limit.invariant
     (up_none parts c.loop-limit.limit c.loop-limit.class none)
@@ -21,7 +22,8 @@ overflow_add-count g c =
     let counted : (c.loop-limit.count + length c.in-Some.found.now.names) + rest ≡ whole =
     counted_here parts c.loop-limit.limit c.loop-limit.class (part_of_class c.in-Some.found.now)
     (classes_over c.in-Some.found.now.superclass (classes_up parts (c.loop-limit.limit - 1)))
-    (up_some parts c.loop-limit.limit c.loop-limit.class (part_of_class c.in-Some.found.now) (sym c.in-Some.ensures) c.loop-limit-test.true)
+    (up_some parts c.loop-limit.limit c.loop-limit.class (part_of_class c.in-Some.found.now) (sym c.in-Some.ensures)
+    c.loop-limit-test.true)
     c.loop-limit.count whole c.loop-limit.invariant in
     let most : whole ≤ 200 = c.requires in
     omega (arith, counted, most, c.len-count.ensures)
@@ -29,11 +31,13 @@ overflow_add-count g c =
 pub returns-in_default-superclass : goal.returns-in_default-superclass
 returns-in_default-superclass g c =
     let parts : Parts = parts_seen (g.O.Objects.seen c.args.objects.now) in
-    let top : c.in-Some.found.now.superclass ≡ None = grind (arith, c.in_default-superclass.is, c.in_default-superclass.not-Some) in
+    let top : c.in-Some.found.now.superclass ≡ None =
+    grind (arith, c.in_default-superclass.is, c.in_default-superclass.not-Some) in
     let whole : ℕ = count_names (classes_up parts c.args.limit c.args.class) in
     let counted : (c.loop-limit.count + length c.in-Some.found.now.names) + 0 ≡ whole =
     counted_here parts c.loop-limit.limit c.loop-limit.class (part_of_class c.in-Some.found.now) []
-    (up_last parts c.loop-limit.limit c.loop-limit.class (part_of_class c.in-Some.found.now) (sym c.in-Some.ensures) c.loop-limit-test.true top)
+    (up_last parts c.loop-limit.limit c.loop-limit.class (part_of_class c.in-Some.found.now) (sym c.in-Some.ensures)
+    c.loop-limit-test.true top)
     c.loop-limit.count whole c.loop-limit.invariant in
     omega (arith, counted, c.len-count.ensures)
 
@@ -43,11 +47,12 @@ loop-limit-preserved g c =
     let whole : ℕ = count_names (classes_up parts c.args.limit c.args.class) in
     let counted = counted_here parts c.loop-limit.limit c.loop-limit.class (part_of_class c.in-Some.found.now)
     (classes_up parts (c.loop-limit.limit - 1) c.in-Some-superclass.superclass)
-    (up_more parts c.loop-limit.limit c.loop-limit.class (part_of_class c.in-Some.found.now) (sym c.in-Some.ensures) c.loop-limit-test.true
+    (up_more parts c.loop-limit.limit c.loop-limit.class (part_of_class c.in-Some.found.now) (sym c.in-Some.ensures)
+    c.loop-limit-test.true
     c.in-Some-superclass.superclass c.in-Some-superclass.is)
     c.loop-limit.count whole c.loop-limit.invariant in
-    ap (λ (more : ℕ). (c.loop-limit.count + more) + count_names (classes_up parts (c.loop-limit.limit - 1) c.in-Some-superclass.superclass))
-    c.len-count.ensures ∙ counted
+    let above : ℕ = count_names (classes_up parts (c.loop-limit.limit - 1) c.in-Some-superclass.superclass) in
+    ap (λ (more : ℕ). (c.loop-limit.count + more) + above) c.len-count.ensures ∙ counted
 
 pub returns : goal.returns
 returns g c =

@@ -10,7 +10,8 @@ use Rattle.prim_parts.proofs.classes.push_names.Goals as goal
 pub returns-in_default : goal.returns-in_default
 returns-in_default g c =
     let parts : Parts = parts_seen (g.O.Objects.seen c.args.objects.now) in
-    let none : part_of (parts c.loop-limit.class) ≡ None = grind (arith, c.class_at.ensures, c.in_default.is, c.in_default.not-Some) in
+    let none : part_of (parts c.loop-limit.class) ≡ None =
+    grind (arith, c.class_at.ensures, c.in_default.is, c.in_default.not-Some) in
     c.of.ensures ∙ gathered_none parts c.loop-limit.limit c.loop-limit.class c.loop-limit.names.items
     (names_of (classes_up parts c.args.limit c.args.class)) c.loop-limit.invariant
     (up_none parts c.loop-limit.limit c.loop-limit.class none)
@@ -18,9 +19,11 @@ returns-in_default g c =
 pub returns-in_default-superclass : goal.returns-in_default-superclass
 returns-in_default-superclass g c =
     let parts : Parts = parts_seen (g.O.Objects.seen c.args.objects.now) in
-    let top : c.in-Some.found.now.superclass ≡ None = grind (arith, c.in_default-superclass.is, c.in_default-superclass.not-Some) in
+    let top : c.in-Some.found.now.superclass ≡ None =
+    grind (arith, c.in_default-superclass.is, c.in_default-superclass.not-Some) in
     let gathered = gathered_here parts c.loop-limit.limit c.loop-limit.class (part_of_class c.in-Some.found.now) []
-    (up_last parts c.loop-limit.limit c.loop-limit.class (part_of_class c.in-Some.found.now) (sym c.in-Some.ensures) c.loop-limit-test.true top)
+    (up_last parts c.loop-limit.limit c.loop-limit.class (part_of_class c.in-Some.found.now) (sym c.in-Some.ensures)
+    c.loop-limit-test.true top)
     c.loop-limit.names.items (names_of (classes_up parts c.args.limit c.args.class)) c.loop-limit.invariant in
     c.of-in_default-superclass.ensures ∙ c.in_ok-push_copies.ensures
     ∙ ap (λ (more : List Text). c.loop-limit.names.items ++ more) c.as_slice.ensures
@@ -32,7 +35,8 @@ loop-limit-preserved g c =
     let above : List Text = names_of (classes_up parts (c.loop-limit.limit - 1) c.in-Some-superclass.superclass) in
     let gathered = gathered_here parts c.loop-limit.limit c.loop-limit.class (part_of_class c.in-Some.found.now)
     (classes_up parts (c.loop-limit.limit - 1) c.in-Some-superclass.superclass)
-    (up_more parts c.loop-limit.limit c.loop-limit.class (part_of_class c.in-Some.found.now) (sym c.in-Some.ensures) c.loop-limit-test.true
+    (up_more parts c.loop-limit.limit c.loop-limit.class (part_of_class c.in-Some.found.now) (sym c.in-Some.ensures)
+    c.loop-limit-test.true
     c.in-Some-superclass.superclass c.in-Some-superclass.is)
     c.loop-limit.names.items (names_of (classes_up parts c.args.limit c.args.class)) c.loop-limit.invariant in
     ap (λ (names : List Text). names ++ above) c.in_ok-push_copies.ensures

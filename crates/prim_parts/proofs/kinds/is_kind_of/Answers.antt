@@ -1,13 +1,11 @@
-use Rattle.std.proofs.lemmas.Result.{err_from_is_err_and}
 use Rattle.prim_rules.specs.Parts.{is_kind_of}
-use Rattle.prim_parts.proofs.Does.{does_then, does_stop}
+use Rattle.prim_parts.proofs.Does.{does_then, does_exit}
 use Rattle.prim_parts.proofs.kinds.is_kind_of.Goals as goal
 
 pub returns-in_err-own : goal.returns-in_err-own
 unfolding is_kind_of
 returns-in_err-own g c =
-    let p = err_from_is_err_and c.from_residual.result c.from_residual.ensures.1 in
-    rw (p.1, p.2) (does_stop c.in_err-own.ensures.does)
+    does_exit c.from_residual.result c.from_residual.ensures.1 c.in_err-own.ensures.does
 
 pub returns : goal.returns
 unfolding is_kind_of

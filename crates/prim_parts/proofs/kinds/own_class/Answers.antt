@@ -7,4 +7,5 @@ returns-in-Some-clause-does g c =
 
 pub returns-clause-there : goal.returns-clause-there
 returns-clause-there g c =
-    plain_known (g.O.Objects.seen c.args.objects.now) c.sound.ensures c.args.value.now c.in-Some-class_of_plain.class c.in-Some-class_of_plain.ensures
+    plain_known (g.O.Objects.seen c.args.objects.now) c.sound.ensures c.args.value.now
+    c.in-Some-class_of_plain.class c.in-Some-class_of_plain.ensures
