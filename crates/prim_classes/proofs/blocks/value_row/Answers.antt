@@ -1,0 +1,14 @@
+use Rattle.prim_classes.proofs.Steps.{steps, computes_on}
+use Rattle.prim_classes.proofs.blocks.value_row.Goals as goal
+
+pub returns-in_err-block : goal.returns-in_err-block
+returns-in_err-block c = search (steps, c.in_err-block.ensures, c.from_residual.ensures.1)
+
+pub returns-in_err-check : goal.returns-in_err-check
+returns-in_err-check c = search (steps, c.in_ok-block.ensures, c.in_err-check.ensures, c.from_residual-in_err-check.ensures.1)
+
+pub returns-in_err-check-2 : goal.returns-in_err-check-2
+returns-in_err-check-2 c = search (steps, c.in_ok-block.ensures, c.in_ok-check.ensures, c.in_err-check-2.ensures, c.from_residual-in_err-check-2.ensures.1)
+
+pub returns : goal.returns
+returns c = computes_on c.in_ok-block.ensures (computes_on c.in_ok-check.ensures (computes_on c.in_ok-check-2.ensures ?))

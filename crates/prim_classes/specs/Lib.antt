@@ -1,0 +1,3 @@
+pub mod Superclasses
+pub mod Prints
+pub mod Symbols
