@@ -6,3 +6,4 @@ pub mod Stays
 pub mod Printed
 pub mod SoleSymbols
 pub mod Copied
+pub mod Same

@@ -14,8 +14,8 @@ use Rattle.running_objects.specs.Seen.{Seen}
 use Rattle.running_objects.specs.declared.stop.Stop.{Stop}
 use Rattle.prim_parts.specs.Does.{Does}
 use Rattle.prim_parts.proofs.Does.{does_give, does_then}
-use Rattle.prim_rules.specs.Printing.{value_text, body_text, named_text, array_text, slots_text}
-use Rattle.prim_classes.specs.Prints.{print_of_value, print_of_object, has_own_text, skimmed, shortened}
+use Rattle.prim_rules.specs.Printing.{value_text, element_text, body_text, named_text, array_text, slots_text, whole_text}
+use Rattle.prim_classes.specs.Prints.{print_of_value, print_of_object, has_own_text, element_object, whole_object, skimmed, shortened}
 use Rattle.prim_rules.specs.Texts.{quoted}
 use Rattle.prim_classes.specs.declared.printing.ValuePrint.{ValuePrint}
 use Rattle.prim_classes.specs.declared.printing.ValuePrint.TheVariants as value_print
@@ -23,10 +23,10 @@ use Rattle.prim_classes.specs.declared.printing.ObjectPrint.{ObjectPrint}
 use Rattle.prim_classes.specs.declared.printing.ObjectPrint.TheVariants as object_print
 
 given : {text own : Text} (seen : Seen) → value_print.Own text ≡ value_print.Own own
-    → Does (give {B = MadeBlock} own) seen (Ok text) seen
+    → Does (give own) seen (Ok text) seen
 given {text} {own} seen is =
     let same : own ≡ text = cc in
-    let At : Text → Type 0 = λ one. Does (give {B = MadeBlock} one) seen (Ok text) seen in
+    let At : Text → Type 0 = λ one. Does (give one) seen (Ok text) seen in
     subst At (sym same) (does_give text seen)
 
 -- a value with a text of its own
@@ -53,10 +53,10 @@ value_refers (value.Ref other) name is = cc
 value_refers (value.Block block) name is = absurd (cc)
 
 object_given : {text own : Text} (seen : Seen) → object_print.Own text ≡ object_print.Own own
-    → Does (give {B = MadeBlock} own) seen (Ok text) seen
+    → Does (give own) seen (Ok text) seen
 object_given {text} {own} seen is =
     let same : own ≡ text = cc in
-    let At : Text → Type 0 = λ one. Does (give {B = MadeBlock} one) seen (Ok text) seen in
+    let At : Text → Type 0 = λ one. Does (give one) seen (Ok text) seen in
     subst At (sym same) (does_give text seen)
 
 slots_not_own : (test : Bool) (slots : List Value) (text : Text)
@@ -182,3 +182,18 @@ skims_own class (body.Counter counter) seen is = absurd (cc)
 skims_own class (body.Bag items) seen is = absurd (cc)
 skims_own class (body.RcDict pairs) seen is = absurd (cc)
 skims_own class (body.Queue queue) seen is = absurd (cc)
+
+pub value_element : {before after : Seen} {result : Result Text Stop} (one : Value) (name : ℕ)
+    → value_print.Object name ≡ print_of_value one → Does (element_object name) before result after
+    → Does (element_text one) before result after
+value_element {before} {after} {result} one name is does =
+    let At : Value → Type 0 = λ other. Does (element_text other) before result after in
+    subst At (value_refers one name is) does
+
+pub value_whole : {before after : Seen} {result : Result (Option Text) Stop} (one : Value) (name : ℕ)
+    → value_print.Object name ≡ print_of_value one → Does (shortened (whole_object name)) before result after
+    → Does (shortened (whole_text one)) before result after
+unfolding whole_text
+value_whole {before} {after} {result} one name is does =
+    let At : Value → Type 0 = λ other. Does (shortened (whole_text other)) before result after in
+    subst At (value_refers one name is) does

@@ -4,6 +4,9 @@ use Rattle.std.proofs.lemmas.Bool.{false≢true}
 use Rattle.std.proofs.lemmas.Bool.Decides.{nat_tests}
 use Rattle.std.proofs.lemmas.Grind.{common_steps}
 use Rattle.std.proofs.lemmas.List.{drop_more}
+use Rattle.std.proofs.Math.ListN.{drop_of_length-le}
+use Rattle.object_programs.specs.Programs.{check}
+use Rattle.object_programs.specs.declared.fault.Fault.{Fault}
 use Rattle.std.specs.Result.{IsErrAnd}
 use Rattle.texts.specs.Bytes.{Bytes as Text}
 use Rattle.gem_world.specs.World.{Setting}
@@ -18,7 +21,7 @@ use Rattle.running_objects.specs.declared.stop.Stop.{Stop}
 use Rattle.running_objects.specs.declared.stop.Stop.TheVariants as stop
 use Rattle.running_objects.proofs.Running.{keeps_along}
 use Rattle.prim_parts.specs.Does.{Does}
-use Rattle.prim_parts.proofs.Does.{does_then, does_stop, does_assoc, does_give}
+use Rattle.prim_parts.proofs.Does.{does_then, does_stop, does_assoc, does_give, does_fail}
 use Rattle.prim_rules.specs.Printing.{is_short, element_text, elements_text, with_elements, array_text}
 use Rattle.prim_classes.specs.Prints.{short, joined, enclosed, skimmed, shortened}
 use Rattle.prim_classes.proofs.Steps.{handed, does_given, does_no_memory}
@@ -151,33 +154,53 @@ pub enclosed_long : (text : Text) → short text ≡ None → short (enclosed te
 enclosed_long text is = long_stays text (enclosed text)
     (omega (arith, length-append (codes "#(") (text ++ codes ")"), length-append text (codes ")"))) (short_false text is)
 
+item_first : (elements : List Value) (index : ℕ) (element : Value) → index < length elements
+    → element ≡ get_or elements index element → drop index elements ≡ element ∷ drop (index + 1) elements
+item_first elements index element within at = drop_more elements index element within
+    ∙ ap (λ (one : Value). one ∷ drop (index + 1) elements) (sym at)
+
 -- The elements of an Array, one after the other.
-module _ {before between : Seen} (whole : Text) (so_far : Option Text) (is : short whole ≡ so_far) (element : Value)
-    (rest : List Value) where
+module _ {before between : Seen} (whole : Text) (so_far : Option Text) (is : short whole ≡ so_far) (elements : List Value)
+    (index : ℕ) (element : Value) (within : index < length elements) (at : element ≡ get_or elements index element) where
   pub element_step : {after : Seen} {result : Result (Option Text) Stop} (next : Option Text)
       → Does (and_then (element_text element) (λ text. give (joined so_far text))) before (Ok next) between
-      → ((more : Text) → short more ≡ next → Does (shortened (with_elements more rest)) between result after)
-      → Does (shortened (with_elements whole (element ∷ rest))) before result after
-  element_step next does goes = does_assoc (mapped_then {part = joined so_far}
-      {rest = λ (text : Text). shortened (with_elements (whole ++ (32 ∷ text)) rest)} does
+      → ((more : Text) → short more ≡ next → Does (shortened (with_elements more (drop (index + 1) elements))) between result after)
+      → Does (shortened (with_elements whole (drop index elements))) before result after
+  element_step {after} {result} next does goes =
+      let At : List Value → Type 0 = λ these. Does (shortened (with_elements whole these)) before result after in
+      subst At (sym (item_first elements index element within at)) (does_assoc (mapped_then {part = joined so_far}
+      {rest = λ (text : Text). shortened (with_elements (whole ++ (32 ∷ text)) (drop (index + 1) elements))} does
       (λ text has. goes (whole ++ (32 ∷ text))
-      (sym (joined_short whole text) ∙ ap (λ (kept : Option Text). joined kept text) is ∙ has)))
+      (sym (joined_short whole text) ∙ ap (λ (kept : Option Text). joined kept text) is ∙ has))))
 
   pub element_stop : {result : Result (Option Text) Stop} {ended : Stop}
       → Does (and_then (element_text element) (λ text. give (joined so_far text))) before (Err ended) between
       → IsErrAnd result (λ given. given ≡ ended)
-      → Does (shortened (with_elements whole (element ∷ rest))) before result between
-  element_stop does exit = does_assoc (mapped_stop {part = joined so_far}
-      {rest = λ (text : Text). shortened (with_elements (whole ++ (32 ∷ text)) rest)} does exit)
+      → Does (shortened (with_elements whole (drop index elements))) before result between
+  element_stop {result} {ended} does exit =
+      let At : List Value → Type 0 = λ these. Does (shortened (with_elements whole these)) before result between in
+      subst At (sym (item_first elements index element within at)) (does_assoc (mapped_stop {part = joined so_far}
+      {rest = λ (text : Text). shortened (with_elements (whole ++ (32 ∷ text)) (drop (index + 1) elements))} does exit))
 
-pub elements_done : (whole : Text) (so_far : Option Text) (seen : Seen) → short whole ≡ so_far
-    → Does (shortened (with_elements whole [])) seen (Ok so_far) seen
-elements_done whole so_far seen is = does_then (does_give whole seen) (does_given (sym is))
+pub elements_done : (whole : Text) (so_far : Option Text) (elements : List Value) (index : ℕ) (seen : Seen)
+    → short whole ≡ so_far → length elements ≤ index
+    → Does (shortened (with_elements whole (drop index elements))) seen (Ok so_far) seen
+elements_done whole so_far elements index seen is all =
+    let At : List Value → Type 0 = λ these. Does (shortened (with_elements whole these)) seen (Ok so_far) seen in
+    subst At (sym (drop_of_length-le elements all)) (does_then (does_give whole seen) (does_given (sym is)))
 
-pub item_first : (elements : List Value) (index : ℕ) (item : Value) → index < length elements
-    → item ≡ get_or elements index item → drop index elements ≡ item ∷ drop (index + 1) elements
-item_first elements index item within is =
-    drop_more elements index item within ∙ ap (λ (one : Value). one ∷ drop (index + 1) elements) (sym is)
+-- the print text, by what was kept of it
+pub print_some : (whole text : Text) (fault : Fault) (seen : Seen) → short whole ≡ Some text
+    → Does (and_then (check fault (is_short whole)) (λ short. give whole)) seen (Ok text) seen
+print_some whole text fault seen is =
+    let At : Bool → Type 0 = λ test. Does (and_then (check fault test) (λ short. give whole)) seen (Ok text) seen in
+    subst At (sym (short_true whole text is)) (does_then (does_give tt seen) (does_given (sym (short_is whole text is))))
+
+pub print_none : (whole : Text) (fault : Fault) (seen : Seen) → short whole ≡ None
+    → Does (and_then (check fault (is_short whole)) (λ short. give whole)) seen (Err (stop.Fails fault)) seen
+print_none whole fault seen is =
+    let At : Bool → Type 0 = λ test. Does (and_then (check fault test) (λ short. give whole)) seen (Err (stop.Fails fault)) seen in
+    subst At (sym (short_false whole is)) (does_stop (does_fail fault seen))
 
 -- an Array, by its elements
 module _ {before after : Seen} (elements : List Value) where
@@ -204,3 +227,10 @@ module _ {before after : Seen} (elements : List Value) where
       → Does (shortened (elements_text elements)) before (Err ended) after → IsErrAnd result (λ given. given ≡ ended)
       → Does (shortened (array_text elements)) before result after
   array_stop does exit = does_assoc (mapped_stop {part = short} {rest = λ (text : Text). shortened (give (enclosed text))} does exit)
+
+pub elements_split : {before after : Seen} {result : Result (Option Text) Stop} (elements : List Value) (first : Value)
+    (rest : List Value) → elements ≡ first ∷ rest → Does (shortened (elements_text (first ∷ rest))) before result after
+    → Does (shortened (elements_text elements)) before result after
+elements_split {before} {after} {result} elements first rest is does =
+    let At : List Value → Type 0 = λ these. Does (shortened (elements_text these)) before result after in
+    subst At (sym is) does

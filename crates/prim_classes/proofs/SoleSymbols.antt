@@ -1,13 +1,16 @@
 -- Whether a symbol is printed without quotes, by the tokens of its text.
 use Rattle.std.proofs.Common.{◌≡◌, refl, sym, ap, ◌∙◌, subst, ℕ, zero, suc, ◌+◌, ◌*◌, ◌<◌, ◌≤◌, nat_eq, nat_le, Bool, true, false, ◌&&◌, cond, ◌==◌, List, [], ◌∷◌, length, drop, Option, Some, None, arith}
-use Rattle.std.proofs.lemmas.Bool.{false≢true}
+use Rattle.std.proofs.Math.ListN.{drop_of_length-le}
 use Rattle.std.proofs.lemmas.Bool.Decides.{nat_tests}
 use Rattle.texts.specs.Bytes.{Bytes}
 use Rattle.texts.specs.NameBytes.{starts_name}
-use Rattle.st_grammar.specs.Tokens.{Kind, symbol, Token, TokenRule, Piece, end, gap, token, bad, piece, Lexes, at_end, after_gap, after_token, Stops, here, past_gap, past_token, symbol_at, symbol_name, sized, binary_len, quoted_symbol, string_end, string_bytes, later, is_second, is_operator, begins, begins_with, p2, p3, open_array}
+use Rattle.st_grammar.specs.Tokens.{Kind, symbol, Token, TokenRule, Piece, end, gap, token, bad, piece, Lexes, at_end, after_gap, after_token, Stops, here, past_gap, past_token, symbol_at, symbol_name, token_rule_number, sized, binary_len, quoted_symbol, string_end, string_bytes, later, is_second, is_operator, begins, begins_with, p2, p3, open_array}
 use Rattle.st_lexer.proofs.PieceCuts.{solid_symbol, no_gap}
 use Rattle.st_lexer.proofs.Sizes.{on_cond}
 use Rattle.profile.specs.declared.limits.TheConstants.{SYMBOL_LIMIT}
+use Rattle.st_lexer.specs.Views.{IsFault}
+use Rattle.st_lexer.specs.declared.kinds.LexFault.{LexFault}
+use Rattle.st_lexer.specs.declared.kinds.LexFault.TheVariants.{Bad}
 use Rattle.prim_rules.specs.Texts.{is_symbol_of, is_symbol_token}
 use Rattle.prim_classes.specs.Symbols.{is_symbol, begins_with_symbol}
 
@@ -35,9 +38,6 @@ no_stop (here {r = r} is) none = let same : end ≡ bad r = sym (ap piece none) 
 no_stop (past_gap {n = n} is rest) none = let same : end ≡ gap n = sym (ap piece none) ∙ is in cc
 no_stop (past_token {n = n} {k = k} is rest) none = let same : end ≡ token k n = sym (ap piece none) ∙ is in cc
 
-none_left : (n : ℕ) (whole : Bytes) → length whole ≤ n → drop n whole ≡ []
-none_left n whole all = grind (arith, nat_tests)
-
 stopped : {at place : ℕ} {whole : Bytes} {r : TokenRule} (size : ℕ) → size ≡ length whole → Stops at whole place r
     → is_symbol_of size (piece whole) ≡ false
 stopped size is (here same) = ap (is_symbol_of size) same
@@ -48,7 +48,7 @@ stopped {whole = whole} size is (past_token {n = n} {k = k} same rest) =
     by : (a b : Bool) → nat_eq n size ≡ b → (a && b) ≡ false
     by false b e = refl
     by true false e = refl
-    by true true e = absurd (no_stop rest (none_left n whole (grind (arith, nat_tests))))
+    by true true e = absurd (no_stop rest (drop_of_length-le whole (grind (arith, nat_tests))))
 
 pub by_fault : (text : Bytes) (place : ℕ) (r : TokenRule) → Stops 0 (35 ∷ text) place r → is_symbol_token text ≡ false
 unfolding is_symbol_token
@@ -128,3 +128,18 @@ too_long (bad r) size small long = refl
 pub by_length : (text : Bytes) → 2003 < length text → is_symbol_token text ≡ false
 unfolding is_symbol_token
 by_length text long = too_long (symbol_at text) (1 + length text) (small_symbol text) (omega arith)
+
+-- what the lexer answers of `#` and the text
+pub tokens_tell : (text : Bytes) (ts : List Token) (whole : Bytes) {told : Bool} (size : ℕ) → size ≡ 1 + length text
+    → whole ≡ 35 ∷ text → Lexes 0 whole ts → told ≡ begins_with_symbol size ts → told ≡ is_symbol_token text
+tokens_tell text ts whole {told} size is same lexes tells =
+    let At : Bytes → Type 0 = λ other. Lexes 0 other ts in
+    tells ∙ by_tokens text ts size is (subst At same lexes)
+
+pub fault_tells : (text whole : Bytes) (fault : LexFault) (place rule : ℕ) → fault ≡ Bad place rule → whole ≡ 35 ∷ text
+    → IsFault whole fault → false ≡ is_symbol_token text
+fault_tells text whole fault place rule is same found =
+    let Of : LexFault → Type 0 = λ one. IsFault whole one in
+    let given : IsFault whole (Bad place rule) = subst Of is found in
+    let At : Bytes → Type 0 = λ other. Stops 0 other place given.0 in
+    sym (by_fault text place given.0 (subst At same given.2))

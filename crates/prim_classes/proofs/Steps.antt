@@ -99,11 +99,16 @@ computes_no_memory {A} {program} {result} is =
     handed (λ given. Computes program given) result stop.NoMemory is (record { ends = λ setting state. tt })
 
 pub does_given : {A : Type 0} {answer given : A} {seen : Seen} → given ≡ answer
-    → Does (give {B = MadeBlock} answer) seen (Ok given) seen
+    → Does (give answer) seen (Ok given) seen
 does_given {A} {answer} {given} {seen} is =
-    let At : A → Type 0 = λ one. Does (give {B = MadeBlock} one) seen (Ok given) seen in
+    let At : A → Type 0 = λ one. Does (give one) seen (Ok given) seen in
     subst At is (does_give given seen)
 
-pub ruleset steps = (does_given, does_stop, does_then, computes_end, computes_on, computes_stop, computes_then, does_give, does_fail,
+pub computes_given : {A : Type 0} {answer given : A} → given ≡ answer → Computes (give answer) (Ok given)
+computes_given {A} {answer} {given} is =
+    let At : A → Type 0 = λ one. Computes (give one) (Ok given) in
+    subst At is (computes_give given)
+
+pub ruleset steps = (computes_given, does_given, does_stop, does_then, computes_end, computes_on, computes_stop, computes_then, does_give, does_fail,
     computes_give, computes_fail, does_reached, access_stops, does_stops, computes_stops, computes_ends, access_stopped,
     does_no_memory, computes_no_memory, does_atom)
