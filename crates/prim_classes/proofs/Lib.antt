@@ -7,3 +7,6 @@ pub mod Printed
 pub mod SoleSymbols
 pub mod Copied
 pub mod Same
+pub mod Moves
+pub mod Created
+pub mod Counts

@@ -1,3 +1,5 @@
 pub mod Superclasses
 pub mod Prints
 pub mod Symbols
+pub mod Segments
+pub mod Creation

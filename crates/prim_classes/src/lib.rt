@@ -4,9 +4,11 @@
 
 mod any;
 mod blocks;
+mod creation;
 mod growing;
 mod kind_of;
 mod printing;
+mod segments;
 mod words;
 
 pub use printing::{print_text, short_text};
