@@ -1,2 +1,5 @@
 pub mod Does
+pub mod Sums
+pub mod Changes
+pub mod Replaced
 pub mod Walks
