@@ -1,22 +1,20 @@
 -- How what code did in turn makes what a program does, where nothing local is seen or changed.
-use Rattle.std.proofs.Common.{◌≡◌, refl, sym, ap, ◌∙◌, subst, ℕ, Bool, true, false, Option, Some, None, [], option_map, Result, Ok, Err}
+use Rattle.std.proofs.Common.{◌≡◌, refl, sym, ap, ◌∙◌, subst, ℕ, Option, Some, None, [], option_map, Result, Ok, Err}
 use Rattle.std.specs.Result.{IsErrAnd}
 use Rattle.std.proofs.lemmas.Result.{err_from_is_err_and}
-use Rattle.gem_object.specs.declared.value.Value.{Value}
-use Rattle.gem_object.specs.declared.body.Body.{Body}
 use Rattle.gem_image.specs.Image.{Contents}
 use Rattle.gem_world.specs.World.{Setting}
-use Rattle.gem_world.specs.Access.{Access, a_read, a_write}
+use Rattle.gem_world.specs.Access.{Access}
 use Rattle.tree_meaning.specs.Place.{MadeBlock}
 use Rattle.object_programs.specs.Local.{Local}
-use Rattle.object_programs.specs.Atom.{Atom, Ask, Kind, Who, Put}
+use Rattle.object_programs.specs.Atom.{Atom, Ask, Who}
 use Rattle.object_programs.specs.Fixed.{Fixed, fixed_of}
-use Rattle.object_programs.specs.Run.{Run, give, fail, atom, and_then, Ending, gives, returns, fails, State, Outcome, onward, perform}
-use Rattle.object_programs.specs.Programs.{need, check, known}
+use Rattle.object_programs.specs.Run.{Run, give, fail, atom, and_then, Ending, gives, returns, fails, Outcome, onward, perform}
+use Rattle.object_programs.specs.Programs.{need, known}
 use Rattle.object_programs.specs.declared.fault.Fault.{Fault}
 use Rattle.running_objects.specs.Seen.{Seen, object_at, with_local, Keeps}
 use Rattle.running_objects.specs.Ran.{EndsSo, Ran}
-use Rattle.running_objects.specs.Acted.{Acted, Reached, Known, Edited}
+use Rattle.running_objects.specs.Acted.{Acted, Reached, Known}
 use Rattle.running_objects.specs.declared.stop.Stop.{Stop}
 use Rattle.running_objects.specs.declared.stop.Stop.TheVariants as stop
 use Rattle.running_objects.proofs.Running.{keeps_same, acted_says, acted_ran, ran_then, ran_stop, seen_twice}

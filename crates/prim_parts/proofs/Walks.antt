@@ -1,6 +1,6 @@
 -- What is fixed of the classes above one that is there, where all objects that are seen are sound.
-use Rattle.std.proofs.Common.{◌≡◌, refl, sym, ap, ◌∙◌, subst, ℕ, zero, suc, ◌+◌, ◌-◌, ◌^◌, ◌<◌, ◌≤◌, Bool, true, false, ◌||◌, cond, nat_eq, nat_lt, nat_le, length, Option, Some, None, List, [], ◌∷◌, ◌++◌, is_some, option_map, Result, Ok, arith}
-use Rattle.std.proofs.lemmas.Bool.{false≢true, and_parts, and_from, leb-true, eq-eqb}
+use Rattle.std.proofs.Common.{◌≡◌, refl, sym, ap, ◌∙◌, subst, ℕ, zero, suc, ◌+◌, ◌-◌, ◌^◌, ◌<◌, ◌≤◌, Bool, true, false, ◌||◌, nat_eq, nat_lt, length, Option, Some, None, List, [], ◌∷◌, ◌++◌, is_some, option_map, Result, Ok, arith}
+use Rattle.std.proofs.lemmas.Bool.{false≢true, and_parts, and_from, leb-true}
 use Rattle.std.proofs.lemmas.List.{length-append, append-nil, append_assoc}
 use Rattle.std.proofs.lemmas.List.Sums.{sum_by-cons}
 use Rattle.std.specs.List.{list_all}
@@ -16,11 +16,11 @@ use Rattle.prim_rules.specs.Parts.{class_of_plain, class_of_reference, class_of_
 use Rattle.prim_rules.specs.Classes.{all_names}
 use Rattle.gem_object.specs.References.{reference_of}
 use Rattle.tree_meaning.specs.Place.{MadeBlock}
-use Rattle.object_programs.specs.Fixed.{ClassPart, class_part, Fixed, fixed_of, fixed_by}
+use Rattle.object_programs.specs.Fixed.{ClassPart, class_part, Fixed, fixed_of}
 use Rattle.object_programs.specs.Guard.{Parts, holds_of, is_there, is_known, is_segment_at, accepts, named_fit, kernel_fits, names_above, names_of_class, names_of_part, names_within, names_at, chain_limit, line_above, line_of_class, line_of_part, line_within, are_few, place_fits, fits}
 use Rattle.object_programs.specs.Atom.{Kind}
-use Rattle.object_programs.specs.Laws.{AreSound, answered}
-use Rattle.object_programs.specs.Run.{Run, give, atom, and_then}
+use Rattle.object_programs.specs.Laws.{answered}
+use Rattle.object_programs.specs.Run.{Run, atom}
 use Rattle.object_programs.specs.Programs.{part_of, rest_above, line_of, classes_within, classes_above}
 use Rattle.running_objects.specs.Seen.{Seen, object_at, IsSoundState}
 use Rattle.running_objects.proofs.Running.{acted_says}

@@ -3,7 +3,7 @@ use Rattle.std.specs.Prelude.{◌≡◌, ◌<◌, ℕ, length, map, List, Some, 
 use Rattle.std.specs.List.{list_all}
 use Rattle.gem_object.specs.declared.value.Value.{Value}
 use Rattle.gem_object.specs.declared.object.Object.{Object}
-use Rattle.gem_image.specs.Image.{contents_of}
+use Rattle.gem_image.specs.Image.{Contents, contents_of}
 use Rattle.gem_world.specs.World.{next_name}
 use Rattle.object_programs.specs.Budget.{is_within_limits}
 use Rattle.object_programs.specs.declared.limits.TheConstants.{COUNTER_LIMIT}
@@ -12,6 +12,15 @@ use Rattle.prim_rules.specs.Making.{Entered, sized_objects, make_and_enter}
 use Rattle.running_objects.specs.Seen.{Seen, object_at}
 use Rattle.running_objects.specs.declared.stop.Stop.{Stop}
 use Rattle.prim_parts.specs.Does.{Does}
+use Rattle.gem_object.specs.Edits.{with_value_at}
+use Rattle.gem_object.specs.declared.value.Value.TheVariants.{Ref}
+use Rattle.gem_world.specs.Changes.{with_body}
+use Rattle.tree_meaning.specs.Place.{MadeBlock}
+use Rattle.object_programs.specs.Atom.{Make, Put}
+use Rattle.object_programs.specs.Run.{Run, give, atom, and_then}
+use Rattle.object_programs.specs.Programs.{check}
+use Rattle.object_programs.specs.declared.fault.Fault.TheVariants as fault
+use Rattle.prim_rules.specs.Dictionaries.{pair_growth}
 
 -- a name is left to be drawn
 abbrev pub HasName : Seen → Type 0
@@ -39,3 +48,27 @@ MadeAndEntered objects chosen key dictionary before result after = (entered : En
     → AreEntered entered objects chosen key before → receiver.name ≡ dictionary
     → object_at dictionary before ≡ Some receiver.object
     → Does (make_and_enter entered receiver) before result after
+
+-- the space that the pair takes, where the dictionary with it is within the limits; else E17
+abbrev pub entry_room : (key : Value) (chosen : ℕ) → Contents → Run MadeBlock ℕ
+entry_room key chosen object =
+    and_then (check fault.ObjectTooLarge
+    (is_within_limits (with_body (with_value_at key (Ref chosen) object.body) object))) (λ small.
+    give (pair_growth key object.body))
+
+-- an object that was made is put into a dictionary
+abbrev pub put_entry : (dictionary : ℕ) (key : Value) → Contents → (chosen : ℕ) → Run MadeBlock Value
+put_entry dictionary key object chosen =
+    and_then (atom (Put dictionary (with_value_at key (Ref chosen) object.body))) (λ entry.
+    give (Ref chosen))
+
+-- a call made objects at the names that are drawn next, and put one into the dictionary
+abbrev pub Enters : List Object → (chosen : ℕ) → (key : Value) → (dictionary : ℕ) → Seen
+    → Result Value Stop → Seen → Type 0
+Enters objects chosen key dictionary before result after = (objects_at : ℕ → List Contents)
+    → (chosen_of : ℕ → ℕ) → (object : Contents)
+    → objects_at (next_name before.setting before.world) ≡ map contents_of objects
+    → chosen_of (next_name before.setting before.world) ≡ chosen
+    → object_at dictionary before ≡ Some object
+    → Does (and_then (atom (Make objects_at)) (λ first. put_entry dictionary key object (chosen_of first)))
+    before result after

@@ -1,14 +1,20 @@
 //! Edits of objects that were written: each tests first that the object stays within the limits of
 //! objects (E17), and then takes the space by which it grows (E15). They take constant time, but
 //! for `replace_body` and `update`, and for slots that move up or down.
-ghost use Rattle.std.specs.Prelude.{◌≡◌, true};
+ghost use Rattle.std.specs.Prelude.{◌≡◌, true, Some, None, IfOk, IsErrOf};
 ghost use Rattle.gem_object.specs.Edits.{with_slot, with_slot_more, without_slot, with_byte, with_value_at, without_value_at};
+ghost use Rattle.gem_update.specs.Update.{updated};
 ghost use Rattle.object_programs.specs.Methods.{methods_fit};
 ghost use Rattle.prim_rules.specs.Dictionaries.{pair_growth};
+ghost use Rattle.prim_parts.specs.Changes.{TellsLimits, room_where, limits_of_update};
+ghost use Rattle.prim_parts.specs.Does.{Does, Computes};
 ghost use Rattle.prim_parts.specs.Edits.{Replaces, Updates};
 
+use crate::change::{
+    Change, is_small, pair_put, pair_removed, slot_inserted, slot_removed, slot_replaced,
+};
 use gem_object::{Body, Value};
-use gem_update::Update;
+use gem_update::{Update, UpdateFault, update_body};
 use gem_value::Oid;
 use object_programs::Fault;
 use running_objects::{Objects, Stop};
@@ -23,7 +29,13 @@ pub fn replace_slot<O: Objects>(
     ensures { Replaces (λ body. 0) name (with_slot at value) (O.seen objects.old) result
         (O.seen objects.new) }
 {
-    Err(Stop::NoMemory)
+    let Some(object) = objects.object(name) else {
+        return Ok(());
+    };
+    let change = slot_replaced(&object.body, at, &value);
+    let small = stays_small(objects, name, change);
+    make_room(objects, small, 0)?;
+    objects.set_slot(name, at, value)
 }
 
 /// A slot with this value comes at a place, and behind the last slot at the end; it takes one of
@@ -37,7 +49,13 @@ pub fn insert_slot<O: Objects>(
     ensures { Replaces (λ body. 1) name (with_slot_more at value) (O.seen objects.old) result
         (O.seen objects.new) }
 {
-    Err(Stop::NoMemory)
+    let Some(object) = objects.object(name) else {
+        return Ok(());
+    };
+    let change = slot_inserted(&object.body, at, &value);
+    let small = stays_small(objects, name, change);
+    make_room(objects, small, 1)?;
+    objects.insert_slot(name, at, value)
 }
 
 /// The slot at a place goes away. Where there is no such slot nothing changes.
@@ -45,20 +63,24 @@ pub fn remove_slot<O: Objects>(objects: &mut O, name: Oid, at: usize) -> Result<
     ensures { Replaces (λ body. 0) name (without_slot at) (O.seen objects.old) result
         (O.seen objects.new) }
 {
-    Err(Stop::NoMemory)
+    let Some(object) = objects.object(name) else {
+        return Ok(());
+    };
+    let change = slot_removed(&object.body, at);
+    let small = stays_small(objects, name, change);
+    make_room(objects, small, 0)?;
+    objects.remove_slot(name, at)
 }
 
 /// A byte comes at a place. Where there is no such place nothing changes.
-pub fn replace_byte<O: Objects>(
-    objects: &mut O,
-    name: Oid,
-    at: usize,
-    byte: u8,
-) -> Result<(), Stop>
+pub fn replace_byte<O: Objects>(objects: &mut O, name: Oid, at: usize, byte: u8) -> Result<(), Stop>
     ensures { Replaces (λ body. 0) name (with_byte at byte) (O.seen objects.old) result
         (O.seen objects.new) }
 {
-    Err(Stop::NoMemory)
+    let change = Change::none();
+    let small = stays_small(objects, name, change);
+    make_room(objects, small, 0)?;
+    objects.set_byte(name, at, byte)
 }
 
 /// A value comes at a key of a dictionary; a key that wasn't there takes two of space.
@@ -71,7 +93,14 @@ pub fn put_pair<O: Objects>(
     ensures { Replaces (pair_growth key) name (with_value_at key value) (O.seen objects.old)
         result (O.seen objects.new) }
 {
-    Err(Stop::NoMemory)
+    let Some(object) = objects.object(name) else {
+        return Ok(());
+    };
+    let growth = pair_growth(&object.body, &key);
+    let change = pair_put(&object.body, &key, &value);
+    let small = stays_small(objects, name, change);
+    make_room(objects, small, growth)?;
+    objects.put_at(name, key, value)
 }
 
 /// A key's pair goes away from a dictionary.
@@ -79,7 +108,13 @@ pub fn remove_pair<O: Objects>(objects: &mut O, name: Oid, key: &Value) -> Resul
     ensures { Replaces (λ body. 0) name (without_value_at key.now) (O.seen objects.old) result
         (O.seen objects.new) }
 {
-    Err(Stop::NoMemory)
+    let Some(object) = objects.object(name) else {
+        return Ok(());
+    };
+    let change = pair_removed(&object.body, key);
+    let small = stays_small(objects, name, change);
+    make_room(objects, small, 0)?;
+    objects.remove_at(name, key)
 }
 
 /// A body takes the place of the old one, and takes so much more space. The time is that of the
@@ -94,7 +129,8 @@ pub fn replace_body<O: Objects>(
     ensures { Replaces (λ old. growth) name (λ old. body) (O.seen objects.old) result
         (O.seen objects.new) }
 {
-    Err(Stop::NoMemory)
+    make_room(objects, is_small(&body), growth)?;
+    objects.put(name, body)
 }
 
 /// A reduced-conflict object that was written is updated, and the update noted; it takes so much
@@ -110,5 +146,66 @@ pub fn update<O: Objects>(
     ensures { Updates refusal growth name change (O.seen objects.old) result
         (O.seen objects.new) }
 {
-    Err(Stop::NoMemory)
+    let Some(object) = objects.object(name) else {
+        return Ok(());
+    };
+    let small = stays_small_updated(&object.body, &change, refusal)?;
+    make_room(objects, small, growth)?;
+    objects.note(name, change)
+}
+
+// Whether the object of this name is within the limits of objects after the change.
+pub(crate) fn stays_small<O: Objects>(objects: &O, name: Oid, change: Change) -> bool
+    ensures { TellsLimits change name (O.seen objects.now) result }
+{
+    objects.sound();
+    let Some(object) = objects.object(name) else {
+        return true;
+    };
+    let Some(bytes) = objects.stored_bytes(name) else {
+        return true;
+    };
+    change.stays_within(object.body.slots(), bytes)
+}
+
+// E17 unless the object will be small enough, and then takes the space by which it grows (E15).
+fn make_room<O: Objects>(objects: &mut O, is_small: bool, growth: u64) -> Result<(), Stop>
+    ensures { Does (room_where is_small growth) (O.seen objects.old) result (O.seen objects.new) }
+{
+    if !is_small {
+        return Err(Stop::Fails(Fault::ObjectTooLarge));
+    }
+    objects.room(growth)
+}
+
+// The space that a put at the key takes.
+pub(crate) fn pair_growth(body: &Body, key: &Value) -> u64
+    ensures { result ≡ pair_growth key.now body.now }
+{
+    match body.value_at(key) {
+        Some(_) => 0,
+        None => 2,
+    }
+}
+
+// Whether a body is within the limits before the update and after it; the error where the update is
+// refused.
+fn stays_small_updated(body: &Body, change: &Update, refusal: Fault) -> Result<bool, Stop>
+    ensures { Computes (limits_of_update refusal change.now body.now) result }
+{
+    match body_updated(body, change) {
+        Ok(after) => Ok(is_small(body) && is_small(&after)),
+        Err(UpdateFault::Refused) => Err(Stop::Fails(refusal)),
+        Err(UpdateFault::NoMemory) => Err(Stop::NoMemory),
+    }
+}
+
+// The body after the update.
+fn body_updated(body: &Body, change: &Update) -> Result<Body, UpdateFault>
+    ensures updated { IfOk result (λ after. updated change.now body.now ≡ Some after) }
+    ensures refused { IsErrOf result UpdateFault.Refused → updated change.now body.now ≡ None }
+{
+    let mut after = body.clone()?;
+    update_body(&mut after, change.clone()?)?;
+    Ok(after)
 }

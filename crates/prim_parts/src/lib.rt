@@ -3,6 +3,7 @@
 #![tactic(auto)]
 
 mod arguments;
+mod change;
 mod classes;
 mod edits;
 mod entering;

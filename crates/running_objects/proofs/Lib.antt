@@ -1,3 +1,4 @@
 pub mod Running
 pub mod Edits
 pub mod Puts
+pub mod Bytes

@@ -1,4 +1,4 @@
-use Rattle.std.proofs.Common.{◌≡◌, ◌≤◌, ◌+◌, ◌-◌, ◌∙◌, sym, ap, subst, ℕ, length, None, [], arith}
+use Rattle.std.proofs.Common.{◌≡◌, ◌≤◌, ◌+◌, ◌-◌, ◌∙◌, sym, ap, ℕ, length, None, [], arith}
 use Rattle.object_programs.specs.Guard.{Parts}
 use Rattle.object_programs.specs.Programs.{part_of}
 use Rattle.prim_parts.specs.Walks.{part_of_class, parts_seen, classes_up, classes_over, count_names}

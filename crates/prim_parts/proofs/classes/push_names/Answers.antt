@@ -21,13 +21,17 @@ returns-in_default-superclass g c =
     let parts : Parts = parts_seen (g.O.Objects.seen c.args.objects.now) in
     let top : c.in-Some.found.now.superclass ≡ None =
     grind (arith, c.in_default-superclass.is, c.in_default-superclass.not-Some) in
-    let gathered = gathered_here parts c.loop-limit.limit c.loop-limit.class (part_of_class c.in-Some.found.now) []
+    let own : List Text = c.in-Some.found.now.names in
+    let whole : List Text = names_of (classes_up parts c.args.limit c.args.class) in
+    let gathered : (c.loop-limit.names.items ++ own) ++ [] ≡ whole =
+    gathered_here parts c.loop-limit.limit c.loop-limit.class (part_of_class c.in-Some.found.now) []
     (up_last parts c.loop-limit.limit c.loop-limit.class (part_of_class c.in-Some.found.now) (sym c.in-Some.ensures)
     c.loop-limit-test.true top)
-    c.loop-limit.names.items (names_of (classes_up parts c.args.limit c.args.class)) c.loop-limit.invariant in
-    c.of-in_default-superclass.ensures ∙ c.in_ok-push_copies.ensures
-    ∙ ap (λ (more : List Text). c.loop-limit.names.items ++ more) c.as_slice.ensures
-    ∙ sym (append-nil (c.loop-limit.names.items ++ c.in-Some.found.now.names)) ∙ gathered
+    c.loop-limit.names.items whole c.loop-limit.invariant in
+    let more : c.push_copies.new.names.items ≡ c.loop-limit.names.items ++ own =
+    c.in_ok-push_copies.ensures ∙ ap (λ (more : List Text). c.loop-limit.names.items ++ more) c.as_slice.ensures in
+    let pushed : c.push_copies.new.names.items ≡ whole = more ∙ sym (append-nil (c.loop-limit.names.items ++ own)) ∙ gathered in
+    c.of-in_default-superclass.ensures ∙ pushed
 
 pub loop-limit-preserved : goal.loop-limit-preserved
 loop-limit-preserved g c =

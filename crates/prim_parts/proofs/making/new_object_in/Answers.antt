@@ -1,4 +1,4 @@
-use Rattle.std.proofs.Common.{◌≡◌, sym, ap, ℕ, List, [], ◌∷◌, map}
+use Rattle.std.proofs.Common.{sym, ap, ℕ, List, [], ◌∷◌, map}
 use Rattle.gem_object.specs.declared.value.Value.TheVariants as value
 use Rattle.gem_image.specs.Image.{Contents, contents_of}
 use Rattle.prim_rules.specs.Parts.{new_object_in}

@@ -1,0 +1,24 @@
+use Rattle.std.proofs.Common.{refl, sym}
+use Rattle.std.proofs.lemmas.Result.{err_from_is_err_and}
+use Rattle.gem_object.specs.Edits.{with_slot_more}
+use Rattle.gem_image.specs.Image.{contents_of}
+use Rattle.prim_parts.proofs.Replaced.{replaced_stop, replaced_then}
+use Rattle.prim_parts.proofs.edits.insert_slot.Goals as goal
+
+pub returns-in_err-make_room : goal.returns-in_err-make_room
+returns-in_err-make_room g c =
+    let p = err_from_is_err_and c.from_residual.result c.from_residual.ensures.1 in
+    rw (p.1, p.2)
+    (replaced_stop (λ body. 1) c.args.name (with_slot_more c.args.at c.args.value) (contents_of c.in-Some.object.now)
+    c.stays_small-small.result 1 c.in-Some.ensures
+    (c.stays_small-small.ensures (contents_of c.in-Some.object.now) (with_slot_more c.args.at c.args.value c.in-Some.object.now.body)
+    (sym c.in-Some.ensures) c.slot_inserted-change.ensures)
+    refl c.in_err-make_room.ensures)
+
+pub returns : goal.returns
+returns g c =
+    replaced_then (λ body. 1) c.args.name (with_slot_more c.args.at c.args.value) (contents_of c.in-Some.object.now)
+    c.stays_small-small.result 1 c.in-Some.ensures
+    (c.stays_small-small.ensures (contents_of c.in-Some.object.now) (with_slot_more c.args.at c.args.value c.in-Some.object.now.body)
+    (sym c.in-Some.ensures) c.slot_inserted-change.ensures)
+    refl c.in_ok-make_room.ensures c.insert_slot.ensures

@@ -1,0 +1,56 @@
+-- What an edit changes of the slots and of the bytes of a body, and the limits of objects.
+use Rattle.std.specs.Prelude.{◌≡◌, ◌≤◌, ◌+◌, ◌-◌, ◌^◌, ℕ, min, Bool, ◌&&◌, nat_le, Option, Some, Result}
+use Rattle.gem_object.specs.Slots.{slots_of}
+use Rattle.gem_object.specs.Sizes.{fields_size}
+use Rattle.gem_object.specs.declared.body.Body.{Body}
+use Rattle.gem_update.specs.Update.{updated}
+use Rattle.gem_update.specs.declared.update.Update.{Update}
+use Rattle.gem_image.specs.Image.{Contents}
+use Rattle.gem_world.specs.Changes.{with_body}
+use Rattle.tree_meaning.specs.Place.{MadeBlock}
+use Rattle.object_programs.specs.Atom.{Room}
+use Rattle.object_programs.specs.Budget.{is_within_limits}
+use Rattle.object_programs.specs.Programs.{need, check}
+use Rattle.object_programs.specs.Run.{Run, give, atom, and_then}
+use Rattle.object_programs.specs.declared.fault.Fault.{Fault}
+use Rattle.object_programs.specs.declared.fault.Fault.TheVariants as fault
+use Rattle.object_programs.specs.declared.limits.TheConstants.{SLOTS_LIMIT, BYTES_LIMIT}
+use Rattle.running_objects.specs.Seen.{Seen, object_at}
+use Rattle.prim_parts.specs.declared.change.Change.{Change}
+
+-- one number is another one after so much went of it and so much came
+pub record Shifts (old freed taken new : ℕ) : Type 0 where
+  pub had : freed ≤ old
+  pub is : new + freed ≡ old + taken
+
+-- The change says what comes between two bodies, where its bytes stay at 2^64 - 1 once they are
+-- there.
+pub record Changes (change : Change) (old new : Body) : Type 0 where
+  pub slots : Shifts (slots_of old) change.slots_freed change.slots_taken (slots_of new)
+  pub few : change.slots_freed ≤ 2
+  pub freed : ℕ
+  pub taken : ℕ
+  pub bytes : Shifts (fields_size old) freed taken (fields_size new)
+  pub freed_is : change.bytes_freed ≡ min freed (2 ^ 64 - 1)
+  pub taken_is : change.bytes_taken ≡ min taken (2 ^ 64 - 1)
+
+-- whether an object with this body is within the limits of objects
+abbrev pub is_small : Body → Bool
+is_small body = nat_le (slots_of body) SLOTS_LIMIT && nat_le (17 + fields_size body) BYTES_LIMIT
+
+-- This tells whether the object of this name is within the limits after the change.
+abbrev pub TellsLimits : Change → ℕ → Seen → Bool → Type 0
+TellsLimits change name seen result = (object : Contents) (new : Body)
+    → object_at name seen ≡ Some object → Changes change object.body new
+    → result ≡ is_within_limits (with_body new object)
+
+-- E17 unless the object will be small enough, and then the space by which it grows, or E15
+abbrev pub room_where : Bool → (growth : ℕ) → Run MadeBlock (Unit {0})
+room_where is_small growth =
+    and_then (check fault.ObjectTooLarge is_small) (λ small. atom (Room growth))
+
+-- whether a body is within the limits before an update and after it, or this error where the update
+-- is refused
+abbrev pub limits_of_update : Fault → Update → Body → Run MadeBlock Bool
+limits_of_update refusal change old =
+    and_then (need refusal (updated change old)) (λ new. give (is_small old && is_small new))
