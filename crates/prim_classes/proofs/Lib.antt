@@ -10,3 +10,8 @@ pub mod Same
 pub mod Moves
 pub mod Created
 pub mod Counts
+pub mod ClassFacts
+pub mod ClassFits
+pub mod ClassMade
+pub mod Lists
+pub mod Numbered

@@ -109,6 +109,26 @@ computes_given {A} {answer} {given} is =
     let At : A → Type 0 = λ one. Computes (give one) (Ok given) in
     subst At is (computes_give given)
 
-pub ruleset steps = (computes_given, does_given, does_stop, does_then, computes_end, computes_on, computes_stop, computes_then, does_give, does_fail,
-    computes_give, computes_fail, does_reached, access_stops, does_stops, computes_stops, computes_ends, access_stopped,
-    does_no_memory, computes_no_memory, does_atom)
+pub ruleset steps = (
+  computes_given,
+  does_given,
+  does_stop,
+  does_then,
+  computes_end,
+  computes_on,
+  computes_stop,
+  computes_then,
+  does_give,
+  does_fail,
+  computes_give,
+  computes_fail,
+  does_reached,
+  access_stops,
+  does_stops,
+  computes_stops,
+  computes_ends,
+  access_stopped,
+  does_no_memory,
+  computes_no_memory,
+  does_atom,
+)

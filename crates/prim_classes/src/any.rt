@@ -95,11 +95,7 @@ pub fn row_5<O: Objects>(
 }
 
 // A new String of a value's print text. The text's accesses and the profile come before E17.
-fn print_string<O: Objects>(
-    alloc: Global,
-    objects: &mut O,
-    value: &Value,
-) -> Result<Value, Stop>
+fn print_string<O: Objects>(alloc: Global, objects: &mut O, value: &Value) -> Result<Value, Stop>
     ensures { Does (print_string_rule value.now) (O.seen objects.old) result
         (O.seen objects.new) }
 {
@@ -108,11 +104,7 @@ fn print_string<O: Objects>(
 }
 
 // A new String of a text that isn't too long, in the user's default segment; E17 where it is.
-fn string_of<O: Objects>(
-    alloc: Global,
-    objects: &mut O,
-    text: Option<Text>,
-) -> Result<Value, Stop>
+fn string_of<O: Objects>(alloc: Global, objects: &mut O, text: Option<Text>) -> Result<Value, Stop>
     ensures { (whole : Bytes) → short whole ≡ text
         → Does (print_string_of whole) (O.seen objects.old) result (O.seen objects.new) }
 {
@@ -121,7 +113,13 @@ fn string_of<O: Objects>(
         return Err(Stop::Fails(Fault::ObjectTooLarge));
     };
     let bytes = Sequence::of(text.bytes().to_vec(alloc)?);
-    new_object_in(alloc, objects, segment, kernel_name(STRING_CLASS), Body::Bytes(bytes))
+    new_object_in(
+        alloc,
+        objects,
+        segment,
+        kernel_name(STRING_CLASS),
+        Body::Bytes(bytes),
+    )
 }
 
 /// 4, `printString`.
@@ -154,11 +152,7 @@ fn copy_of(body: &Body) -> Result<Option<Body>, AllocError>
 }
 
 // A copy of the object of this name, which is read, in the user's default segment.
-fn copy_of_object<O: Objects>(
-    alloc: Global,
-    objects: &mut O,
-    name: Oid,
-) -> Result<Value, Stop>
+fn copy_of_object<O: Objects>(alloc: Global, objects: &mut O, name: Oid) -> Result<Value, Stop>
     ensures { Does (copy_rule (Ref name)) (O.seen objects.old) result (O.seen objects.new) }
 {
     objects.read(name)?;

@@ -98,11 +98,7 @@ fn own_rights(alloc: Global, user: Oid) -> Rights<Text>
 }
 
 // A new segment, which lies in itself.
-fn new_segment<O: Objects>(
-    alloc: Global,
-    objects: &mut O,
-    class: Oid,
-) -> Result<Value, Stop>
+fn new_segment<O: Objects>(alloc: Global, objects: &mut O, class: Oid) -> Result<Value, Stop>
     ensures { Does (new_segment class) (O.seen objects.old) result (O.seen objects.new) }
 {
     let user = objects.user();
@@ -153,11 +149,7 @@ fn new_of_kind<O: Objects>(
 }
 
 // A new object of a class, which is read.
-fn new_instance<O: Objects>(
-    alloc: Global,
-    objects: &mut O,
-    class: Oid,
-) -> Result<Value, Stop>
+fn new_instance<O: Objects>(alloc: Global, objects: &mut O, class: Oid) -> Result<Value, Stop>
     ensures { Does (new_rule class) (O.seen objects.old) result (O.seen objects.new) }
 {
     objects.read(class)?;

@@ -81,11 +81,7 @@ fn reads_up<O: Objects>(
 }
 
 // Whether a value is an instance of a class or of one under it.
-fn is_kind_of<O: Objects>(
-    objects: &mut O,
-    value: &Value,
-    argument: &Value,
-) -> Result<Value, Stop>
+fn is_kind_of<O: Objects>(objects: &mut O, value: &Value, argument: &Value) -> Result<Value, Stop>
     ensures { Does (is_kind_of_rule value.now argument.now) (O.seen objects.old) result
         (O.seen objects.new) }
 {

@@ -4,6 +4,9 @@
 
 mod any;
 mod blocks;
+mod by_number;
+mod class_names;
+mod classes;
 mod creation;
 mod growing;
 mod kind_of;
@@ -11,4 +14,5 @@ mod printing;
 mod segments;
 mod words;
 
+pub use by_number::call;
 pub use printing::{print_text, short_text};

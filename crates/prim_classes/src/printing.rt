@@ -106,11 +106,7 @@ fn element_object<O: Objects>(alloc: Global, objects: &mut O, name: Oid) -> Resu
 }
 
 // An element of an Array.
-fn element_text<O: Objects>(
-    alloc: Global,
-    objects: &mut O,
-    element: &Value,
-) -> Result<Text, Stop>
+fn element_text<O: Objects>(alloc: Global, objects: &mut O, element: &Value) -> Result<Text, Stop>
     ensures { Does (element_text element.now) (O.seen objects.old) result
         (O.seen objects.new) }
 {
@@ -246,11 +242,7 @@ fn array_text<O: Objects>(
 }
 
 // An object, which is read.
-fn whole_object<O: Objects>(
-    alloc: Global,
-    objects: &mut O,
-    name: Oid,
-) -> Result<Option<Text>, Stop>
+fn whole_object<O: Objects>(alloc: Global, objects: &mut O, name: Oid) -> Result<Option<Text>, Stop>
     ensures { Does (shortened (whole_object name)) (O.seen objects.old) result
         (O.seen objects.new) }
 {
@@ -284,11 +276,7 @@ pub fn short_text<O: Objects>(
 
 /// The print text of a value: E17 where it has more than `PRINT_LIMIT` bytes, after all its
 /// accesses.
-pub fn print_text<O: Objects>(
-    alloc: Global,
-    objects: &mut O,
-    value: &Value,
-) -> Result<Text, Stop>
+pub fn print_text<O: Objects>(alloc: Global, objects: &mut O, value: &Value) -> Result<Text, Stop>
     ensures { Does (print_text value.now) (O.seen objects.old) result (O.seen objects.new) }
 {
     match short_text(alloc, objects, value)? {

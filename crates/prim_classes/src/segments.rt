@@ -101,11 +101,7 @@ fn rights_read<O: Objects>(objects: &mut O, name: Oid) -> Result<Rights<Text>, S
 
 // E11, unless a segment of these rights gives the user Write on the objects in it. The profile is
 // touched.
-fn check_writer<O: Objects>(
-    objects: &mut O,
-    name: Oid,
-    rights: &Rights<Text>,
-) -> Result<(), Stop>
+fn check_writer<O: Objects>(objects: &mut O, name: Oid, rights: &Rights<Text>) -> Result<(), Stop>
     ensures { Does (check_writer name rights.now) (O.seen objects.old) result
         (O.seen objects.new) }
 {
@@ -160,11 +156,7 @@ fn move_object<O: Objects>(
 }
 
 // An object, which is written, is put into the segment that the argument names.
-fn assign_object<O: Objects>(
-    objects: &mut O,
-    name: Oid,
-    argument: &Value,
-) -> Result<(), Stop>
+fn assign_object<O: Objects>(objects: &mut O, name: Oid, argument: &Value) -> Result<(), Stop>
     ensures { Does (assign_object name argument.now) (O.seen objects.old) result
         (O.seen objects.new) }
 {
@@ -187,11 +179,7 @@ fn assign_value<O: Objects>(objects: &mut O, argument: &Value) -> Result<(), Sto
 }
 
 // The receiver is put into the segment that the argument names.
-fn assign<O: Objects>(
-    objects: &mut O,
-    receiver: &Value,
-    argument: &Value,
-) -> Result<(), Stop>
+fn assign<O: Objects>(objects: &mut O, receiver: &Value, argument: &Value) -> Result<(), Stop>
     ensures { Does (assign_rule receiver.now argument.now) (O.seen objects.old) result
         (O.seen objects.new) }
 {
@@ -215,11 +203,7 @@ pub fn row_9<O: Objects>(
 }
 
 // The receiver, after it is put into the segment that the argument names.
-fn assigned<O: Objects>(
-    objects: &mut O,
-    receiver: &Value,
-    argument: &Value,
-) -> Result<Value, Stop>
+fn assigned<O: Objects>(objects: &mut O, receiver: &Value, argument: &Value) -> Result<Value, Stop>
     ensures { Does (and_then (assign_rule receiver.now argument.now) (λ done. give receiver.now))
         (O.seen objects.old) result (O.seen objects.new) }
 {
