@@ -84,9 +84,10 @@ module _ {C : Type 0} (access : Access) (part : Body → Option C) (value : Valu
       → Does (received (λ one. atom (Ask access one)) part value) before (Err ended) after
   received_refused name names acted = computes_then names (does_stop (does_atom acted))
 
-  pub received_none : {ended : Stop} → Computes (need fault.ArgumentKind (reference_in value)) (Err ended)
-      → Does (received (λ one. atom (Ask access one)) part value) before (Err ended) before
-  received_none names = computes_stop before names
+pub received_none : {C : Type 0} (access : Access) (part : Body → Option C) (value : Value) (seen : Seen) {ended : Stop}
+    → Computes (need fault.ArgumentKind (reference_in value)) (Err ended)
+    → Does (received (λ one. atom (Ask access one)) part value) seen (Err ended) seen
+received_none access part value seen names = computes_stop seen names
 
 -- the same of a body that is equal
 pub new_same : (class other : ℕ) (made one : Body) {before after : Seen} {result : Result Value Stop} → class ≡ other
@@ -102,22 +103,22 @@ pub array_same : {values listed : List Value} {before after : Seen} {result : Re
 array_same {values} {listed} {before} {after} {result} is does =
     let At : List Value → Type 0 = λ these. Does (new_object ARRAY_CLASS (body.Plain these)) before result after in subst At is does
 
-pub check_same : {fault : Fault} {test told : Bool} {result : Result (Unit {0}) Stop} → test ≡ told
+pub check_same : (fault : Fault) {test told : Bool} {result : Result (Unit {0}) Stop} → test ≡ told
     → Computes (check fault test) result → Computes (check fault told) result
-check_same {fault} {test} {told} {result} is checks =
+check_same fault {test} {told} {result} is checks =
     let At : Bool → Type 0 = λ one. Computes (check fault one) result in subst At is checks
 
-pub replaced_same : {name : ℕ} {object : Contents} {made class : ClassBody} {receiver : Value} {before after : Seen}
+pub replaced_same : (name : ℕ) (object : Contents) {made class : ClassBody} {receiver : Value} {before after : Seen}
     {result : Result PrimitiveAnswer Stop} → made ≡ class → Does (class_replaced name object made receiver) before result after
     → Does (class_replaced name object class receiver) before result after
-replaced_same {name} {object} {made} {class} {receiver} {before} {after} {result} is does =
+replaced_same name object {made} {class} {receiver} {before} {after} {result} is does =
     let At : ClassBody → Type 0 = λ one. Does (class_replaced name object one receiver) before result after in subst At is does
 
 -- what is there
-pub need_then : {A C : Type 0} {fault : Fault} {found : Option C} {rest : C → Run MadeBlock A} {before after : Seen}
+pub need_then : {A C : Type 0} (fault : Fault) {found : Option C} {rest : C → Run MadeBlock A} {before after : Seen}
     {result : Result A Stop} (one : C) → Some one ≡ found → Does (rest one) before result after
     → Does (and_then (need fault found) rest) before result after
-need_then {A} {C} {fault} {found} {rest} {before} {after} {result} one is does =
+need_then {A} {C} fault {found} {rest} {before} {after} {result} one is does =
     let At : Option C → Type 0 = λ other. Does (and_then (need fault other) rest) before result after in
     subst At is (does_then (does_give one before) does)
 
@@ -161,13 +162,13 @@ not_pairs (body.Bag items) other = refl
 not_pairs (body.RcDict pairs) other = refl
 not_pairs (body.Queue queue) other = refl
 
-pub exit_with : {dictionary : Value} {result : Result ClassBody Stop} {ended : Stop} → IsErrAnd result (λ given. given ≡ ended)
+pub exit_with : (dictionary : Value) (result : Result ClassBody Stop) (ended : Stop) → IsErrAnd result (λ given. given ≡ ended)
     → IsErrAnd (with_dictionary dictionary result) (λ given. given ≡ ended)
-exit_with {dictionary} {result} {ended} exit = exit_by dictionary result ended exit
+exit_with dictionary result ended exit = exit_by dictionary result ended exit
 
-pub exit_pointed : {A : Type 0} {result : Result (Bor A) Stop} {ended : Stop} → IsErrAnd result (λ given. given ≡ ended)
+pub exit_pointed : {A : Type 0} (result : Result (Bor A) Stop) (ended : Stop) → IsErrAnd result (λ given. given ≡ ended)
     → IsErrAnd (pointed result) (λ given. given ≡ ended)
-exit_pointed {A} {result} {ended} exit = pointed_by result ended exit
+exit_pointed {A} result ended exit = pointed_by result ended exit
 
 pub pairs_wrong : {found : Option Contents} (held object : Contents) → Some held ≡ found → found ≡ Some object
     → ((pairs : List (Value × Value)) → held.body ≡ body.Dict pairs → ⊥)

@@ -7,9 +7,9 @@ use Rattle.prim_rules.specs.declared.answer.PrimitiveAnswer.{PrimitiveAnswer}
 use Rattle.prim_rules.specs.Rules.{rule_of}
 use Rattle.prim_parts.specs.Does.{Does}
 
-pub numbered : {number known : ℕ} {receiver : Value} {arguments : List Value} {before after : Seen}
+pub numbered : {number known : ℕ} (receiver : Value) (arguments : List Value) {before after : Seen}
     {result : Result PrimitiveAnswer Stop} → number ≡ known → Does (rule_of known receiver arguments) before result after
     → Does (rule_of number receiver arguments) before result after
-numbered {number} {known} {receiver} {arguments} {before} {after} {result} is does =
+numbered {number} {known} receiver arguments {before} {after} {result} is does =
     let At : ℕ → Type 0 = λ one. Does (rule_of one receiver arguments) before result after in
     subst At (sym is) does

@@ -9,15 +9,11 @@ use Rattle.prim_classes.proofs.ClassFacts.{received_as, received_none, received_
 use Rattle.prim_classes.proofs.classes.made_class.Goals as goal
 
 pub returns-in_err-name : goal.returns-in_err-name
-returns-in_err-name g c = does_exit _ c.from_residual.ensures.1 (received_none a_write pairs_in c.args.dictionary.now c.in_err-name.ensures)
+returns-in_err-name g c = does_exit _ c.from_residual.ensures.1 (received_none a_write pairs_in c.args.dictionary.now (g.O.Objects.seen c.args.objects.now) c.in_err-name.ensures)
 
 pub returns-in_err-write : goal.returns-in_err-write
 returns-in_err-write g c = does_exit _ c.from_residual-in_err-write.ensures.1 (received_refused a_write pairs_in c.args.dictionary.now _ c.in_ok-name.ensures
     c.in_err-write.ensures)
-
-pub returns-in_default : goal.returns-in_default
-returns-in_default g c = does_stop (received_wrong a_write pairs_in c.args.dictionary.now _ c.in_ok-name.ensures c.in_ok-write.ensures
-    (pairs_wrong (contents_of c.in-Some.object.now) c.in_ok-write.ensures.object c.in-Some.ensures c.in_ok-write.ensures.there c.in_default.not-Dict))
 
 pub returns-in_err-segment : goal.returns-in_err-segment
 returns-in_err-segment g c = does_then (received_as a_write pairs_in c.args.dictionary.now _ _ c.in_ok-name.ensures c.in_ok-write.ensures

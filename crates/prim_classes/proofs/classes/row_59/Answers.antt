@@ -9,7 +9,7 @@ use Rattle.prim_classes.proofs.ClassFacts.{received_as, received_wrong, received
 use Rattle.prim_classes.proofs.classes.row_59.Goals as goal
 
 pub returns-in_err-name : goal.returns-in_err-name
-returns-in_err-name g c = does_exit _ c.from_residual.ensures.1 (received_none a_read class_in c.args.receiver.now c.in_err-name.ensures)
+returns-in_err-name g c = does_exit _ c.from_residual.ensures.1 (received_none a_read class_in c.args.receiver.now (g.O.Objects.seen c.args.objects.now) c.in_err-name.ensures)
 
 pub returns-in_err-read : goal.returns-in_err-read
 returns-in_err-read g c = does_exit _ c.from_residual-in_err-read.ensures.1 (received_refused a_read class_in c.args.receiver.now _ c.in_ok-name.ensures

@@ -1,3 +1,4 @@
+use Rattle.object_programs.specs.declared.fault.Fault.TheVariants as fault
 use Rattle.std.proofs.Common.{ap, sym, ◌∙◌}
 use Rattle.gem_world.specs.Access.{a_read, a_write}
 use Rattle.gem_object.specs.declared.value.Value.{Value}
@@ -10,7 +11,7 @@ use Rattle.prim_classes.proofs.ClassFits.{removed_fits}
 use Rattle.prim_classes.proofs.classes.row_60.Goals as goal
 
 pub returns-in_err-name : goal.returns-in_err-name
-returns-in_err-name g c = does_exit _ c.from_residual.ensures.1 (received_none a_write class_in c.args.receiver.now c.in_err-name.ensures)
+returns-in_err-name g c = does_exit _ c.from_residual.ensures.1 (received_none a_write class_in c.args.receiver.now (g.O.Objects.seen c.args.objects.now) c.in_err-name.ensures)
 
 pub returns-in_err-write : goal.returns-in_err-write
 returns-in_err-write g c = does_exit _ c.from_residual-in_err-write.ensures.1 (received_refused a_write class_in c.args.receiver.now _ c.in_ok-name.ensures
@@ -26,19 +27,19 @@ returns-in_err-selector g c = does_then (received_as a_write class_in c.args.rec
 
 pub returns-in_err-check : goal.returns-in_err-check
 returns-in_err-check g c = does_then (received_as a_write class_in c.args.receiver.now _ _ c.in_ok-name.ensures c.in_ok-write.ensures (c.in_ok-class.ensures c.in_ok-write.ensures.object c.in_ok-write.ensures.there))
-    (computes_then c.in_ok-selector.ensures (computes_stops (check_same c.understands.ensures c.in_err-check.ensures)
+    (computes_then c.in_ok-selector.ensures (computes_stops (check_same fault.KeyAbsent c.understands.ensures c.in_err-check.ensures)
     c.from_residual-in_err-check.ensures.1))
 
 pub returns-in_err-without : goal.returns-in_err-without
 returns-in_err-without g c = does_then (received_as a_write class_in c.args.receiver.now _ _ c.in_ok-name.ensures c.in_ok-write.ensures (c.in_ok-class.ensures c.in_ok-write.ensures.object c.in_ok-write.ensures.there))
-    (computes_then c.in_ok-selector.ensures (computes_then (check_same c.understands.ensures c.in_ok-check.ensures)
+    (computes_then c.in_ok-selector.ensures (computes_then (check_same fault.KeyAbsent c.understands.ensures c.in_ok-check.ensures)
     (does_no_memory c.from_residual-in_err-without.ensures.1)))
 
 pub removed-requires : goal.removed-requires
-removed-requires g c = removed_fits _ c.in_ok-name.name c.in_ok-write.ensures.object c.in_ok-class.class.now c.in_ok-without.without
+removed-requires g c = removed_fits (g.O.Objects.seen c.write.new.self) c.in_ok-name.name c.in_ok-write.ensures.object c.in_ok-class.class.now c.in_ok-without.without
     c.in_ok-selector.selector.now c.sound.ensures c.in_ok-write.ensures.there (c.in_ok-class.ensures c.in_ok-write.ensures.object c.in_ok-write.ensures.there) c.in_ok-without.ensures
 
 pub returns : goal.returns
 returns g c = does_then (received_as a_write class_in c.args.receiver.now _ _ c.in_ok-name.ensures c.in_ok-write.ensures (c.in_ok-class.ensures c.in_ok-write.ensures.object c.in_ok-write.ensures.there))
-    (computes_then c.in_ok-selector.ensures (computes_then (check_same c.understands.ensures c.in_ok-check.ensures)
-    (replaced_same c.in_ok-without.ensures (c.removed.ensures c.in_ok-write.ensures.object c.in_ok-write.ensures.there))))
+    (computes_then c.in_ok-selector.ensures (computes_then (check_same fault.KeyAbsent c.understands.ensures c.in_ok-check.ensures)
+    (replaced_same c.in_ok-name.name c.in_ok-write.ensures.object c.in_ok-without.ensures (c.removed.ensures c.in_ok-write.ensures.object c.in_ok-write.ensures.there))))
