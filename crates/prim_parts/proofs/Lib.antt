@@ -3,3 +3,4 @@ pub mod Sums
 pub mod Changes
 pub mod Replaced
 pub mod Walks
+pub mod Entries

@@ -155,7 +155,7 @@ pub fn update<O: Objects>(
 }
 
 // Whether the object of this name is within the limits of objects after the change.
-fn stays_small<O: Objects>(objects: &O, name: Oid, change: Change) -> bool
+pub(crate) fn stays_small<O: Objects>(objects: &O, name: Oid, change: Change) -> bool
     ensures { TellsLimits change name (O.seen objects.now) result }
 {
     objects.sound();
@@ -179,7 +179,7 @@ fn make_room<O: Objects>(objects: &mut O, is_small: bool, growth: u64) -> Result
 }
 
 // The space that a put at the key takes.
-fn pair_growth(body: &Body, key: &Value) -> u64
+pub(crate) fn pair_growth(body: &Body, key: &Value) -> u64
     ensures { result ≡ pair_growth key.now body.now }
 {
     match body.value_at(key) {

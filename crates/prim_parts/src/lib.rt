@@ -6,6 +6,7 @@ mod arguments;
 mod change;
 mod classes;
 mod edits;
+mod entering;
 mod kinds;
 mod making;
 mod strings;
@@ -18,6 +19,7 @@ pub use edits::{
     insert_slot, put_pair, remove_pair, remove_slot, replace_body, replace_byte, replace_slot,
     update,
 };
+pub use entering::make_and_enter;
 pub use kinds::{
     all_names, check_kind, class_of_plain, class_of_reference, class_of_value, is_kind_of,
     is_under, kernel_name, named_slots,

@@ -1,0 +1,17 @@
+pub mod Equal
+pub mod Steps
+pub mod Shorts
+pub mod Ups
+pub mod Stays
+pub mod Printed
+pub mod SoleSymbols
+pub mod Copied
+pub mod Same
+pub mod Moves
+pub mod Created
+pub mod Counts
+pub mod ClassFacts
+pub mod ClassFits
+pub mod ClassMade
+pub mod Lists
+pub mod Numbered

@@ -1,0 +1,32 @@
+use Rattle.std.proofs.Common.{ap, sym, ◌∙◌}
+use Rattle.gem_world.specs.Access.{a_read, a_write}
+use Rattle.gem_object.specs.declared.value.Value.{Value}
+use Rattle.prim_rules.specs.declared.answer.PrimitiveAnswer.TheVariants.{Gives}
+use Rattle.prim_rules.specs.Parts.{class_in, pairs_in, truth}
+use Rattle.prim_parts.proofs.Does.{does_then, does_exit, does_compute, computes_then, does_atom, does_assoc}
+use Rattle.prim_classes.proofs.Steps.{does_no_memory, does_given, computes_stops}
+use Rattle.prim_classes.proofs.ClassFacts.{received_as, received_wrong, received_refused, received_none, new_same}
+use Rattle.prim_classes.proofs.classes.tell.Goals as goal
+
+pub returns-in_err-name : goal.returns-in_err-name
+returns-in_err-name g c = does_exit _ c.from_residual.ensures.1 (received_none a_read class_in c.args.receiver.now (g.O.Objects.seen c.args.objects.now) c.in_err-name.ensures)
+
+pub returns-in_err-read : goal.returns-in_err-read
+returns-in_err-read g c = does_exit _ c.from_residual-in_err-read.ensures.1 (received_refused a_read class_in c.args.receiver.now _ c.in_ok-name.ensures
+    c.in_err-read.ensures)
+
+pub returns-in_err-class : goal.returns-in_err-class
+returns-in_err-class g c = does_exit _ c.from_residual-in_err-class.ensures.1 (received_wrong a_read class_in c.args.receiver.now _ c.in_ok-name.ensures c.in_ok-read.ensures
+    (c.in_err-class.ensures c.in_ok-read.ensures.object c.in_ok-read.ensures.there))
+
+pub returns-in_err-no_arguments : goal.returns-in_err-no_arguments
+returns-in_err-no_arguments g c = does_then (received_as a_read class_in c.args.receiver.now _ _ c.in_ok-name.ensures c.in_ok-read.ensures (c.in_ok-class.ensures c.in_ok-read.ensures.object c.in_ok-read.ensures.there))
+    (computes_stops c.in_err-no_arguments.ensures c.from_residual-in_err-no_arguments.ensures.1)
+
+pub returns-in_err-told_by : goal.returns-in_err-told_by
+returns-in_err-told_by g c = does_then (received_as a_read class_in c.args.receiver.now _ _ c.in_ok-name.ensures c.in_ok-read.ensures (c.in_ok-class.ensures c.in_ok-read.ensures.object c.in_ok-read.ensures.there))
+    (computes_then c.in_ok-no_arguments.ensures (does_no_memory c.from_residual-in_err-told_by.ensures.1))
+
+pub returns : goal.returns
+returns g c = does_then (received_as a_read class_in c.args.receiver.now _ _ c.in_ok-name.ensures c.in_ok-read.ensures (c.in_ok-class.ensures c.in_ok-read.ensures.object c.in_ok-read.ensures.there))
+    (computes_then c.in_ok-no_arguments.ensures (does_given (ap Gives c.in_ok-told_by.ensures)))
