@@ -1,9 +1,7 @@
 -- Classes that were read or written.
-use Rattle.std.proofs.Common.{◌≡◌, refl, sym, ap, ◌∙◌, subst, ℕ, Bool, true, false, ◌&&◌, not, List, [], ◌∷◌, cond, filter, Option, Some, None, Result, Ok, Err}
+use Rattle.std.proofs.Common.{◌≡◌, refl, sym, ap, ◌∙◌, subst, ℕ, Bool, List, Option, Some, None, Result, Ok, Err}
 use Rattle.std.specs.Result.{IsErrAnd}
 use Rattle.std.specs.Borrow.{Bor}
-use Rattle.std.specs.List.{list_all}
-use Rattle.texts.specs.Bytes.{Bytes as Text}
 use Rattle.gem_object.specs.declared.value.Value.{Value}
 use Rattle.gem_object.specs.declared.body.ClassBody.{ClassBody}
 use Rattle.gem_object.specs.declared.body.Body.{Body}
@@ -16,18 +14,18 @@ use Rattle.object_programs.specs.Run.{Run, atom, and_then}
 use Rattle.object_programs.specs.Programs.{need, check}
 use Rattle.object_programs.specs.declared.fault.Fault.{Fault}
 use Rattle.object_programs.specs.declared.fault.Fault.TheVariants as fault
-use Rattle.running_objects.specs.Seen.{Seen, object_at}
+use Rattle.running_objects.specs.Seen.{Seen}
 use Rattle.running_objects.specs.Acted.{Acted, Reached}
 use Rattle.running_objects.specs.declared.stop.Stop.{Stop}
 use Rattle.running_objects.specs.declared.stop.Stop.TheVariants as stop
 use Rattle.running_objects.proofs.Running.{seen_twice}
 use Rattle.prim_rules.specs.Parts.{reference_in, class_in, slots_in, pairs_in, new_object}
-use Rattle.prim_rules.specs.Receivers.{Receiver, received}
+use Rattle.prim_rules.specs.Receivers.{received}
 use Rattle.gem_sound.specs.declared.names.TheConstants.{ARRAY_CLASS}
 use Rattle.prim_classes.specs.ClassWords.{class_replaced, with_dictionary}
 use Rattle.prim_rules.specs.declared.answer.PrimitiveAnswer.{PrimitiveAnswer}
 use Rattle.prim_parts.specs.Does.{Does, Computes, pointed}
-use Rattle.prim_parts.proofs.Does.{does_then, does_stop, does_exit, does_atom, does_give, does_fail, computes_then, computes_stop, computes_give, computes_fail}
+use Rattle.prim_parts.proofs.Does.{does_then, does_stop, does_atom, does_give, does_fail, computes_then, computes_stop, computes_give, computes_fail}
 
 -- what is there, or the error, where it is known which
 need_some : {A : Type 0} (fault : Fault) (found : Option A) (one : A) → found ≡ Some one → Computes (need fault found) (Ok one)

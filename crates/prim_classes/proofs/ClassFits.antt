@@ -1,10 +1,9 @@
 -- A class without one of its methods still has only such as it may have.
-use Rattle.std.proofs.Common.{◌≡◌, refl, sym, ap, ◌∙◌, subst, ℕ, Bool, true, false, ◌&&◌, not, nat_lt, List, [], ◌∷◌, filter, if◌then◌else◌, Option, Some, None, Result, Ok, Err}
+use Rattle.std.proofs.Common.{◌≡◌, refl, sym, ap, ◌∙◌, ℕ, Bool, true, false, ◌&&◌, not, nat_lt, List, [], ◌∷◌, filter, if◌then◌else◌, Option, Some, None, Ok}
 use Rattle.std.proofs.lemmas.Bool.{false≢true, and_parts, and_from}
 use Rattle.std.specs.List.{list_all}
 use Rattle.texts.specs.Bytes.{Bytes as Text}
 use Rattle.gem_object.specs.declared.body.ClassBody.{ClassBody}
-use Rattle.gem_object.specs.declared.body.Method.{Method}
 use Rattle.gem_object.specs.declared.body.Body.{Body}
 use Rattle.gem_object.specs.declared.body.Body.TheVariants as body
 use Rattle.gem_image.specs.Image.{Contents}
@@ -15,7 +14,7 @@ use Rattle.object_programs.specs.Guard.{Parts, is_known, is_segment_at, accepts,
 use Rattle.object_programs.specs.Spelled.{is_spelled}
 use Rattle.gem_sound.specs.Sound.{names_in}
 use Rattle.object_programs.specs.Methods.{method_fits, methods_fit}
-use Rattle.object_programs.specs.Run.{Ending, gives, State, Outcome}
+use Rattle.object_programs.specs.Run.{Ending, gives, Outcome}
 use Rattle.object_programs.specs.Programs.{need}
 use Rattle.object_programs.specs.declared.fault.Fault.{Fault}
 use Rattle.object_programs.specs.declared.fault.Fault.TheVariants as fault

@@ -1,5 +1,5 @@
 -- A class that is made.
-use Rattle.std.proofs.Common.{◌≡◌, refl, sym, ap, ◌∙◌, subst, ℕ, Bool, true, false, ◌&&◌, List, [], ◌∷◌, length, map, Option, Some, None, Result, Ok, Err}
+use Rattle.std.proofs.Common.{◌≡◌, sym, ap, ◌∙◌, subst, ℕ, Bool, true, false, ◌&&◌, List, [], ◌∷◌, length, map, Ok}
 use Rattle.std.specs.List.{list_all}
 use Rattle.gem_object.specs.declared.value.Value.{Value}
 use Rattle.gem_object.specs.declared.value.Value.TheVariants.{Sym}
@@ -13,8 +13,7 @@ use Rattle.gem_world.specs.World.{next_name}
 use Rattle.gem_sound.specs.Kernel.{class_class}
 use Rattle.object_programs.specs.Budget.{is_within_limits}
 use Rattle.object_programs.specs.Methods.{method_fits, methods_fit}
-use Rattle.running_objects.specs.Seen.{Seen, object_at}
-use Rattle.running_objects.specs.declared.stop.Stop.{Stop}
+use Rattle.running_objects.specs.Seen.{Seen}
 use Rattle.prim_rules.specs.Classes.{NewClass, class_object, class_entry}
 use Rattle.prim_parts.specs.Entering.{HasName, AreEntered}
 use Rattle.object_programs.specs.Run.{give}

@@ -1,9 +1,8 @@
 -- What is copied.
-use Rattle.std.proofs.Common.{◌≡◌, refl, sym, ap, subst, ℕ, Bool, true, false, cond, Option, Some, None, Result}
+use Rattle.std.proofs.Common.{◌≡◌, subst, ℕ, Bool, true, false, cond, Some, None, Result}
 use Rattle.gem_object.specs.declared.value.Value.{Value}
 use Rattle.gem_object.specs.declared.body.Body.{Body}
-use Rattle.tree_meaning.specs.Place.{MadeBlock}
-use Rattle.object_programs.specs.Run.{Run, give, and_then}
+use Rattle.object_programs.specs.Run.{and_then}
 use Rattle.object_programs.specs.Programs.{check}
 use Rattle.object_programs.specs.declared.fault.Fault.{Fault}
 use Rattle.running_objects.specs.Seen.{Seen}

@@ -1,5 +1,5 @@
 -- Numbers as code holds them.
-use Rattle.std.proofs.Common.{◌≡◌, subst, ℕ, ℤ, FitsSigned, to_z, of_z, w64, Result}
+use Rattle.std.proofs.Common.{subst, ℕ, ℤ, FitsSigned, to_z, of_z, w64, Result}
 use Rattle.std.proofs.lemmas.Int.{to_z-of_z}
 use Rattle.object_programs.specs.Programs.{need}
 use Rattle.object_programs.specs.declared.fault.Fault.TheVariants as fault

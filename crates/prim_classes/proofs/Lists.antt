@@ -1,11 +1,10 @@
 -- Lists of names and of symbols.
-use Rattle.std.proofs.Common.{◌≡◌, refl, sym, ap, ◌∙◌, subst, ℕ, ◌+◌, ◌<◌, Bool, true, false, ◌&&◌, not, List, [], ◌∷◌, ◌++◌, append_assoc, length, get_or, drop, Option, Some, None, option_map, option_and_then}
+use Rattle.std.proofs.Common.{◌≡◌, refl, sym, ap, ◌∙◌, ℕ, ◌+◌, ◌<◌, List, [], ◌∷◌, ◌++◌, append_assoc, length, get_or, drop, Option, Some, None, option_map}
 use Rattle.std.proofs.lemmas.List.{drop_more}
 use Rattle.texts.specs.Bytes.{Bytes as Text}
 use Rattle.gem_object.specs.declared.value.Value.{Value}
 use Rattle.gem_object.specs.declared.value.Value.TheVariants.{Nil, False, True, Int, Char, Sym, Ref, Block}
-use Rattle.prim_rules.specs.Parts.{symbol_in}
-use Rattle.prim_rules.specs.Classes.{symbols_in, is_one_of, are_distinct}
+use Rattle.prim_rules.specs.Classes.{symbols_in}
 
 -- one symbol more
 more_by : (before : List Text) (name : Text) (rest : Option (List Text))

@@ -1,5 +1,5 @@
 -- What is printed, by what is printed of values and of objects.
-use Rattle.std.proofs.Common.{◌≡◌, refl, sym, ap, ◌∙◌, subst, ℕ, nat_eq, Bool, true, false, cond, List, Option, Some, None, Result, Ok, Err}
+use Rattle.std.proofs.Common.{◌≡◌, sym, subst, ℕ, nat_eq, Bool, true, false, cond, List, Option, Result, Ok}
 use Rattle.texts.specs.Bytes.{Bytes as Text}
 use Rattle.gem_object.specs.declared.value.Value.{Value}
 use Rattle.gem_object.specs.declared.value.Value.TheVariants as value
@@ -8,8 +8,8 @@ use Rattle.gem_object.specs.declared.body.Body.TheVariants as body
 use Rattle.gem_image.specs.Image.{Contents}
 use Rattle.gem_sound.specs.declared.names.TheConstants.{ARRAY_CLASS}
 use Rattle.tree_meaning.specs.Place.{MadeBlock}
-use Rattle.object_programs.specs.Run.{Run, give, and_then}
-use Rattle.object_programs.specs.Programs.{choose, read}
+use Rattle.object_programs.specs.Run.{Run, give}
+use Rattle.object_programs.specs.Programs.{choose}
 use Rattle.running_objects.specs.Seen.{Seen}
 use Rattle.running_objects.specs.declared.stop.Stop.{Stop}
 use Rattle.prim_parts.specs.Does.{Does}
@@ -17,9 +17,7 @@ use Rattle.prim_parts.proofs.Does.{does_give, does_then}
 use Rattle.prim_rules.specs.Printing.{value_text, element_text, body_text, named_text, array_text, slots_text, whole_text}
 use Rattle.prim_classes.specs.Prints.{print_of_value, print_of_object, has_own_text, element_object, whole_object, skimmed, shortened}
 use Rattle.prim_rules.specs.Texts.{quoted}
-use Rattle.prim_classes.specs.declared.printing.ValuePrint.{ValuePrint}
 use Rattle.prim_classes.specs.declared.printing.ValuePrint.TheVariants as value_print
-use Rattle.prim_classes.specs.declared.printing.ObjectPrint.{ObjectPrint}
 use Rattle.prim_classes.specs.declared.printing.ObjectPrint.TheVariants as object_print
 
 given : {text own : Text} (seen : Seen) → value_print.Own text ≡ value_print.Own own

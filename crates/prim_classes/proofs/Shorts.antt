@@ -1,8 +1,7 @@
 -- Programs of whose answers only a part is kept, and texts that aren't kept where they are too long.
-use Rattle.std.proofs.Common.{◌≡◌, refl, sym, ap, ◌∙◌, subst, ℕ, ◌+◌, ◌≤◌, nat_le, Bool, true, false, cond, length, get_or, drop, ◌<◌, List, [], ◌∷◌, ◌++◌, Option, Some, None, Result, Ok, Err, codes, length-append, arith}
+use Rattle.std.proofs.Common.{◌≡◌, refl, sym, ap, ◌∙◌, subst, ℕ, ◌+◌, ◌≤◌, Bool, true, false, cond, length, get_or, drop, ◌<◌, List, [], ◌∷◌, ◌++◌, Option, Some, None, Result, Ok, Err, codes, length-append, arith}
 use Rattle.std.proofs.lemmas.Bool.{false≢true}
 use Rattle.std.proofs.lemmas.Bool.Decides.{nat_tests}
-use Rattle.std.proofs.lemmas.Grind.{common_steps}
 use Rattle.std.proofs.lemmas.List.{drop_more}
 use Rattle.std.proofs.Math.ListN.{drop_of_length-le}
 use Rattle.object_programs.specs.Programs.{check}
@@ -13,9 +12,8 @@ use Rattle.gem_world.specs.World.{Setting}
 use Rattle.gem_object.specs.declared.value.Value.{Value}
 use Rattle.tree_meaning.specs.Place.{MadeBlock}
 use Rattle.object_programs.specs.Local.{Local}
-use Rattle.object_programs.specs.declared.limits.TheConstants.{PRINT_LIMIT}
-use Rattle.object_programs.specs.Run.{Run, give, fail, atom, and_then, Ending, gives, returns, fails, State, Outcome, onward, perform}
-use Rattle.running_objects.specs.Seen.{Seen, with_local, Keeps}
+use Rattle.object_programs.specs.Run.{Run, give, and_then, Ending, gives, returns, fails, State, Outcome, onward, perform}
+use Rattle.running_objects.specs.Seen.{Seen, with_local}
 use Rattle.running_objects.specs.Ran.{EndsSo}
 use Rattle.running_objects.specs.declared.stop.Stop.{Stop}
 use Rattle.running_objects.specs.declared.stop.Stop.TheVariants as stop
@@ -23,7 +21,7 @@ use Rattle.running_objects.proofs.Running.{keeps_along}
 use Rattle.prim_parts.specs.Does.{Does}
 use Rattle.prim_parts.proofs.Does.{does_then, does_stop, does_assoc, does_give, does_fail}
 use Rattle.prim_rules.specs.Printing.{is_short, element_text, elements_text, with_elements, array_text}
-use Rattle.prim_classes.specs.Prints.{short, joined, enclosed, skimmed, shortened}
+use Rattle.prim_classes.specs.Prints.{short, joined, enclosed, shortened}
 use Rattle.prim_classes.proofs.Steps.{handed, does_given, does_no_memory}
 
 -- A program of whose answer this part was kept: it gave an answer that has this part.

@@ -1,6 +1,5 @@
 -- What is seen after programs have run: objects are still there, and reads change none.
-use Rattle.std.proofs.Common.{◌≡◌, refl, sym, ap, ◌∙◌, subst, ℕ, Bool, true, false, cond, [], Option, Some, None, is_some, option_map, Result, Ok, Err}
-use Rattle.gem_object.specs.declared.body.Body.{Body}
+use Rattle.std.proofs.Common.{◌≡◌, refl, sym, ap, ◌∙◌, subst, ℕ, Bool, true, false, cond, [], Option, Some, None, is_some, option_map, Ok}
 use Rattle.gem_object.specs.declared.body.UserBody.{UserBody}
 use Rattle.gem_image.specs.Image.{Contents}
 use Rattle.gem_world.specs.World.{Setting, World, shown}
@@ -10,10 +9,9 @@ use Rattle.tree_meaning.specs.Place.{MadeBlock}
 use Rattle.object_programs.specs.Local.{Local}
 use Rattle.object_programs.specs.Fixed.{Fixed, fixed_of, fixed_by}
 use Rattle.object_programs.specs.Laws.{KeepsParts}
-use Rattle.object_programs.specs.Atom.{access_answer, Answer}
+use Rattle.object_programs.specs.Atom.{access_answer}
 use Rattle.object_programs.specs.Run.{Run, give, and_then, Ending, gives, returns, fails, end_of, State, Outcome, onward, perform}
 use Rattle.object_programs.specs.Programs.{need}
-use Rattle.object_programs.specs.declared.fault.Fault.{Fault}
 use Rattle.object_programs.specs.declared.fault.Fault.TheVariants as fault
 use Rattle.object_programs.proofs.Kept.{kept}
 use Rattle.object_programs.proofs.Objects.{parts_stay}

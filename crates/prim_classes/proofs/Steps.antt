@@ -1,17 +1,15 @@
 -- How what calls did in turn makes what a rule says.
 use Rattle.std.specs.Result.{IsErrAnd}
-use Rattle.std.proofs.Common.{◌≡◌, refl, sym, ap, ◌∙◌, subst, ℕ, [], Option, Some, None, Result, Ok, Err}
+use Rattle.std.proofs.Common.{◌≡◌, sym, ap, subst, ℕ, Result, Ok, Err}
 use Rattle.tree_meaning.specs.Place.{MadeBlock}
 use Rattle.gem_world.specs.World.{Setting}
 use Rattle.gem_world.specs.Access.{Access}
 use Rattle.gem_image.specs.Image.{Contents}
-use Rattle.object_programs.specs.Atom.{Atom, Ask}
-use Rattle.object_programs.specs.Local.{Local}
-use Rattle.object_programs.specs.Run.{Run, give, fail, atom, and_then, State, Outcome, onward, perform}
-use Rattle.object_programs.specs.declared.fault.Fault.{Fault}
-use Rattle.running_objects.specs.Seen.{Seen, object_at, with_local, Keeps}
+use Rattle.object_programs.specs.Atom.{Ask}
+use Rattle.object_programs.specs.Run.{Run, give, atom, and_then, State, Outcome, onward, perform}
+use Rattle.running_objects.specs.Seen.{Seen}
 use Rattle.running_objects.specs.Ran.{EndsSo}
-use Rattle.running_objects.specs.Acted.{Acted, Reached}
+use Rattle.running_objects.specs.Acted.{Acted}
 use Rattle.running_objects.specs.declared.stop.Stop.{Stop}
 use Rattle.running_objects.specs.declared.stop.Stop.TheVariants as stop
 use Rattle.running_objects.proofs.Running.{keeps_same}

@@ -1,15 +1,15 @@
 -- The classes from one up to the last, one after the other.
-use Rattle.std.proofs.Common.{◌≡◌, refl, sym, ap, subst, ℕ, zero, suc, ◌-◌, ◌<◌, Bool, ◌||◌, nat_eq, Option, Some, None, Result, Ok, Err, arith}
+use Rattle.std.proofs.Common.{◌≡◌, sym, subst, ℕ, suc, ◌-◌, ◌<◌, Bool, ◌||◌, nat_eq, Option, Some, None, Result, Ok, Err, arith}
 use Rattle.std.specs.Result.{IsErrAnd}
 use Rattle.gem_object.specs.declared.body.ClassBody.{ClassBody}
 use Rattle.tree_meaning.specs.Place.{MadeBlock}
-use Rattle.object_programs.specs.Run.{Run, give, and_then}
+use Rattle.object_programs.specs.Run.{Run, give}
 use Rattle.running_objects.specs.Seen.{Seen}
 use Rattle.running_objects.specs.declared.stop.Stop.{Stop}
 use Rattle.prim_parts.specs.Does.{Does}
 use Rattle.prim_parts.proofs.Does.{does_assoc_back, does_give}
 use Rattle.prim_rules.specs.Any.{superclass_reads, reads_up}
-use Rattle.prim_classes.specs.Superclasses.{class_read, superclass_read}
+use Rattle.prim_classes.specs.Superclasses.{superclass_read}
 use Rattle.prim_classes.proofs.Shorts.{mapped_then, mapped_stop}
 
 one_less : (left : ℕ) → 0 < left → suc (left - 1) ≡ left

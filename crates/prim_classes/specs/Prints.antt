@@ -1,6 +1,6 @@
 -- How print texts are put together: what is printed of a value and of an object, and that a text
 -- isn't kept which is too long.
-use Rattle.std.specs.Prelude.{ℕ, Bool, true, false, nat_eq, cond, List, [], ◌∷◌, ◌++◌, Option, None, Some, codes}
+use Rattle.std.specs.Prelude.{ℕ, Bool, true, false, nat_eq, cond, [], ◌∷◌, ◌++◌, Option, None, Some, codes}
 use Rattle.texts.specs.Bytes.{Bytes as Text}
 use Rattle.gem_object.specs.declared.value.Value.{Value}
 use Rattle.gem_object.specs.declared.value.Value.TheVariants.{Nil, False, True, Int, Char, Sym, Ref, Block}
@@ -12,7 +12,7 @@ use Rattle.object_programs.specs.declared.fault.Fault.TheVariants as fault
 use Rattle.gem_sound.specs.declared.names.TheConstants.{ARRAY_CLASS, STRING_CLASS}
 use Rattle.prim_rules.specs.Parts.{default_segment, new_object_in}
 use Rattle.prim_rules.specs.Texts.{quoted, symbol_text, decimal_text}
-use Rattle.prim_rules.specs.Printing.{is_short, value_text, body_text, named_text, element_text, elements_text, with_elements, array_text, slots_text, whole_text}
+use Rattle.prim_rules.specs.Printing.{is_short, body_text, named_text, slots_text}
 use Rattle.prim_classes.specs.declared.printing.ValuePrint.{ValuePrint}
 use Rattle.prim_classes.specs.declared.printing.ValuePrint.TheVariants as value_print
 use Rattle.prim_classes.specs.declared.printing.ObjectPrint.{ObjectPrint}

@@ -341,7 +341,7 @@ fn names_to_add<O: Objects>(
 }
 
 // A class with no methods yet.
-fn new_class(name: Text, superclass: Oid, kind: Kind, names: Names, alloc: Global) -> ClassBody
+fn new_class(alloc: Global, name: Text, superclass: Oid, kind: Kind, names: Names) -> ClassBody
     ensures { result ≡ new_class name superclass kind names }
 {
     ClassBody {
@@ -369,7 +369,7 @@ fn wanted_part<O: Objects>(
 {
     let kind = kind_to_inherit(objects, superclass)?;
     let names = names_to_add(alloc, objects, superclass, kind, array)?;
-    Ok(new_class(name.clone()?, superclass, kind, names, alloc))
+    Ok(new_class(alloc, name.clone()?, superclass, kind, names))
 }
 
 // The class that is to be made, by a superclass and what is wanted: a name, an Array of names, and

@@ -9,7 +9,7 @@ returns-in_default c = symbol_none c.args.values.now c.loop-value.value-index c.
     c.in_default.not-Sym c.loop-value.invariant
 
 pub loop-value-preserved : goal.loop-value-preserved
-loop-value-preserved c = 
+loop-value-preserved c =
     let At : List Text → Type 0 = λ names. symbols_in c.args.values.now
     ≡ option_map (λ rest. names ++ rest) (symbols_in (drop (c.loop-value.value-index + 1) c.args.values.now)) in
     subst At (sym c.in_ok-push.ensures.items) (symbol_more c.args.values.now c.loop-value.value-index c.value-item.result c.in-Sym.name

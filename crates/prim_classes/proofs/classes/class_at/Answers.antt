@@ -1,5 +1,5 @@
 use Rattle.gem_image.specs.Image.{contents_of}
-use Rattle.prim_classes.proofs.ClassFacts.{class_found, class_wrong, not_class}
+use Rattle.prim_classes.proofs.ClassFacts.{class_found}
 use Rattle.prim_classes.proofs.classes.class_at.Goals as goal
 
 pub returns-in-Class : goal.returns-in-Class

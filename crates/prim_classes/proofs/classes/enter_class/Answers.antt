@@ -1,4 +1,4 @@
-use Rattle.std.proofs.Common.{arith, length, refl, sym, ap, subst, ◌∙◌}
+use Rattle.std.proofs.Common.{arith, length, refl, ap}
 use Rattle.prim_parts.proofs.Does.{does_then, does_exit, does_give}
 use Rattle.prim_classes.proofs.Steps.{does_no_memory}
 use Rattle.gem_object.specs.declared.value.Value.TheVariants.{Sym}

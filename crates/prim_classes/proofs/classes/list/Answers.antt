@@ -1,10 +1,7 @@
-use Rattle.std.proofs.Common.{ap, sym, ◌∙◌}
-use Rattle.gem_world.specs.Access.{a_read, a_write}
-use Rattle.gem_object.specs.declared.value.Value.{Value}
-use Rattle.prim_rules.specs.declared.answer.PrimitiveAnswer.TheVariants.{Gives}
-use Rattle.prim_rules.specs.Parts.{class_in, pairs_in, truth}
-use Rattle.prim_parts.proofs.Does.{does_then, does_give, does_exit, does_compute, computes_then, does_atom, does_assoc}
-use Rattle.prim_classes.proofs.Steps.{does_no_memory, does_given, computes_stops}
+use Rattle.gem_world.specs.Access.{a_read}
+use Rattle.prim_rules.specs.Parts.{class_in}
+use Rattle.prim_parts.proofs.Does.{does_then, does_give, does_exit, computes_then}
+use Rattle.prim_classes.proofs.Steps.{does_no_memory, computes_stops}
 use Rattle.prim_classes.proofs.ClassFacts.{received_as, received_wrong, received_refused, received_none, array_same}
 use Rattle.prim_classes.proofs.classes.list.Goals as goal
 

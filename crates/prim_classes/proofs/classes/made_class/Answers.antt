@@ -1,11 +1,10 @@
-use Rattle.std.proofs.Common.{refl, sym, ap, subst, ◌∙◌}
-use Rattle.prim_parts.proofs.Does.{does_then, does_reached, does_exit, does_atom, does_give, does_stop, computes_then}
-use Rattle.prim_classes.proofs.Steps.{computes_stops, does_no_memory, does_given, access_stops}
+use Rattle.std.proofs.Common.{refl, ◌∙◌}
+use Rattle.prim_parts.proofs.Does.{does_then, does_exit}
 use Rattle.gem_image.specs.Image.{contents_of}
 use Rattle.gem_world.specs.Access.{a_write}
 use Rattle.prim_rules.specs.Parts.{pairs_in}
 use Rattle.prim_classes.proofs.Stays.{segment_shows}
-use Rattle.prim_classes.proofs.ClassFacts.{received_as, received_none, received_refused, received_wrong, pairs_there, pairs_wrong}
+use Rattle.prim_classes.proofs.ClassFacts.{received_as, received_none, received_refused, pairs_there}
 use Rattle.prim_classes.proofs.classes.made_class.Goals as goal
 
 pub returns-in_err-name : goal.returns-in_err-name

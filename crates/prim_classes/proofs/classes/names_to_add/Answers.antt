@@ -1,9 +1,9 @@
 use Rattle.texts.specs.Bytes.{Bytes as Text}
 use Rattle.prim_rules.specs.Classes.{symbols_in, may_add_names}
 use Rattle.object_programs.specs.declared.fault.Fault.TheVariants as fault
-use Rattle.std.proofs.Common.{List, refl, sym, ap, subst, ◌∙◌}
-use Rattle.prim_parts.proofs.Does.{does_then, does_reached, does_exit, does_atom, does_give, does_stop, computes_then}
-use Rattle.prim_classes.proofs.Steps.{computes_stops, does_no_memory, does_given, access_stops}
+use Rattle.std.proofs.Common.{List, sym, ap, ◌∙◌}
+use Rattle.prim_parts.proofs.Does.{does_then, does_exit, does_give, computes_then}
+use Rattle.prim_classes.proofs.Steps.{computes_stops, does_no_memory}
 use Rattle.prim_classes.proofs.Stays.{still_there}
 use Rattle.prim_classes.proofs.ClassFacts.{need_then, need_fails, check_same}
 use Rattle.prim_classes.proofs.classes.names_to_add.Goals as goal

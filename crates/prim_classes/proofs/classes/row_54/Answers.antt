@@ -1,6 +1,5 @@
-use Rattle.std.proofs.Common.{refl, sym, ap, subst, ◌∙◌}
-use Rattle.prim_parts.proofs.Does.{does_then, does_reached, does_exit, does_atom, does_give, does_stop, computes_then}
-use Rattle.prim_classes.proofs.Steps.{computes_stops, does_no_memory, does_given, access_stops}
+use Rattle.prim_parts.proofs.Does.{does_then, does_exit, computes_then}
+use Rattle.prim_classes.proofs.Steps.{computes_stops}
 use Rattle.prim_classes.proofs.classes.row_54.Goals as goal
 
 pub returns-in_err-superclass : goal.returns-in_err-superclass

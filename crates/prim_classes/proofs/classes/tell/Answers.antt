@@ -1,11 +1,10 @@
-use Rattle.std.proofs.Common.{ap, sym, ◌∙◌}
-use Rattle.gem_world.specs.Access.{a_read, a_write}
-use Rattle.gem_object.specs.declared.value.Value.{Value}
+use Rattle.std.proofs.Common.{ap}
+use Rattle.gem_world.specs.Access.{a_read}
 use Rattle.prim_rules.specs.declared.answer.PrimitiveAnswer.TheVariants.{Gives}
-use Rattle.prim_rules.specs.Parts.{class_in, pairs_in, truth}
-use Rattle.prim_parts.proofs.Does.{does_then, does_exit, does_compute, computes_then, does_atom, does_assoc}
+use Rattle.prim_rules.specs.Parts.{class_in}
+use Rattle.prim_parts.proofs.Does.{does_then, does_exit, computes_then}
 use Rattle.prim_classes.proofs.Steps.{does_no_memory, does_given, computes_stops}
-use Rattle.prim_classes.proofs.ClassFacts.{received_as, received_wrong, received_refused, received_none, new_same}
+use Rattle.prim_classes.proofs.ClassFacts.{received_as, received_wrong, received_refused, received_none}
 use Rattle.prim_classes.proofs.classes.tell.Goals as goal
 
 pub returns-in_err-name : goal.returns-in_err-name

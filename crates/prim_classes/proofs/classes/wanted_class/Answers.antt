@@ -1,6 +1,5 @@
-use Rattle.std.proofs.Common.{refl, sym, ap, subst, ◌∙◌}
-use Rattle.prim_parts.proofs.Does.{does_then, does_reached, does_exit, does_atom, does_give, does_stop, computes_then}
-use Rattle.prim_classes.proofs.Steps.{computes_stops, does_no_memory, does_given, access_stops}
+use Rattle.prim_parts.proofs.Does.{does_then, does_exit, computes_then}
+use Rattle.prim_classes.proofs.Steps.{computes_stops}
 use Rattle.prim_classes.proofs.Moves.{kind_same}
 use Rattle.prim_classes.proofs.ClassFacts.{exit_with}
 use Rattle.prim_classes.proofs.classes.wanted_class.Goals as goal

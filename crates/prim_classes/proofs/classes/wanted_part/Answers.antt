@@ -2,9 +2,9 @@ use Rattle.running_objects.specs.declared.stop.Stop.TheVariants as stop
 use Rattle.texts.specs.Bytes.{Bytes as Text}
 use Rattle.prim_rules.specs.Classes.{new_class}
 use Rattle.prim_classes.proofs.ClassMade.{gives_wanted}
-use Rattle.std.proofs.Common.{refl, sym, ap, subst, ◌∙◌}
-use Rattle.prim_parts.proofs.Does.{does_then, does_reached, does_exit, does_atom, does_give, does_stop, computes_then}
-use Rattle.prim_classes.proofs.Steps.{computes_stops, does_no_memory, does_given, access_stops}
+use Rattle.std.proofs.Common.{ap, ◌∙◌}
+use Rattle.prim_parts.proofs.Does.{does_then, does_exit}
+use Rattle.prim_classes.proofs.Steps.{does_no_memory}
 use Rattle.prim_classes.proofs.ClassFacts.{exit_with}
 use Rattle.prim_classes.proofs.classes.wanted_part.Goals as goal
 

@@ -1,5 +1,5 @@
 use Rattle.std.proofs.Common.{rules}
-use Rattle.prim_parts.proofs.Does.{does_then, does_reached, does_exit, does_atom, does_who, does_give, computes_then}
+use Rattle.prim_parts.proofs.Does.{does_then, computes_then}
 use Rattle.prim_classes.proofs.Steps.{steps, computes_stops}
 use Rattle.prim_classes.proofs.Counts.{count_same}
 use Rattle.prim_classes.proofs.creation.new_elements.Goals as goal

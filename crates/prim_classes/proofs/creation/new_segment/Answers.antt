@@ -1,4 +1,4 @@
-use Rattle.prim_parts.proofs.Does.{does_then, does_reached, does_exit, does_atom, does_who, does_give, computes_then}
+use Rattle.prim_parts.proofs.Does.{does_then, does_exit, does_atom, does_who, does_give}
 use Rattle.prim_classes.proofs.Created.{segment_objects, segment_contents}
 use Rattle.prim_classes.proofs.creation.new_segment.Goals as goal
 

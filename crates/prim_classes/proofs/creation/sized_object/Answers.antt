@@ -1,6 +1,6 @@
 use Rattle.std.proofs.Common.{sym, ◌∙◌}
 use Rattle.prim_rules.specs.Parts.{new_object}
-use Rattle.prim_parts.proofs.Does.{does_then, does_reached, does_exit, does_atom, does_who, does_give, computes_then}
+use Rattle.prim_parts.proofs.Does.{does_exit}
 use Rattle.prim_classes.proofs.Created.{sized_large}
 use Rattle.prim_classes.proofs.creation.sized_object.Goals as goal
 

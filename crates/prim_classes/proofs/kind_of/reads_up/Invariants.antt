@@ -1,4 +1,4 @@
-use Rattle.std.proofs.Common.{◌≡◌, false, Bool, ℕ, Result}
+use Rattle.std.proofs.Common.{false, Bool, Result}
 use Rattle.running_objects.specs.Seen.{Seen}
 use Rattle.running_objects.specs.declared.stop.Stop.{Stop}
 use Rattle.prim_rules.specs.Any.{reads_up}

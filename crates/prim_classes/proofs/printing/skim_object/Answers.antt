@@ -1,5 +1,5 @@
 use Rattle.std.proofs.Common.{sym, ◌∙◌}
-use Rattle.prim_parts.proofs.Does.{does_then, does_reached, does_assoc}
+use Rattle.prim_parts.proofs.Does.{does_reached, does_assoc}
 use Rattle.prim_classes.proofs.Printed.{skims_class}
 use Rattle.prim_classes.proofs.printing.skim_object.Goals as goal
 

@@ -1,4 +1,4 @@
-use Rattle.prim_parts.proofs.Does.{does_then, does_reached, does_exit, does_atom, does_who, does_give, computes_then}
+use Rattle.prim_parts.proofs.Does.{does_then, does_reached, does_exit}
 use Rattle.gem_image.specs.Image.{contents_of}
 use Rattle.prim_classes.proofs.Moves.{move_then}
 use Rattle.prim_classes.proofs.segments.assign_object.Goals as goal

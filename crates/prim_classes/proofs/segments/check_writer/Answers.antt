@@ -1,4 +1,4 @@
-use Rattle.prim_parts.proofs.Does.{does_then, does_reached, does_exit, does_atom, does_who, does_give, computes_then}
+use Rattle.prim_parts.proofs.Does.{does_exit, does_atom, does_who}
 use Rattle.prim_classes.proofs.Moves.{writer_then}
 use Rattle.prim_classes.proofs.segments.check_writer.Goals as goal
 

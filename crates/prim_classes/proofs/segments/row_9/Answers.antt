@@ -1,4 +1,4 @@
-use Rattle.prim_parts.proofs.Does.{does_then, does_reached, does_exit, does_atom, does_who, does_give, computes_then}
+use Rattle.prim_parts.proofs.Does.{does_then, does_give, computes_then}
 use Rattle.prim_classes.proofs.Steps.{steps}
 use Rattle.prim_classes.proofs.segments.row_9.Goals as goal
 

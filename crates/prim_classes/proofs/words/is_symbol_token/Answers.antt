@@ -1,4 +1,4 @@
-use Rattle.std.proofs.Common.{◌≡◌, ℕ, ◌+◌, List, length, sym, subst, ◌∙◌, arith}
+use Rattle.std.proofs.Common.{◌≡◌, ◌+◌, List, length, sym, subst, ◌∙◌, arith}
 use Rattle.st_lexer.specs.declared.kinds.Token.{Token}
 use Rattle.prim_classes.specs.Symbols.{begins_with_symbol}
 use Rattle.st_lexer.specs.Views.{tokens_seen}
