@@ -37,7 +37,10 @@ fn entry_room<O: Objects>(
         return Ok(0);
     };
     let change = pair_put(&object.body, key, &Value::Ref(chosen));
-    check(Fault::ObjectTooLarge, stays_small(objects, dictionary, change))?;
+    check(
+        Fault::ObjectTooLarge,
+        stays_small(objects, dictionary, change),
+    )?;
     Ok(pair_growth(&object.body, key))
 }
 
