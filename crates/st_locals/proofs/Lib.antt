@@ -1,0 +1,3 @@
+pub mod FormTests
+pub mod NameTests
+pub mod Searches
