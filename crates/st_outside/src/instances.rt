@@ -34,6 +34,7 @@ pub(crate) fn variable_index<O: Objects>(
     let mut limit = CHAIN_STEPS;
     while limit > 0 {
         objects.read(class)?;
+        objects.sound();
         let Some(body) = class_at(objects, class) else {
             return Ok(found);
         };
@@ -53,10 +54,11 @@ fn first_in(name: &Text, names: &[Text], after: Option<usize>) -> Option<usize>
     requires bound { IfSome after (λ index. index ≤ 2 ^ 63) }
     ensures { result ≡ first_in name.now names.now after }
 {
-    match index_of(name, names) {
-        Some(index) => Some(index),
-        None => after.map(|index| names.len() + index),
+    if let Some(index) = index_of(name, names) {
+        return Some(index);
     }
+    let index = after?;
+    Some(names.len() + index)
 }
 
 // Where a name stands first among these.
@@ -65,7 +67,7 @@ fn index_of(name: &Text, names: &[Text]) -> Option<usize>
 {
     let mut index = 0;
     while index < names.len() {
-        if *name == names[index] {
+        if name.bytes() == names[index].bytes() {
             return Some(index);
         }
         index += 1;
@@ -74,6 +76,7 @@ fn index_of(name: &Text, names: &[Text]) -> Option<usize>
 }
 
 /// The value in a slot of the receiver, which is read.
+#[tactic(auto, using(crate::proofs::Steps::steps))]
 pub(crate) fn instance_value<O: Objects>(
     objects: &mut O,
     receiver: &Value,
@@ -91,6 +94,7 @@ pub(crate) fn instance_value<O: Objects>(
 }
 
 // A copy of what a slot holds.
+#[tactic(auto, using(crate::proofs::Steps::steps))]
 fn slot_value(body: &Body, slot: usize) -> Result<Value, Stop>
     ensures { Computes (need fault.Index (slot_at slot body.now)) result }
 {
@@ -110,6 +114,7 @@ fn slot_at(body: &Body, slot: usize) -> Option<&Value>
 }
 
 /// A value comes into a slot of the receiver, which is written.
+#[tactic(auto, using(crate::proofs::Steps::steps))]
 pub(crate) fn set_instance_value<O: Objects>(
     objects: &mut O,
     receiver: &Value,
@@ -125,6 +130,7 @@ pub(crate) fn set_instance_value<O: Objects>(
 }
 
 // The same, where the object of this name was written.
+#[tactic(auto, using(crate::proofs::Steps::steps))]
 fn put_in_slot<O: Objects>(
     objects: &mut O,
     name: Oid,

@@ -5,14 +5,15 @@
 
 mod classes;
 mod globals;
-mod install;
+
 mod instances;
 mod literals;
 mod look_up;
+mod methods;
 mod names;
 
 pub use globals::global_value;
-pub use install::install;
+pub use methods::install;
 pub use literals::literal;
 pub use look_up::find_method;
 pub use names::{read_name, write_name};

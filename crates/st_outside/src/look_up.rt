@@ -1,5 +1,5 @@
 //! Which method answers a message.
-ghost use Rattle.std.specs.Prelude.{◌≡◌, option_copied, None};
+ghost use Rattle.std.specs.Prelude.{◌≡◌, true, option_copied, None};
 ghost use Rattle.gem_object.specs.declared.value.Value.TheVariants as value;
 ghost use Rattle.object_programs.specs.Fixed.{fixed_by};
 ghost use Rattle.object_programs.specs.Run.{give};
@@ -51,7 +51,7 @@ pub fn find_method<O: Objects>(
     found_at(objects, &start, selector)
 }
 
-// Where the look-up begins. A receiver that is a reference is read for a message to `super` too.
+// Where the look-up begins.
 fn start_of<O: Objects>(
     objects: &mut O,
     to_super: bool,
@@ -61,9 +61,23 @@ fn start_of<O: Objects>(
     ensures { Does (start_of to_super frame.now receiver.now) (O.seen objects.old) result
         (O.seen objects.new) }
 {
-    if !to_super {
-        return start_of_receiver(objects, receiver);
+    if to_super {
+        start_for_super(objects, frame, receiver)
+    } else {
+        start_of_receiver(objects, receiver)
     }
+}
+
+// A receiver that is a reference is read for a message to `super` too.
+#[tactic(auto, using(crate::proofs::Steps::steps))]
+fn start_for_super<O: Objects>(
+    objects: &mut O,
+    frame: &Frame,
+    receiver: &Value,
+) -> Result<Start, Stop>
+    ensures { Does (start_of true frame.now receiver.now) (O.seen objects.old) result
+        (O.seen objects.new) }
+{
     start_of_receiver(objects, receiver)?;
     start_above(objects, frame)
 }
@@ -152,7 +166,8 @@ fn up_side<O: Objects>(
     ensures { Does (up_classes class_side selector.now (past_last class_side selector.now) class)
         (O.seen objects.old) result (O.seen objects.new) }
 {
-    match up_classes(objects, class_side, class, selector)? {
+    let found = up_classes(objects, class_side, class, selector)?;
+    match found {
         Some(found) => Ok(Some(found)),
         None => past_last(objects, class_side, selector),
     }
@@ -223,7 +238,7 @@ fn code_of<'a>(selector: &Text, methods: &'a [Method]) -> Option<&'a MethodCode>
     ensures { option_copied result ≡ code_of selector.now methods.now }
 {
     for method in methods {
-        if method.selector == *selector {
+        if method.selector.bytes() == selector.bytes() {
             return Some(&method.code);
         }
     }

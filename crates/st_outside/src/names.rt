@@ -15,6 +15,7 @@ use texts::Text;
 /// holds the frame's method, and else of a global; E2 where there is none. That class and all above
 /// it are read, and then what has the value: E10 where the user may not. It copies the value, and a
 /// global's name.
+#[tactic(auto, using(crate::proofs::Steps::steps))]
 pub fn read_name<O: Objects>(
     objects: &mut O,
     name: &Text,
@@ -31,6 +32,7 @@ pub fn read_name<O: Objects>(
 
 /// An assignment to such a name: to an instance variable, for which the receiver is written (E11
 /// where the user may not), and else E2. It answers a copy of the value. A block is E12.
+#[tactic(auto, using(crate::proofs::Steps::steps))]
 pub fn write_name<O: Objects>(
     objects: &mut O,
     name: &Text,

@@ -1,6 +1,8 @@
 //! Methods that are put into classes.
-ghost use Rattle.std.specs.Prelude.{◌≡◌, true, is_some, length, IfOk, OnOk, Some};
+ghost use Rattle.std.specs.Prelude.{◌≡◌, true, is_some, length, nat_le, IfOk, OnOk, Some};
+ghost use Rattle.profile.specs.declared.limits.TheConstants.{SYMBOL_LIMIT};
 ghost use Rattle.gem_object.specs.declared.body.MethodCode.TheVariants.{Source};
+ghost use Rattle.gem_object.specs.declared.body.Body.TheVariants.{Class};
 ghost use Rattle.gem_image.specs.Image.{Contents};
 ghost use Rattle.object_programs.specs.Budget.{bytes_cost};
 ghost use Rattle.object_programs.specs.Fixed.{class_part};
@@ -27,6 +29,7 @@ use texts::Text;
 /// E5 where it is no class; the class is read (E10) and written (E11), E17 where the selector is
 /// too long or the class too large, and E15 where there is too little space for the source. The
 /// time and the memory are those of the class, which is copied.
+#[tactic(auto, using(crate::proofs::Steps::steps))]
 pub fn install<O: Objects>(
     objects: &mut O,
     class_side: bool,
@@ -44,6 +47,7 @@ pub fn install<O: Objects>(
 }
 
 // The class object to which a value refers. Nothing that is there is touched.
+#[tactic(auto, using(crate::proofs::Steps::steps))]
 fn class_named<O: Objects>(objects: &mut O, value: &Value) -> Result<Oid, Stop>
     ensures { Does (class_named value.now) (O.seen objects.old) result (O.seen objects.new) }
 {
@@ -63,6 +67,7 @@ fn is_class(body: &Body) -> bool
 }
 
 // The class of this name gets a method, which has the source.
+#[tactic(auto, using(crate::proofs::Steps::steps))]
 fn put_method<O: Objects>(
     objects: &mut O,
     class_side: bool,
@@ -81,6 +86,7 @@ fn put_method<O: Objects>(
 }
 
 // The same, where the object of this name was written.
+#[tactic(auto, using(crate::proofs::Steps::steps))]
 fn put_in_class<O: Objects>(
     objects: &mut O,
     class_side: bool,
@@ -97,17 +103,34 @@ fn put_in_class<O: Objects>(
     let Some(class) = class_at(objects, name) else {
         return Err(Stop::Fails(Fault::ArgumentKind));
     };
-    check(
-        Fault::ObjectTooLarge,
-        selector.bytes().len() <= SYMBOL_LIMIT,
-    )?;
+    check(Fault::ObjectTooLarge, is_symbol(selector))?;
+    let body = with_source(class, class_side, selector, source)?;
+    objects.sound();
+    replace_body(objects, name, body, bytes_cost(source))
+}
+
+// Whether a text is short enough for a symbol.
+fn is_symbol(text: &Text) -> bool
+    ensures { result ≡ nat_le (length text.now) SYMBOL_LIMIT }
+{
+    text.bytes().len() <= SYMBOL_LIMIT
+}
+
+// The class with the source of a method on this side.
+fn with_source(
+    class: &ClassBody,
+    class_side: bool,
+    selector: &Text,
+    source: &Text,
+) -> Result<Body, AllocError>
+    ensures { IfOk result (λ body. body ≡ Class (class_with class_side
+        (record { selector = selector.now; code = Source source.now }) class.now)) }
+{
     let method = Method {
         selector: selector.clone()?,
         code: MethodCode::Source(source.clone()?),
     };
-    let body = Body::Class(class_with(class_side, method, class)?);
-    objects.sound();
-    replace_body(objects, name, body, bytes_cost(source))
+    Ok(Body::Class(class_with(class_side, method, class)?))
 }
 
 // A slot for each 8 bytes begun.
