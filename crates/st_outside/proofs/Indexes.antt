@@ -39,7 +39,7 @@ later count None = None
 
 none_before : (found : Option ℕ) → option_map (λ index. 0 + index) found ≡ found
 none_before None = refl
-none_before (Some index) = refl
+none_before (Some index) = let same : 0 + index ≡ index = omega arith in ap (λ (n : ℕ). Some n) same
 
 pub first_of_none : (name : Text) (found : Option ℕ) → first_in name [] found ≡ found
 first_of_none name found = none_before found
@@ -230,14 +230,14 @@ module _ (limit name : ℕ) (some : 0 < limit) where
 
       -- A class below another one: what is told of the names from this class on is told of those from
       -- the superclass on.
-      pub names_above : {Whole : Result (Option ℕ) Stop → Seen → Type 0} (wanted : Text) (found : Option ℕ)
+      pub names_above : (Whole : Result (Option ℕ) Stop → Seen → Type 0) (wanted : Text) (found : Option ℕ)
           → ((names : Result (List Text) Stop) (after : Seen) → Does (names_going limit name) before names after
           → Whole (indexed wanted found names) after) → (superclass : ℕ) → class.superclass ≡ Some superclass
           → (names : Result (List Text) Stop) (after : Seen) → Does (names_going (limit - 1) superclass) between names after
           → Whole (indexed wanted (first_in wanted class.names found) names) after
-      names_above {Whole} wanted found told superclass over (Ok names) after does =
+      names_above Whole wanted found told superclass over (Ok names) after does =
           let At : Option ℕ → Type 0 = λ found. Whole (Ok found) after in
           subst At (first_in_both wanted names class.names found) (told (Ok (names ++ class.names)) after
           (names_over (Some superclass) over (does_then does (does_give (names ++ class.names) after))))
-      names_above {Whole} wanted found told superclass over (Err ended) after does =
+      names_above Whole wanted found told superclass over (Err ended) after does =
           told (Err ended) after (names_over (Some superclass) over (does_stop does))

@@ -1,16 +1,21 @@
 -- Names out of scope, by the slot of the instance variable of this name.
-use Rattle.std.proofs.Common.{◌≡◌, refl, sym, ◌∙◌, subst, ℕ, Bool, true, false, List, Option, Some, None, Result, Ok, Err}
+use Rattle.std.proofs.Common.{◌≡◌, sym, subst, ℕ, Bool, true, false, nat_lt, Option, Some, None, Result, Ok, Err}
 use Rattle.std.specs.Result.{IsErrAnd}
 use Rattle.texts.specs.Bytes.{Bytes as Text}
+use Rattle.gem_object.specs.Edits.{plain_slots, with_slot}
 use Rattle.gem_object.specs.declared.value.Value.{Value}
+use Rattle.gem_image.specs.Image.{Contents}
 use Rattle.object_programs.specs.Run.{Run, give, and_then}
+use Rattle.object_programs.specs.Programs.{check, replace_body}
+use Rattle.object_programs.specs.declared.fault.Fault.TheVariants as fault
+use Rattle.prim_rules.specs.Receivers.{check_stored}
 use Rattle.tree_meaning.specs.Place.{Frame, MadeBlock}
 use Rattle.tree_meaning.specs.Names.{index_of}
 use Rattle.running_objects.specs.Seen.{Seen}
 use Rattle.running_objects.specs.declared.stop.Stop.{Stop}
-use Rattle.gem_language.specs.OutOfScope.{instance_names, slot_of, instance_value, set_instance_value, global_value, value_of_name, read_out_of_scope, assign_name, write_out_of_scope}
-use Rattle.prim_parts.specs.Does.{Does}
-use Rattle.prim_parts.proofs.Does.{does_then, does_stop, does_give, does_assoc_back}
+use Rattle.gem_language.specs.OutOfScope.{instance_names, slot_of, instance_value, set_instance_value, put_in_slot, value_of_name, read_out_of_scope, assign_name, write_out_of_scope}
+use Rattle.prim_parts.specs.Does.{Does, Computes}
+use Rattle.prim_parts.proofs.Does.{does_then, does_stop, does_give, does_assoc_back, computes_then}
 use Rattle.st_outside.proofs.Steps.{handed}
 use Rattle.st_outside.proofs.Indexes.{IndexTold}
 
@@ -106,3 +111,17 @@ module _ (name : Text) (frame : Frame) where
     write_stop value told exit = handed (λ given. Does (write_out_of_scope name frame value) before given after) result ended exit
         (with_given {first = instance_names frame.holder} (slot_of frame.class_side name)
         {second = λ slot. assign_name name frame slot value} (does_stop told))
+
+-- ---- a value comes into a slot
+
+module _ (name : ℕ) (object : Contents) (slot : ℕ) (value : Value) {before after : Seen} {result : Result Value Stop} where
+  -- where the value may be stored, and so many slots are counted
+  pub put_where : (slots : ℕ) → slots ≡ plain_slots object.body → Computes (check_stored value) (Ok tt)
+      → Does (and_then (check fault.Index (nat_lt slot slots)) (λ there.
+      and_then (replace_body 0 name object (with_slot slot value object.body)) (λ replaced.
+      give value))) before result after → Does (put_in_slot name object slot value) before result after
+  put_where slots are stored does =
+      let At : ℕ → Type 0 = λ slots. Does (and_then (check fault.Index (nat_lt slot slots)) (λ there.
+      and_then (replace_body 0 name object (with_slot slot value object.body)) (λ replaced.
+      give value))) before result after in
+      computes_then stored (subst At are does)

@@ -20,18 +20,17 @@ use texts::Text;
 /// A copy of the value of the global of this name: among the user's own globals, and then in
 /// Globals; E2 where there is none. A dictionary is read where it is looked into: E10 where the
 /// user may not.
-#[tactic(auto, using(crate::proofs::Steps::steps))]
 pub fn global_value<O: Objects>(objects: &mut O, name: &Text) -> Result<Value, Stop>
     ensures { Does (global_value name.now) (O.seen objects.old) result (O.seen objects.new) }
 {
-    match find_global(objects, name)? {
+    let found = find_global(objects, name)?;
+    match found {
         Some(value) => Ok(value),
         None => undefined(name),
     }
 }
 
 /// E2 for this name.
-#[tactic(auto, using(crate::proofs::Steps::steps))]
 pub(crate) fn undefined(name: &Text) -> Result<Value, Stop>
     ensures { Computes (fail (fault.UndefinedVariable name.now)) result }
 {
@@ -60,7 +59,6 @@ fn own_globals<O: Objects>(objects: &O) -> Option<Oid>
     }
 }
 
-#[tactic(auto, using(crate::proofs::Steps::steps))]
 fn own_global<O: Objects>(
     objects: &mut O,
     key: &Value,
@@ -76,7 +74,6 @@ fn own_global<O: Objects>(
 }
 
 // What was found, and else what Globals has, which is read then.
-#[tactic(auto, using(crate::proofs::Steps::steps))]
 fn or_in_globals<O: Objects>(
     objects: &mut O,
     key: &Value,
@@ -92,7 +89,6 @@ fn or_in_globals<O: Objects>(
 }
 
 // The global of this name in a dictionary, which is read.
-#[tactic(auto, using(crate::proofs::Steps::steps))]
 fn global_at<O: Objects>(
     objects: &mut O,
     key: &Value,
@@ -105,7 +101,8 @@ fn global_at<O: Objects>(
     let Some(object) = objects.object(dictionary) else {
         unreachable!()
     };
-    Ok(value_at(&object.body, key)?)
+    let found = value_at(&object.body, key)?;
+    Ok(found)
 }
 
 // A copy of the value at a key.

@@ -12,10 +12,11 @@ ghost use Rattle.st_outside.specs.Names.{first_in};
 ghost use Rattle.prim_parts.specs.Does.{Does, Computes};
 
 use crate::classes::{CHAIN_STEPS, class_at};
+use crate::references::reference_of;
 use gem_object::{Body, Value};
 use gem_value::Oid;
 use object_programs::Fault;
-use prim_parts::{check, check_stored, need, replace_slot};
+use prim_parts::{check, check_stored, replace_slot};
 use running_objects::{Objects, Stop};
 use texts::Text;
 
@@ -85,7 +86,7 @@ pub(crate) fn instance_value<O: Objects>(
     ensures { Does (instance_value receiver.now slot) (O.seen objects.old) result
         (O.seen objects.new) }
 {
-    let name = need(Fault::ArgumentKind, receiver.reference())?;
+    let name = reference_of(receiver)?;
     objects.read(name)?;
     let Some(object) = objects.object(name) else {
         unreachable!()
@@ -124,7 +125,7 @@ pub(crate) fn set_instance_value<O: Objects>(
     ensures { Does (set_instance_value receiver.now slot value) (O.seen objects.old) result
         (O.seen objects.new) }
 {
-    let name = need(Fault::ArgumentKind, receiver.reference())?;
+    let name = reference_of(receiver)?;
     objects.write(name)?;
     put_in_slot(objects, name, slot, value)
 }

@@ -5,12 +5,12 @@
 
 mod classes;
 mod globals;
-
 mod instances;
 mod literals;
 mod look_up;
 mod methods;
 mod names;
+mod references;
 
 pub use globals::global_value;
 pub use methods::install;

@@ -14,10 +14,11 @@ ghost use Rattle.prim_parts.specs.Does.{Does};
 
 use crate::classes::class_at;
 use crate::globals::global_value;
+use crate::references::reference_of;
 use gem_object::{Body, ClassBody, Method, MethodCode, Methods, Value};
 use gem_value::Oid;
 use object_programs::Fault;
-use prim_parts::{check, need, replace_body};
+use prim_parts::{check, replace_body};
 use profile::SYMBOL_LIMIT;
 use running_objects::{Objects, Stop};
 use std::alloc::AllocError;
@@ -51,7 +52,7 @@ pub fn install<O: Objects>(
 fn class_named<O: Objects>(objects: &mut O, value: &Value) -> Result<Oid, Stop>
     ensures { Does (class_named value.now) (O.seen objects.old) result (O.seen objects.new) }
 {
-    let name = need(Fault::ArgumentKind, value.reference())?;
+    let name = reference_of(value)?;
     objects.know(name)?;
     let Some(object) = objects.object(name) else {
         return Err(Stop::Fails(Fault::ArgumentKind));

@@ -15,7 +15,6 @@ use texts::Text;
 /// holds the frame's method, and else of a global; E2 where there is none. That class and all above
 /// it are read, and then what has the value: E10 where the user may not. It copies the value, and a
 /// global's name.
-#[tactic(auto, using(crate::proofs::Steps::steps))]
 pub fn read_name<O: Objects>(
     objects: &mut O,
     name: &Text,
@@ -24,7 +23,8 @@ pub fn read_name<O: Objects>(
     ensures { Does (read_out_of_scope name.now frame.now) (O.seen objects.old) result
         (O.seen objects.new) }
 {
-    match slot_of(objects, name, frame)? {
+    let found = slot_of(objects, name, frame)?;
+    match found {
         Some(slot) => instance_value(objects, frame.receiver(), slot),
         None => global_value(objects, name),
     }
@@ -32,7 +32,6 @@ pub fn read_name<O: Objects>(
 
 /// An assignment to such a name: to an instance variable, for which the receiver is written (E11
 /// where the user may not), and else E2. It answers a copy of the value. A block is E12.
-#[tactic(auto, using(crate::proofs::Steps::steps))]
 pub fn write_name<O: Objects>(
     objects: &mut O,
     name: &Text,
@@ -42,7 +41,8 @@ pub fn write_name<O: Objects>(
     ensures { Does (write_out_of_scope name.now frame.now value) (O.seen objects.old) result
         (O.seen objects.new) }
 {
-    match slot_of(objects, name, frame)? {
+    let found = slot_of(objects, name, frame)?;
+    match found {
         Some(slot) => set_instance_value(objects, frame.receiver(), slot, value),
         None => undefined(name),
     }
