@@ -19,7 +19,6 @@ use texts::Text;
 /// The value of a literal: a string and an array are new objects in the user's default segment, an
 /// array's elements before it. E17 before anything is made where a symbol has more than 1,000
 /// bytes; else the errors of new objects.
-#[tactic(auto, using(crate::proofs::Steps::steps))]
 pub fn literal<O: Objects>(
     alloc: Global,
     objects: &mut O,
