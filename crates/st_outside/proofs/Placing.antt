@@ -20,7 +20,8 @@ use Rattle.object_programs.specs.Budget.{bytes_cost}
 use Rattle.object_programs.specs.Fixed.{class_part}
 use Rattle.object_programs.specs.Guard.{Parts, is_known, is_segment_at, accepts, named_fit, kernel_fits, place_fits, fits}
 use Rattle.object_programs.specs.Methods.{is_source_of, method_fits, methods_fit}
-use Rattle.object_programs.specs.Run.{and_then}
+use Rattle.object_programs.specs.Run.{Run, and_then}
+use Rattle.tree_meaning.specs.Place.{MadeBlock}
 use Rattle.object_programs.specs.Programs.{need, check, replace_body}
 use Rattle.object_programs.specs.declared.fault.Fault.TheVariants as fault
 use Rattle.running_objects.specs.Seen.{Seen, object_at, IsSoundState}
@@ -183,3 +184,21 @@ pub put_none : (class_side : Bool) (new : Method) (source : Text) (name : ℕ) (
 put_none class_side new source name object seen there is =
     put_of class_side new source name object None (written_class (object_at name seen) object None there is)
     (does_stop (does_fail fault.ArgumentKind seen))
+
+-- whether the selector is short enough was told before
+pub checked : {rest : Unit {0} → Run MadeBlock (Unit {0})} (new : Method) (short : Bool)
+    → short ≡ nat_le (length new.selector) SYMBOL_LIMIT → {before after : Seen} {result : Result (Unit {0}) Stop}
+    → Does (and_then (check fault.ObjectTooLarge short) rest) before result after
+    → Does (and_then (check fault.ObjectTooLarge (nat_le (length new.selector) SYMBOL_LIMIT)) rest) before result after
+checked {rest} new short is {before} {after} {result} does =
+    let At : Bool → Type 0 = λ short. Does (and_then (check fault.ObjectTooLarge short) rest) before result after in
+    subst At is does
+
+-- a body of this size is put
+pub put_so : (name : ℕ) (object : Contents) {growth cost : ℕ} {given new : Body} → given ≡ new → growth ≡ cost
+    → {before after : Seen} {result : Result (Unit {0}) Stop} → Does (replace_body growth name object given) before result after
+    → Does (replace_body cost name object new) before result after
+put_so name object {growth} {cost} {given} {new} made costs {before} {after} {result} does =
+    let At : Body → Type 0 = λ body. Does (replace_body growth name object body) before result after in
+    let Of : ℕ → Type 0 = λ growth. Does (replace_body growth name object new) before result after in
+    subst Of costs (subst At made does)

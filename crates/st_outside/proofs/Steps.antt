@@ -5,14 +5,17 @@ use Rattle.tree_meaning.specs.Place.{MadeBlock}
 use Rattle.gem_world.specs.Access.{Access}
 use Rattle.gem_image.specs.Image.{Contents}
 use Rattle.object_programs.specs.Atom.{Ask}
+use Rattle.object_programs.specs.Fixed.{Fixed}
 use Rattle.object_programs.specs.Run.{Run, give, atom, and_then}
+use Rattle.object_programs.specs.Programs.{known}
+use Rattle.object_programs.specs.declared.fault.Fault.{Fault}
 use Rattle.running_objects.specs.Seen.{Seen}
-use Rattle.running_objects.specs.Acted.{Acted}
+use Rattle.running_objects.specs.Acted.{Acted, Known}
 use Rattle.running_objects.specs.declared.stop.Stop.{Stop}
 use Rattle.running_objects.specs.declared.stop.Stop.TheVariants as stop
 use Rattle.running_objects.proofs.Running.{keeps_same}
 use Rattle.prim_parts.specs.Does.{Does, Computes}
-use Rattle.prim_parts.proofs.Does.{does_then, does_stop, does_reached, does_atom, does_give, does_fail, does_compute, does_nothing, computes_then, computes_stop, computes_give, computes_fail}
+use Rattle.prim_parts.proofs.Does.{does_then, does_stop, does_reached, does_atom, does_give, does_fail, does_compute, does_nothing, computes_then, computes_stop, computes_give, computes_fail, known_stop}
 
 -- what a `?` hands on
 pub handed : {A : Type 0} (P : Result A Stop → Type 0) (result : Result A Stop) (ended : Stop)
@@ -36,6 +39,13 @@ pub access_stopped : {A : Type 0} {access : Access} {name : ℕ} {before after :
     {rest : Contents → Run MadeBlock A} {result : Result A Stop} → Acted (Ask access name) before (Err ended) after
     → IsErrAnd result (λ given. given ≡ ended) → Does (and_then (atom (Ask access name)) rest) before result after
 access_stopped acted is = does_stops (does_atom acted) is
+
+-- a fixed part that wasn't told
+pub known_stops : {A : Type 0} {fault : Fault} {name : ℕ} {before after : Seen} {ended : Stop} {rest : Fixed → Run MadeBlock A}
+    {result : Result A Stop} → Known name before (Err ended) after → IsErrAnd result (λ given. given ≡ ended)
+    → Does (and_then (known fault name) rest) before result after
+known_stops {A} {fault} {name} {before} {after} {ended} {rest} {result} asked is =
+    handed (λ given. Does (and_then (known fault name) rest) before given after) result ended is (known_stop asked)
 
 -- where memory ran out and nothing was done
 pub does_no_memory : {A : Type 0} {program : Run MadeBlock A} {seen : Seen} {result : Result A Stop}

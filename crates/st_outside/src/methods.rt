@@ -30,7 +30,6 @@ use texts::Text;
 /// E5 where it is no class; the class is read (E10) and written (E11), E17 where the selector is
 /// too long or the class too large, and E15 where there is too little space for the source. The
 /// time and the memory are those of the class, which is copied.
-#[tactic(auto, using(crate::proofs::Steps::steps))]
 pub fn install<O: Objects>(
     objects: &mut O,
     class_side: bool,
@@ -48,7 +47,6 @@ pub fn install<O: Objects>(
 }
 
 // The class object to which a value refers. Nothing that is there is touched.
-#[tactic(auto, using(crate::proofs::Steps::steps))]
 fn class_named<O: Objects>(objects: &mut O, value: &Value) -> Result<Oid, Stop>
     ensures { Does (class_named value.now) (O.seen objects.old) result (O.seen objects.new) }
 {
@@ -68,7 +66,6 @@ fn is_class(body: &Body) -> bool
 }
 
 // The class of this name gets a method, which has the source.
-#[tactic(auto, using(crate::proofs::Steps::steps))]
 fn put_method<O: Objects>(
     objects: &mut O,
     class_side: bool,
@@ -87,7 +84,6 @@ fn put_method<O: Objects>(
 }
 
 // The same, where the object of this name was written.
-#[tactic(auto, using(crate::proofs::Steps::steps))]
 fn put_in_class<O: Objects>(
     objects: &mut O,
     class_side: bool,

@@ -8,8 +8,8 @@ returns-in_err-found g c = slot_stop c.args.name.now c.args.frame.now c.holder.r
 
 pub returns-then-class_side : goal.returns-then-class_side
 returns-then-class_side g c = on_class_side c.args.name.now c.args.frame.now c.holder.result c.holder.ensures
-    (sym c.class_side.ensures ∙ c.if-class_side.true) c.in_ok-found.field-0 c.in_ok-found.ensures
+    (sym c.class_side.ensures ∙ c.if-class_side.true) c.in_ok-found.found c.in_ok-found.ensures
 
 pub returns : goal.returns
 returns g c = on_instance_side c.args.name.now c.args.frame.now c.holder.result c.holder.ensures
-    (sym c.class_side.ensures ∙ c.if-class_side.false) c.in_ok-found.field-0 c.in_ok-found.ensures
+    (sym c.class_side.ensures ∙ c.if-class_side.false) c.in_ok-found.found c.in_ok-found.ensures
