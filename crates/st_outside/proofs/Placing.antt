@@ -1,11 +1,11 @@
 -- A method among those of a class.
-use Rattle.std.proofs.Common.{◌≡◌, refl, sym, ap, ◌∙◌, subst, ℕ, ◌+◌, ◌<◌, ◌≤◌, ◌&&◌, Bool, true, false, nat_lt, nat_le, length, List, [], ◌∷◌, ◌++◌, take, drop, get_or, Option, Some, None, option_and_then, Ordering, Result, Ok, Err}
+use Rattle.std.proofs.Common.{◌≡◌, refl, sym, ap, ◌∙◌, subst, ℕ, suc, ◌+◌, ◌<◌, Bool, true, false, nat_lt, nat_le, length, List, [], ◌∷◌, ◌++◌, take, drop, get_or, slice_set, Option, Some, None, option_and_then, Ordering, Result, Ok, Err, arith}
 use Rattle.std.specs.List.{list_all}
 use Rattle.std.specs.Ordering.{nat_cmp, match_ordering}
 use Rattle.std.specs.Cmp.Lexicographic.{slice_cmp}
 use Rattle.std.specs.declared.cmp.Ordering.TheVariants.{Less, Equal, Greater}
 use Rattle.std.proofs.lemmas.Bool.{and_parts, and_from}
-use Rattle.std.proofs.lemmas.List.{drop_more, drop_all, take_all, take_more, append_assoc}
+use Rattle.std.proofs.lemmas.List.{drop_more, set_split}
 use Rattle.texts.specs.Bytes.{Bytes as Text}
 use Rattle.profile.specs.declared.limits.TheConstants.{SYMBOL_LIMIT}
 use Rattle.gem_object.specs.declared.body.MethodCode.TheVariants.{Source}
@@ -35,45 +35,22 @@ use Rattle.st_outside.specs.Written.{put_in_class}
 
 -- ---- where it comes
 
--- no method is left
-pub placed_last : (new : Method) (methods : List Method) (at : ℕ)
-    → with_method new methods ≡ take at methods ++ with_method new (drop at methods) → length methods ≤ at
-    → with_method new methods ≡ methods ++ new ∷ []
-placed_last new methods at so_far all = so_far
-    ∙ ap (λ (rest : List Method). take at methods ++ with_method new rest) (drop_all at methods all)
-    ∙ ap (λ (front : List Method). front ++ new ∷ []) (take_all at methods all)
-
-module _ (new : Method) (methods : List Method) (at : ℕ) (first : Method) (within : at < length methods)
-    (is : first ≡ get_or methods at first)
-    (so_far : with_method new methods ≡ take at methods ++ with_method new (drop at methods)) where
-  here : drop at methods ≡ first ∷ drop (at + 1) methods
-  here = drop_more methods at first within ∙ ap (λ (one : Method). one ∷ drop (at + 1) methods) (sym is)
-
-  placed : (order : Ordering) → slice_cmp nat_cmp new.selector first.selector ≡ order
-      → with_method new methods ≡ take at methods ++ match_ordering order (new ∷ first ∷ drop (at + 1) methods)
-      (new ∷ drop (at + 1) methods) (first ∷ with_method new (drop (at + 1) methods))
-  placed order compares = so_far ∙ ap (λ (rest : List Method). take at methods ++ with_method new rest) here
-      ∙ ap (λ (order : Ordering). take at methods ++ match_ordering order (new ∷ first ∷ drop (at + 1) methods)
-      (new ∷ drop (at + 1) methods) (first ∷ with_method new (drop (at + 1) methods))) compares
-
-  -- before the first one that is left, in its place, and behind it
-  pub placed_before : slice_cmp nat_cmp new.selector first.selector ≡ Less
-      → with_method new methods ≡ take at methods ++ new ∷ drop at methods
-  placed_before less = placed Less less ∙ ap (λ (rest : List Method). take at methods ++ new ∷ rest) (sym here)
-
-  pub placed_on : slice_cmp nat_cmp new.selector first.selector ≡ Equal
-      → with_method new methods ≡ take at methods ++ new ∷ drop (at + 1) methods
-  placed_on tied = placed Equal tied
-
-  pub placed_after : slice_cmp nat_cmp new.selector first.selector ≡ Greater
-      → with_method new methods ≡ take (at + 1) methods ++ with_method new (drop (at + 1) methods)
-  placed_after greater =
-      let one : first ∷ [] ≡ get_or methods at first ∷ [] = ap (λ (one : Method). one ∷ []) is in
-      let front : take at methods ++ first ∷ [] ≡ take (at + 1) methods =
-      ap (λ (rest : List Method). take at methods ++ rest) one ∙ sym (take_more methods at first within) in
-      placed Greater greater
-      ∙ sym (append_assoc (take at methods) (first ∷ []) (with_method new (drop (at + 1) methods)))
-      ∙ ap (λ (front : List Method). front ++ with_method new (drop (at + 1) methods)) front
+-- in the place of the one with its selector
+pub placed_on : (new : Method) (methods loop : List Method) (at : ℕ) (first : Method) → loop ≡ methods
+    → with_method new methods ≡ take at methods ++ with_method new (drop at methods) → at < length loop
+    → first ≡ get_or loop at first → slice_cmp nat_cmp new.selector first.selector ≡ Equal
+    → slice_set loop at new ≡ with_method new methods
+placed_on new methods loop at first same so_far within is tied =
+    let inside : at < length methods = subst (λ (one : List Method). at < length one) same within in
+    let there : first ≡ get_or methods at first = subst (λ (one : List Method). first ≡ get_or one at first) same is in
+    let here : drop at methods ≡ first ∷ drop (at + 1) methods =
+    drop_more methods at first inside ∙ ap (λ (one : Method). one ∷ drop (at + 1) methods) (sym there) in
+    let next : suc at ≡ at + 1 = omega arith in
+    ap (λ (one : List Method). slice_set one at new) same ∙ set_split methods at new inside
+    ∙ ap (λ (behind : ℕ). take at methods ++ new ∷ drop behind methods) next
+    ∙ sym (so_far ∙ ap (λ (rest : List Method). take at methods ++ with_method new rest) here
+    ∙ ap (λ (order : Ordering). take at methods ++ match_ordering order (new ∷ first ∷ drop (at + 1) methods)
+    (new ∷ drop (at + 1) methods) (first ∷ with_method new (drop (at + 1) methods))) tied)
 
 -- ---- that it fits
 
@@ -122,7 +99,7 @@ methods_seen seen sound name object there =
     let seven = and_parts (place_fits parts name (class_part object.body)) _ six.1 in
     (and_parts (methods_fit name object.body) _ seven.1).0
 
-of_class : (name : ℕ) (body : Body) (class : ClassBody) → class_of body ≡ Some class → methods_fit name body ≡ true
+of_class : (name : ℕ) (one : Body) (class : ClassBody) → class_of one ≡ Some class → methods_fit name one ≡ true
     → methods_fit name (body.Class class) ≡ true
 of_class name (body.Class own) class is fit =
     let same : own ≡ class = cc in

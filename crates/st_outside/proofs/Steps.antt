@@ -59,5 +59,21 @@ does_given {A} {answer} {given} {seen} is =
     let At : A → Type 0 = λ one. Does (give one) seen (Ok given) seen in
     subst At is (does_give given seen)
 
-pub ruleset steps = (does_given, does_stop, does_then, computes_stop, computes_then, does_give, does_fail,
-    computes_give, computes_fail, does_reached, does_stops, computes_stops, access_stopped, does_no_memory, does_atom, does_compute)
+pub ruleset steps = (
+  does_given,
+  does_stop,
+  does_then,
+  computes_stop,
+  computes_then,
+  does_give,
+  does_fail,
+  computes_give,
+  computes_fail,
+  does_reached,
+  does_stops,
+  computes_stops,
+  access_stopped,
+  does_no_memory,
+  does_atom,
+  does_compute,
+)

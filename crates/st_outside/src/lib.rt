@@ -13,7 +13,7 @@ mod names;
 mod references;
 
 pub use globals::global_value;
-pub use methods::install;
 pub use literals::literal;
 pub use look_up::find_method;
+pub use methods::install;
 pub use names::{read_name, write_name};

@@ -19,11 +19,7 @@ use texts::Text;
 /// The value of a literal: a string and an array are new objects in the user's default segment, an
 /// array's elements before it. E17 before anything is made where a symbol has more than 1,000
 /// bytes; else the errors of new objects.
-pub fn literal<O: Objects>(
-    alloc: Global,
-    objects: &mut O,
-    literal: &Literal,
-) -> Result<Value, Stop>
+pub fn literal<O: Objects>(alloc: Global, objects: &mut O, literal: &Literal) -> Result<Value, Stop>
     ensures { Does (literal_value (constant_of literal.now)) (O.seen objects.old) result
         (O.seen objects.new) }
 {
@@ -92,11 +88,7 @@ fn string_value<O: Objects>(alloc: Global, objects: &mut O, text: &Text) -> Resu
 
 // A new Array of these elements, which are made before it.
 #[cycle(values)]
-fn array_value<O: Objects>(
-    alloc: Global,
-    objects: &mut O,
-    items: &[Literal],
-) -> Result<Value, Stop>
+fn array_value<O: Objects>(alloc: Global, objects: &mut O, items: &[Literal]) -> Result<Value, Stop>
     ensures { Does (constant_value (array (constants (map constant_of items.now))))
         (O.seen objects.old) result (O.seen objects.new) }
 {

@@ -138,11 +138,7 @@ fn bytes_cost(source: &Text) -> u64
 }
 
 // The class with this method on this side.
-fn class_with(
-    class_side: bool,
-    method: Method,
-    class: &ClassBody,
-) -> Result<ClassBody, AllocError>
+fn class_with(class_side: bool, method: Method, class: &ClassBody) -> Result<ClassBody, AllocError>
     ensures { IfOk result (λ new. new ≡ class_with class_side method class.now) }
 {
     let mut new = class.clone()?;

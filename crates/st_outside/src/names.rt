@@ -15,11 +15,7 @@ use texts::Text;
 /// holds the frame's method, and else of a global; E2 where there is none. That class and all above
 /// it are read, and then what has the value: E10 where the user may not. It copies the value, and a
 /// global's name.
-pub fn read_name<O: Objects>(
-    objects: &mut O,
-    name: &Text,
-    frame: &Frame,
-) -> Result<Value, Stop>
+pub fn read_name<O: Objects>(objects: &mut O, name: &Text, frame: &Frame) -> Result<Value, Stop>
     ensures { Does (read_out_of_scope name.now frame.now) (O.seen objects.old) result
         (O.seen objects.new) }
 {
@@ -49,11 +45,7 @@ pub fn write_name<O: Objects>(
 }
 
 // The slot of the instance variable of this name; none in a method of the class side.
-fn slot_of<O: Objects>(
-    objects: &mut O,
-    name: &Text,
-    frame: &Frame,
-) -> Result<Option<usize>, Stop>
+fn slot_of<O: Objects>(objects: &mut O, name: &Text, frame: &Frame) -> Result<Option<usize>, Stop>
     ensures { Does (and_then (instance_names frame.now.holder)
         (λ names. give (slot_of frame.now.class_side name.now names))) (O.seen objects.old) result
         (O.seen objects.new) }

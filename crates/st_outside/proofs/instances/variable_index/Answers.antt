@@ -11,8 +11,11 @@ use Rattle.st_outside.proofs.Indexes.{IndexTold, IsReached, first_of_none, reach
 use Rattle.st_outside.proofs.instances.variable_index.Goals as goal
 
 pub loop-limit-init : goal.loop-limit-init
-loop-limit-init g c = ((omega arith, tt), λ names after does.
-    goes_indexed c.args.name.now c.args.class 281474976710657 names refl does)
+loop-limit-init g c = (
+  (omega arith, tt),
+  λ names after does.
+      goes_indexed c.args.name.now c.args.class 281474976710657 names refl does,
+)
 
 pub returns-in_err-read : goal.returns-in_err-read
 returns-in_err-read g c =
@@ -60,13 +63,17 @@ loop-limit-preserved g c =
     c.first_in-found.ensures ∙ ap (λ (names : List Text). first_in c.args.name.now names c.loop-limit.found) c.as_slice.ensures in
     let within = c.loop-limit.invariant.0.0 in
     let Whole : Result (Option ℕ) Stop → Seen → Type 0 =
-    IndexTold c.args.name.now c.args.class (g.O.Objects.seen c.args.objects.now) in
-    ((omega (arith, within), subst (IsReached (c.loop-limit.limit - 1)) (sym found)
-    (reached_more c.loop-limit.limit c.args.name.now c.in-Some.body.now.names c.loop-limit.found few
-    c.loop-limit-test.true within c.loop-limit.invariant.0.1)),
-    rw found (names_above c.loop-limit.limit c.loop-limit.class c.loop-limit-test.true c.in_ok-read.ensures
-    c.in-Some.body.now (sym c.in-Some.ensures) Whole c.args.name.now c.loop-limit.found
-    c.loop-limit.invariant.1 c.in-Some-superclass.superclass c.in-Some-superclass.is))
+    IndexTold c.args.name.now c.args.class (g.O.Objects.seen c.args.objects.now) in (
+      (
+        omega (arith, within),
+        subst (IsReached (c.loop-limit.limit - 1)) (sym found)
+            (reached_more c.loop-limit.limit c.args.name.now c.in-Some.body.now.names c.loop-limit.found few
+            c.loop-limit-test.true within c.loop-limit.invariant.0.1),
+      ),
+      rw found (names_above c.loop-limit.limit c.loop-limit.class c.loop-limit-test.true c.in_ok-read.ensures
+          c.in-Some.body.now (sym c.in-Some.ensures) Whole c.args.name.now c.loop-limit.found
+          c.loop-limit.invariant.1 c.in-Some-superclass.superclass c.in-Some-superclass.is),
+    )
 
 pub returns : goal.returns
 returns g c =
