@@ -1,7 +1,6 @@
 -- Where a name stands among those of the classes above one, which are gone through upwards.
-use Rattle.std.proofs.Common.{◌≡◌, refl, sym, ap, ◌∙◌, subst, ℕ, zero, suc, ◌+◌, ◌*◌, ◌^◌, ◌-◌, ◌<◌, ◌≤◌, Bool, true, false, cond, length, List, [], ◌∷◌, ◌++◌, Option, Some, None, IfSome, is_some, option_map, option_and_then, Result, Ok, Err, arith}
+use Rattle.std.proofs.Common.{◌≡◌, refl, sym, ap, ◌∙◌, subst, ℕ, suc, ◌+◌, ◌*◌, ◌^◌, ◌-◌, ◌<◌, ◌≤◌, Bool, true, false, cond, length, List, [], ◌∷◌, ◌++◌, Option, Some, None, IfSome, is_some, option_map, option_and_then, Result, Ok, Err, arith}
 use Rattle.std.specs.Prelude.{bytes_eq}
-use Rattle.std.specs.Result.{IsErrAnd}
 use Rattle.std.proofs.lemmas.List.Sums.{sum_by-cons}
 use Rattle.texts.specs.Bytes.{Bytes as Text}
 use Rattle.gem_object.specs.declared.body.ClassBody.{ClassBody}
@@ -23,9 +22,9 @@ use Rattle.running_objects.specs.Acted.{Acted, Reached}
 use Rattle.running_objects.specs.declared.stop.Stop.{Stop}
 use Rattle.running_objects.specs.declared.stop.Stop.TheVariants as stop
 use Rattle.gem_language.specs.OutOfScope.{inherited_names, names_of_class, names_within, instance_names}
-use Rattle.prim_parts.specs.Does.{Does, IsThere}
+use Rattle.prim_parts.specs.Does.{Does}
 use Rattle.prim_parts.specs.Walks.{part_of_class, parts_seen, classes_over, classes_up, count_names}
-use Rattle.prim_parts.proofs.Does.{does_atom, does_then, does_stop, does_exit, does_give, does_fail}
+use Rattle.prim_parts.proofs.Does.{does_atom, does_then, does_stop, does_give, does_fail}
 use Rattle.prim_parts.proofs.Walks.{few_names, up_some}
 use Rattle.st_outside.specs.Names.{or_further, first_in}
 use Rattle.st_outside.proofs.Ups.{read_class}

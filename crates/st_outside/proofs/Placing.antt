@@ -1,5 +1,5 @@
 -- A method among those of a class.
-use Rattle.std.proofs.Common.{◌≡◌, refl, sym, ap, ◌∙◌, subst, ℕ, suc, ◌+◌, ◌<◌, Bool, true, false, nat_lt, nat_le, length, List, [], ◌∷◌, ◌++◌, take, drop, get_or, slice_set, Option, Some, None, option_and_then, Ordering, Result, Ok, Err, arith}
+use Rattle.std.proofs.Common.{◌≡◌, refl, sym, ap, ◌∙◌, subst, ℕ, suc, ◌+◌, ◌<◌, Bool, true, false, nat_lt, nat_le, length, List, [], ◌∷◌, ◌++◌, take, drop, get_or, slice_set, Option, Some, None, option_and_then, Ordering, Result, Err, arith}
 use Rattle.std.specs.List.{list_all}
 use Rattle.std.specs.Ordering.{nat_cmp, match_ordering}
 use Rattle.std.specs.Cmp.Lexicographic.{slice_cmp}

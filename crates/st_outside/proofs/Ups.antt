@@ -1,5 +1,5 @@
 -- The walk of a look-up over the classes of one side.
-use Rattle.std.proofs.Common.{◌≡◌, refl, sym, ap, ◌∙◌, subst, ℕ, zero, suc, ◌-◌, ◌<◌, Bool, Option, Some, None, option_and_then, Result, Ok, Err, arith}
+use Rattle.std.proofs.Common.{◌≡◌, refl, sym, ap, ◌∙◌, subst, ℕ, zero, suc, ◌-◌, ◌<◌, Bool, Option, Some, None, option_and_then, Result, Err, arith}
 use Rattle.std.specs.Result.{IsErrAnd}
 use Rattle.texts.specs.Bytes.{Bytes as Text}
 use Rattle.gem_object.specs.declared.body.MethodCode.{MethodCode}
@@ -10,7 +10,7 @@ use Rattle.gem_world.specs.Access.{Access, a_read}
 use Rattle.gem_sound.specs.Parts.{class_of}
 use Rattle.object_programs.specs.Guard.{chain_limit}
 use Rattle.object_programs.specs.Atom.{Ask}
-use Rattle.object_programs.specs.Run.{Run, give, and_then, Ending, gives, returns, fails, State, Outcome, onward, perform}
+use Rattle.object_programs.specs.Run.{give, and_then, Ending, gives, returns, fails, State, Outcome, onward, perform}
 use Rattle.object_programs.specs.Programs.{read}
 use Rattle.object_programs.specs.declared.fault.Fault.TheVariants as fault
 use Rattle.tree_meaning.specs.Place.{MadeBlock}

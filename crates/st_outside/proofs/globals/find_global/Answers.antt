@@ -1,4 +1,4 @@
-use Rattle.std.proofs.Common.{subst, ap, ℕ, Option, Ok}
+use Rattle.std.proofs.Common.{subst, ap, ℕ, Option}
 use Rattle.gem_object.specs.declared.value.Value.TheVariants.{Sym}
 use Rattle.object_programs.specs.Run.{and_then}
 use Rattle.gem_language.specs.OutOfScope.{own_global, or_in_globals, find_global}

@@ -1,4 +1,4 @@
-use Rattle.std.proofs.Common.{subst, Option, None, Ok}
+use Rattle.std.proofs.Common.{subst, Option, Ok}
 use Rattle.gem_object.specs.declared.value.Value.{Value}
 use Rattle.gem_language.specs.OutOfScope.{find_global, global_value}
 use Rattle.prim_parts.specs.Does.{Does}

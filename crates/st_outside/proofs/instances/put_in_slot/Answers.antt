@@ -1,4 +1,3 @@
-use Rattle.std.proofs.Common.{◌≡◌, Result, Ok, Err}
 use Rattle.prim_parts.proofs.Does.{does_then, computes_then}
 use Rattle.st_outside.proofs.Steps.{does_stops, does_given, computes_stops}
 use Rattle.st_outside.proofs.Slots.{put_where}

@@ -1,4 +1,4 @@
-use Rattle.std.proofs.Common.{◌≡◌, ◌∙◌, ◌≤◌, ◌-◌, refl, sym, ap, subst, ℕ, length, List, [], Option, None, Some, option_and_then, Result, Ok, Err, arith}
+use Rattle.std.proofs.Common.{◌≡◌, ◌∙◌, ◌≤◌, ◌-◌, refl, sym, ap, subst, ℕ, length, List, [], Option, None, option_and_then, Result, Ok, Err, arith}
 use Rattle.texts.specs.Bytes.{Bytes as Text}
 use Rattle.gem_sound.specs.Parts.{class_of}
 use Rattle.object_programs.specs.declared.fault.Fault.TheVariants as fault

@@ -1,4 +1,4 @@
-use Rattle.std.proofs.Common.{◌≡◌, ◌≤◌, ◌^◌, ◌+◌, List, Result}
+use Rattle.std.proofs.Common.{◌≤◌, ◌^◌, ◌+◌, List, Result}
 use Rattle.texts.specs.Bytes.{Bytes as Text}
 use Rattle.running_objects.specs.Seen.{Seen}
 use Rattle.running_objects.specs.declared.stop.Stop.{Stop}

@@ -1,4 +1,4 @@
-use Rattle.std.proofs.Common.{◌≡◌, map, drop, List, Result}
+use Rattle.std.proofs.Common.{map, drop, List, Result}
 use Rattle.st_tree.specs.Trees.{constants}
 use Rattle.st_tree.specs.Views.{constant_of}
 use Rattle.gem_object.specs.declared.value.Value.{Value}

@@ -4,7 +4,7 @@ use Rattle.gem_sound.specs.Parts.{class_of}
 use Rattle.running_objects.specs.Seen.{Seen, object_at}
 use Rattle.running_objects.specs.declared.stop.Stop.TheVariants as stop
 use Rattle.object_programs.specs.declared.fault.Fault.TheVariants as fault
-use Rattle.gem_language.specs.LookUp.{methods_on, code_of}
+use Rattle.gem_language.specs.LookUp.{code_of}
 use Rattle.gem_language.specs.declared.found.Found.{Found}
 use Rattle.prim_parts.proofs.Does.{does_give}
 use Rattle.st_outside.proofs.Steps.{does_given, does_no_memory}

@@ -4,7 +4,7 @@ use Rattle.object_programs.specs.Programs.{check}
 use Rattle.object_programs.specs.declared.fault.Fault.TheVariants as fault
 use Rattle.running_objects.specs.Seen.{Seen}
 use Rattle.prim_parts.specs.Does.{Does}
-use Rattle.prim_parts.proofs.Does.{computes_then, does_give, known_then}
+use Rattle.prim_parts.proofs.Does.{computes_then, known_then}
 use Rattle.st_outside.proofs.Steps.{computes_stops, known_stops}
 use Rattle.st_outside.proofs.methods.class_named.Goals as goal
 

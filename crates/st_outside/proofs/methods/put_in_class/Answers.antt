@@ -1,14 +1,8 @@
-use Rattle.std.proofs.Common.{◌≡◌, sym, ap, subst, ℕ, Bool, nat_le, length, None, option_and_then, Ok, arith}
+use Rattle.std.proofs.Common.{◌≡◌, sym, None, option_and_then, arith}
 use Rattle.gem_object.specs.declared.body.MethodCode.TheVariants.{Source}
 use Rattle.gem_object.specs.declared.body.Method.{Method}
-use Rattle.gem_object.specs.declared.body.Body.{Body}
-use Rattle.gem_object.specs.declared.body.Body.TheVariants.{Class}
 use Rattle.gem_sound.specs.Parts.{class_of}
-use Rattle.object_programs.specs.Run.{and_then}
-use Rattle.object_programs.specs.Programs.{check, replace_body}
-use Rattle.object_programs.specs.declared.fault.Fault.TheVariants as fault
 use Rattle.running_objects.specs.Seen.{Seen, object_at}
-use Rattle.prim_parts.specs.Does.{Does}
 use Rattle.prim_parts.proofs.Does.{computes_then}
 use Rattle.st_outside.proofs.Steps.{computes_stops, does_no_memory}
 use Rattle.st_outside.proofs.Placing.{put_none, put_some, seen_fits, checked, put_so}

@@ -1,5 +1,4 @@
 use Rattle.std.proofs.Common.{subst, ℕ, Option, None, Ok}
-use Rattle.prim_parts.proofs.Does.{does_compute}
 use Rattle.st_outside.proofs.Slots.{SlotTold, read_stop, read_slot, read_then}
 use Rattle.st_outside.proofs.names.read_name.Goals as goal
 
