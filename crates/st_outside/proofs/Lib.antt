@@ -1,0 +1,6 @@
+mod Steps
+mod Ups
+mod Indexes
+mod Slots
+mod Elements
+mod Placing
