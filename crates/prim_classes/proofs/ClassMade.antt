@@ -15,7 +15,7 @@ use Rattle.object_programs.specs.Budget.{is_within_limits}
 use Rattle.object_programs.specs.Methods.{method_fits, methods_fit}
 use Rattle.running_objects.specs.Seen.{Seen}
 use Rattle.prim_rules.specs.Classes.{NewClass, class_object, class_entry}
-use Rattle.prim_parts.specs.Entering.{HasName, AreEntered}
+use Rattle.prim_parts.specs.Entering.{HasNames, AreEntered}
 use Rattle.object_programs.specs.Run.{give}
 use Rattle.prim_parts.specs.Does.{Does}
 use Rattle.prim_parts.proofs.Does.{does_give}
@@ -24,14 +24,16 @@ use Rattle.prim_classes.specs.ClassWords.{IsNew, with_dictionary}
 -- it stands there as the rule makes it
 pub class_entered : (class : ClassBody) (segment : ℕ) (object : Object) (objects : List Object) (chosen : ℕ) (key : Value) (seen : Seen)
     → objects ≡ object ∷ [] → contents_of object ≡ class_object class segment
-    → (HasName seen → chosen ≡ next_name seen.setting seen.world) → key ≡ Sym class.name
+    → (HasNames 1 seen → chosen ≡ next_name seen.setting seen.world) → key ≡ Sym class.name
     → AreEntered (class_entry class segment) objects chosen key seen
 class_entered class segment object objects chosen key seen are is named key_is =
     let same : class_object class segment ∷ [] ≡ map contents_of objects =
     sym (ap (λ (these : List Object). map contents_of these) are ∙ ap (λ (one : Contents). one ∷ []) is) in
     record {
       objects_are = λ has. same;
-      chosen_is = λ has. sym (named has);
+      chosen_is = λ has.
+          let Left : ℕ → Type 0 = λ count. HasNames count seen in
+          sym (named (subst Left (ap (λ (these : List Object). length these) are) has));
       key_is = sym key_is;
       count = sym (ap (λ (these : List Object). length these) are);
       sizes = ap (λ (these : List Contents). list_all is_within_limits these) same;

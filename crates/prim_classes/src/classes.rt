@@ -2,7 +2,7 @@
 ghost use Rattle.std.specs.Prelude.{◌≡◌, true, not, drop, Some, filter, map, [], IfOk, List};
 ghost use Rattle.gem_image.specs.Image.{Contents};
 ghost use Rattle.gem_world.specs.World.{next_name};
-ghost use Rattle.prim_parts.specs.Entering.{HasName};
+ghost use Rattle.prim_parts.specs.Entering.{HasNames};
 ghost use Rattle.gem_object.specs.declared.value.Value.{Value};
 ghost use Rattle.gem_object.specs.declared.value.Value.TheVariants.{Sym};
 ghost use Rattle.gem_object.specs.declared.body.Body.TheVariants as body;
@@ -394,7 +394,7 @@ fn wanted_class<O: Objects>(
 
 // The name that is drawn next, or another one where none is left.
 fn next_or<O: Objects>(objects: &O, other: Oid) -> Oid
-    ensures { HasName (O.seen objects.now)
+    ensures { HasNames 1 (O.seen objects.now)
         → result ≡ next_name (O.seen objects.now).setting (O.seen objects.now).world }
 {
     match objects.next_name() {

@@ -43,7 +43,7 @@ use Rattle.running_objects.specs.Acted.{Acted}
 use Rattle.running_objects.specs.declared.stop.Stop.{Stop}
 use Rattle.tree_meaning.specs.Place.{MadeBlock}
 use Rattle.prim_parts.specs.Does.{Does, Computes}
-use Rattle.prim_parts.specs.Entering.{HasName, AreEntered, Enters, entry_room, put_entry}
+use Rattle.prim_parts.specs.Entering.{HasNames, AreEntered, Enters, entry_room, put_entry}
 use Rattle.prim_parts.proofs.Does.{does_then, does_atom, does_give, does_exit, does_compute}
 
 module _ (key : Value) (one other : ℕ) where
@@ -305,7 +305,7 @@ module _ (entered : Entered) (receiver : Receiver (List (Value × Value))) (obje
 
   -- the premises of the last call, after names and room
   pub as_entered : {between : Seen} → between.setting ≡ before.setting → between.world ≡ before.world
-      → HasName before → Enters objects chosen key dictionary between result after
+      → HasNames (length objects) before → Enters objects chosen key dictionary between result after
       → object_at dictionary before ≡ Some receiver.object
       → Does (and_then (atom (Make entered.objects_at)) (λ first. put_entry dictionary key receiver.object (entered.chosen first)))
       between result after
@@ -385,7 +385,7 @@ module _ (entered : Entered) (receiver : Receiver (List (Value × Value))) (obje
         let Of : ℕ → Type 0 = λ slots. Acted (Room slots) between (Ok tt) over in
         let names : Acted (Names (length objects)) before (Ok tt) between = subst At count_is named in
         let left = names_left (length objects) names in
-        let has : HasName before = omega (arith, left.room, some) in
+        let has : HasNames (length objects) before = omega (arith, left.room) in
         at_names (λ same. does_then (does_atom names) (does_then (does_atom (subst Of same room))
         (as_entered entered receiver objects chosen key dictionary are name_is (room.keeps.setting ∙ named.keeps.setting)
         (room_left growth room ∙ left.same) has enters there)))

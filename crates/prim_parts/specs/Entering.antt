@@ -1,5 +1,5 @@
 -- New objects that are put into a dictionary: what code has of them before they are made.
-use Rattle.std.specs.Prelude.{◌≡◌, ◌<◌, ℕ, length, map, List, Some, Result}
+use Rattle.std.specs.Prelude.{◌≡◌, ◌+◌, ◌≤◌, ℕ, length, map, List, Some, Result}
 use Rattle.std.specs.List.{list_all}
 use Rattle.gem_object.specs.declared.value.Value.{Value}
 use Rattle.gem_object.specs.declared.object.Object.{Object}
@@ -22,18 +22,18 @@ use Rattle.object_programs.specs.Programs.{check}
 use Rattle.object_programs.specs.declared.fault.Fault.TheVariants as fault
 use Rattle.prim_rules.specs.Dictionaries.{pair_growth}
 
--- a name is left to be drawn
-abbrev pub HasName : Seen → Type 0
-HasName seen = seen.world.next < COUNTER_LIMIT
+-- so many names are left to be drawn
+abbrev pub HasNames : (count : ℕ) → Seen → Type 0
+HasNames count seen = seen.world.next + count ≤ COUNTER_LIMIT
 
 -- These objects are those that are to be made, where the first of them gets the name that is drawn
--- next; this name goes into the dictionary, under this key. Where no name is left only their number
--- and their sizes count, which don't depend on names.
+-- next; this name goes into the dictionary, under this key. Where too few names are left only the
+-- number of objects and their sizes count, which don't depend on names.
 pub record AreEntered (entered : Entered) (objects : List Object) (chosen : ℕ) (key : Value)
     (seen : Seen) : Type 0 where
-  pub objects_are : HasName seen
+  pub objects_are : HasNames (length objects) seen
       → entered.objects_at (next_name seen.setting seen.world) ≡ map contents_of objects
-  pub chosen_is : HasName seen
+  pub chosen_is : HasNames (length objects) seen
       → entered.chosen (next_name seen.setting seen.world) ≡ chosen
   pub key_is : entered.key ≡ key
   pub count : length (sized_objects entered) ≡ length objects
@@ -57,7 +57,8 @@ entry_room key chosen object =
     give (pair_growth key object.body))
 
 -- an object that was made is put into a dictionary
-abbrev pub put_entry : (dictionary : ℕ) (key : Value) → Contents → (chosen : ℕ) → Run MadeBlock Value
+abbrev pub put_entry : (dictionary : ℕ) (key : Value) → Contents → (chosen : ℕ)
+    → Run MadeBlock Value
 put_entry dictionary key object chosen =
     and_then (atom (Put dictionary (with_value_at key (Ref chosen) object.body))) (λ entry.
     give (Ref chosen))
@@ -70,5 +71,6 @@ Enters objects chosen key dictionary before result after = (objects_at : ℕ →
     → objects_at (next_name before.setting before.world) ≡ map contents_of objects
     → chosen_of (next_name before.setting before.world) ≡ chosen
     → object_at dictionary before ≡ Some object
-    → Does (and_then (atom (Make objects_at)) (λ first. put_entry dictionary key object (chosen_of first)))
+    → Does (and_then (atom (Make objects_at)) (λ first.
+    put_entry dictionary key object (chosen_of first)))
     before result after

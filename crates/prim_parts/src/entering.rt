@@ -65,9 +65,9 @@ fn enter<O: Objects>(
 
 /// Makes objects at the names that are drawn next, and puts the one of this name into a dictionary
 /// that was written; a reference to it. The objects stand as they are where the first of them gets
-/// `next_name`; where no name is left any name serves, since sizes don't depend on it. E17 where an
-/// object or then the dictionary would be too large, E16 unless there is a name for each, E15 where
-/// there is too little space; then nothing is made.
+/// `next_name`; where too few names are left any name serves, since sizes don't depend on it. E17
+/// where an object or then the dictionary would be too large, E16 unless there is a name for each,
+/// E15 where there is too little space; then nothing is made.
 pub fn make_and_enter<O: Objects>(
     objects: &mut O,
     made: Vec<Object>,
