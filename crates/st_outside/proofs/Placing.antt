@@ -1,11 +1,12 @@
 -- A method among those of a class.
-use Rattle.std.proofs.Common.{◌≡◌, refl, sym, ap, ◌∙◌, subst, ℕ, suc, ◌+◌, ◌<◌, Bool, true, false, nat_lt, nat_le, length, List, [], ◌∷◌, ◌++◌, take, drop, get_or, slice_set, Option, Some, None, option_and_then, Ordering, Result, Err, arith}
+use Rattle.std.proofs.Common.{◌≡◌, refl, sym, ap, ◌∙◌, subst, ℕ, suc, ◌+◌, ◌<◌, ◌≤◌, ◌^◌, ◌&&◌, Bool, true, false, nat_lt, nat_le, sum_by, length, List, [], ◌∷◌, ◌++◌, take, drop, get_or, slice_set, Option, Some, None, option_and_then, Ordering, Result, Err, arith}
 use Rattle.std.specs.List.{list_all}
 use Rattle.std.specs.Ordering.{nat_cmp, match_ordering}
 use Rattle.std.specs.Cmp.Lexicographic.{slice_cmp}
 use Rattle.std.specs.declared.cmp.Ordering.TheVariants.{Less, Equal, Greater}
 use Rattle.std.proofs.lemmas.Bool.{and_parts, and_from}
 use Rattle.std.proofs.lemmas.List.{drop_more, set_split}
+use Rattle.std.proofs.lemmas.List.Sums.{sum_by-cons}
 use Rattle.texts.specs.Bytes.{Bytes as Text}
 use Rattle.profile.specs.declared.limits.TheConstants.{SYMBOL_LIMIT}
 use Rattle.gem_object.specs.declared.body.MethodCode.TheVariants.{Source}
@@ -13,14 +14,19 @@ use Rattle.gem_object.specs.declared.body.Method.{Method}
 use Rattle.gem_object.specs.declared.body.ClassBody.{ClassBody}
 use Rattle.gem_object.specs.declared.body.Body.{Body}
 use Rattle.gem_object.specs.declared.body.Body.TheVariants as body
+use Rattle.gem_object.specs.Sizes.{method_size, fields_size}
+use Rattle.gem_object.specs.Slots.{slots_of}
+use Rattle.gem_world.specs.Changes.{with_body}
 use Rattle.gem_image.specs.Image.{Contents}
 use Rattle.gem_sound.specs.Sound.{names_in}
 use Rattle.gem_sound.specs.Parts.{class_of}
-use Rattle.object_programs.specs.Budget.{bytes_cost}
+use Rattle.object_programs.specs.Budget.{bytes_cost, is_within_limits}
 use Rattle.object_programs.specs.Fixed.{class_part}
 use Rattle.object_programs.specs.Guard.{Parts, is_known, is_segment_at, accepts, named_fit, kernel_fits, place_fits, fits}
-use Rattle.object_programs.specs.Methods.{is_source_of, method_fits, methods_fit}
-use Rattle.object_programs.specs.Run.{Run, and_then}
+use Rattle.object_programs.specs.Methods.{answers_to, is_source_of, method_fits, methods_fit}
+use Rattle.object_programs.specs.declared.limits.TheConstants.{SLOTS_LIMIT, BYTES_LIMIT}
+use Rattle.object_programs.specs.Atom.{Room, Put}
+use Rattle.object_programs.specs.Run.{Run, atom, and_then}
 use Rattle.tree_meaning.specs.Place.{MadeBlock}
 use Rattle.object_programs.specs.Programs.{need, check, replace_body}
 use Rattle.object_programs.specs.declared.fault.Fault.TheVariants as fault
@@ -32,6 +38,8 @@ use Rattle.prim_parts.specs.Does.{Does}
 use Rattle.prim_parts.specs.Walks.{parts_seen}
 use Rattle.prim_parts.proofs.Does.{does_stop, does_fail, computes_then, computes_give}
 use Rattle.st_outside.specs.Written.{put_in_class}
+use Rattle.st_grammar.specs.Grammar.{method}
+use Rattle.st_grammar_laws.specs.TreeOf.{tree_of}
 
 -- ---- where it comes
 
@@ -179,3 +187,60 @@ put_so name object {growth} {cost} {given} {new} made costs {before} {after} {re
     let At : Body → Type 0 = λ body. Does (replace_body growth name object body) before result after in
     let Of : ℕ → Type 0 = λ growth. Does (replace_body growth name object new) before result after in
     subst Of costs (subst At made does)
+
+-- ---- a source that is too long
+
+-- a source that an object can hold has fewer than 2^24 bytes
+pub short_source : (selector source : Text) → answers_to selector (tree_of method source) ≡ true
+    → nat_le (length source) BYTES_LIMIT ≡ true → is_source_of selector source ≡ true
+unfolding is_source_of
+short_source selector source answers short =
+    and_from (nat_lt (length source) (2 ^ 24)) (answers_to selector (tree_of method source)) (search (arith, short)) answers
+
+-- methods take what the one that comes among them takes
+module _ (new : Method) where
+  at_front : (rest : List Method) → method_size new ≤ sum_by method_size (new ∷ rest)
+  at_front rest = omega (arith, sum_by-cons method_size new rest)
+
+  behind : (first : Method) (others : List Method) → method_size new ≤ sum_by method_size others
+      → method_size new ≤ sum_by method_size (first ∷ others)
+  behind first others more = omega (arith, more, sum_by-cons method_size first others)
+
+  size_with : (methods : List Method) → method_size new ≤ sum_by method_size (with_method new methods)
+  size_with [] = at_front []
+  size_with (first ∷ rest) = by (slice_cmp nat_cmp new.selector first.selector) (size_with rest)
+    where
+      by : (order : Ordering) → method_size new ≤ sum_by method_size (with_method new rest)
+          → method_size new ≤ sum_by method_size
+          (match_ordering order (new ∷ first ∷ rest) (new ∷ rest) (first ∷ with_method new rest))
+      by Less more = at_front (first ∷ rest)
+      by Equal more = at_front rest
+      by Greater more = behind first (with_method new rest) more
+
+class_holds : (class_side : Bool) (new : Method) (class : ClassBody)
+    → method_size new ≤ fields_size (body.Class (class_with class_side new class))
+class_holds false new class = omega (arith, size_with new class.methods)
+class_holds true new class = omega (arith, size_with new class.class_methods)
+
+on_false : (first second : Bool) → second ≡ false → (first && second) ≡ false
+on_false true second is = is
+on_false false second is = refl
+
+-- a class with a source that is too long is above the limits
+pub put_too_long : (class_side : Bool) (selector source : Text) (class : ClassBody) (growth name : ℕ) (object : Contents)
+    (short : Bool) → short ≡ nat_le (length source) BYTES_LIMIT → short ≡ false → (seen : Seen)
+    → Does (replace_body growth name object
+    (body.Class (class_with class_side (record { selector = selector; code = Source source }) class)))
+    seen (Err (stop.Fails fault.ObjectTooLarge)) seen
+unfolding replace_body
+put_too_long class_side selector source class growth name object short told not seen =
+    let new : Method = record { selector = selector; code = Source source } in
+    let one : Body = body.Class (class_with class_side new class) in
+    let long : nat_le (length source) BYTES_LIMIT ≡ false = sym told ∙ not in
+    let large : nat_le (17 + fields_size one) BYTES_LIMIT ≡ false =
+    grind (arith, class_holds class_side new class, long) in
+    let not_within : is_within_limits (with_body one object) ≡ false = on_false (nat_le (slots_of one) SLOTS_LIMIT) _ large in
+    let At : Bool → Type 0 = λ small. Does (and_then (check fault.ObjectTooLarge small) (λ small.
+    and_then (atom (Room growth)) (λ room. atom (Put name one)))) seen
+    (Err (stop.Fails fault.ObjectTooLarge)) seen in
+    subst At (sym not_within) (does_stop (does_fail fault.ObjectTooLarge seen))

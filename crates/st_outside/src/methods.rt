@@ -1,12 +1,15 @@
 //! Methods that are put into classes.
 ghost use Rattle.std.specs.Prelude.{◌≡◌, true, is_some, length, nat_le, IfOk, OnOk, Some};
 ghost use Rattle.profile.specs.declared.limits.TheConstants.{SYMBOL_LIMIT};
+ghost use Rattle.st_grammar.specs.Grammar.{method};
+ghost use Rattle.st_grammar_laws.specs.TreeOf.{tree_of};
 ghost use Rattle.gem_object.specs.declared.body.MethodCode.TheVariants.{Source};
 ghost use Rattle.gem_object.specs.declared.body.Body.TheVariants.{Class};
 ghost use Rattle.gem_image.specs.Image.{Contents};
 ghost use Rattle.object_programs.specs.Budget.{bytes_cost};
 ghost use Rattle.object_programs.specs.Fixed.{class_part};
-ghost use Rattle.object_programs.specs.Methods.{is_source_of};
+ghost use Rattle.object_programs.specs.Methods.{answers_to};
+ghost use Rattle.object_programs.specs.declared.limits.TheConstants.{BYTES_LIMIT};
 ghost use Rattle.running_objects.specs.Seen.{object_at};
 ghost use Rattle.gem_language.specs.Install.{with_method, class_with, class_named, put_method, install};
 ghost use Rattle.st_outside.specs.Written.{put_in_class};
@@ -17,7 +20,7 @@ use crate::globals::global_value;
 use crate::references::reference_of;
 use gem_object::{Body, ClassBody, Method, MethodCode, Methods, Value};
 use gem_value::Oid;
-use object_programs::Fault;
+use object_programs::{BYTES_LIMIT, Fault};
 use prim_parts::{check, replace_body};
 use profile::SYMBOL_LIMIT;
 use running_objects::{Objects, Stop};
@@ -37,7 +40,7 @@ pub fn install<O: Objects>(
     selector: &Text,
     source: &Text,
 ) -> Result<(), Stop>
-    requires { is_source_of selector.now source.now ≡ true }
+    requires { answers_to selector.now (tree_of method source.now) ≡ true }
     ensures { Does (install class_side class.now selector.now source.now) (O.seen objects.old)
         result (O.seen objects.new) }
 {
@@ -73,7 +76,7 @@ fn put_method<O: Objects>(
     source: &Text,
     name: Oid,
 ) -> Result<(), Stop>
-    requires { is_source_of selector.now source.now ≡ true }
+    requires { answers_to selector.now (tree_of method source.now) ≡ true }
     ensures { Does (put_method class_side
         (record { selector = selector.now; code = Source source.now }) source.now name)
         (O.seen objects.old) result (O.seen objects.new) }
@@ -91,7 +94,7 @@ fn put_in_class<O: Objects>(
     source: &Text,
     name: Oid,
 ) -> Result<(), Stop>
-    requires { is_source_of selector.now source.now ≡ true }
+    requires { answers_to selector.now (tree_of method source.now) ≡ true }
     ensures { (object : Contents) → object_at name (O.seen objects.old) ≡ Some object
         → Does (put_in_class class_side
         (record { selector = selector.now; code = Source source.now }) source.now name object)
@@ -101,6 +104,9 @@ fn put_in_class<O: Objects>(
         return Err(Stop::Fails(Fault::ArgumentKind));
     };
     check(Fault::ObjectTooLarge, is_symbol(selector))?;
+    if !is_storable(source) {
+        return Err(Stop::Fails(Fault::ObjectTooLarge));
+    }
     let body = with_source(class, class_side, selector, source)?;
     objects.sound();
     replace_body(objects, name, body, bytes_cost(source))
@@ -111,6 +117,13 @@ fn is_symbol(text: &Text) -> bool
     ensures { result ≡ nat_le (length text.now) SYMBOL_LIMIT }
 {
     text.bytes().len() <= SYMBOL_LIMIT
+}
+
+// Whether a source is short enough for an object. A class with a longer one would be too large.
+fn is_storable(source: &Text) -> bool
+    ensures { result ≡ nat_le (length source.now) BYTES_LIMIT }
+{
+    source.bytes().len() as u64 <= BYTES_LIMIT
 }
 
 // The class with the source of a method on this side.

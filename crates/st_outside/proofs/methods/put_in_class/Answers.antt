@@ -1,11 +1,12 @@
-use Rattle.std.proofs.Common.{◌≡◌, sym, None, option_and_then, arith}
+use Rattle.std.proofs.Common.{◌≡◌, ◌∙◌, sym, length, None, option_and_then, arith}
+use Rattle.object_programs.specs.Budget.{bytes_cost}
 use Rattle.gem_object.specs.declared.body.MethodCode.TheVariants.{Source}
 use Rattle.gem_object.specs.declared.body.Method.{Method}
 use Rattle.gem_sound.specs.Parts.{class_of}
 use Rattle.running_objects.specs.Seen.{Seen, object_at}
 use Rattle.prim_parts.proofs.Does.{computes_then}
 use Rattle.st_outside.proofs.Steps.{computes_stops, does_no_memory}
-use Rattle.st_outside.proofs.Placing.{put_none, put_some, seen_fits, checked, put_so}
+use Rattle.st_outside.proofs.Placing.{put_none, put_some, seen_fits, checked, put_so, put_too_long, short_source}
 use Rattle.st_outside.proofs.methods.put_in_class.Goals as goal
 
 pub returns-in_default : goal.returns-in_default
@@ -22,6 +23,15 @@ returns-in_err-check g c = λ object there.
     put_some c.args.class_side new c.args.source.now c.args.name object c.in-Some.class.now there (sym c.in-Some.ensures)
     (checked new c.is_symbol.result c.is_symbol.ensures (computes_stops c.in_err-check.ensures c.from_residual.ensures.1))
 
+pub returns-then-not-is_storable : goal.returns-then-not-is_storable
+returns-then-not-is_storable g c = λ object there.
+    let new : Method = record { selector = c.args.selector.now; code = Source c.args.source.now } in
+    put_some c.args.class_side new c.args.source.now c.args.name object c.in-Some.class.now there (sym c.in-Some.ensures)
+    (checked new c.is_symbol.result c.is_symbol.ensures (computes_then c.in_ok-check.ensures
+    (put_too_long c.args.class_side c.args.selector.now c.args.source.now c.in-Some.class.now
+    (bytes_cost (length c.args.source.now)) c.args.name object c.is_storable.result c.is_storable.ensures
+    c.if-not-is_storable.true (g.O.Objects.seen c.args.objects.now))))
+
 pub returns-in_err-body : goal.returns-in_err-body
 returns-in_err-body g c = λ object there.
     let new : Method = record { selector = c.args.selector.now; code = Source c.args.source.now } in
@@ -31,7 +41,9 @@ returns-in_err-body g c = λ object there.
 
 pub replace_body-requires : goal.replace_body-requires
 replace_body-requires g c = seen_fits (g.O.Objects.seen c.args.objects.now) c.sound.ensures c.args.name c.args.class_side
-    c.args.selector.now c.args.source.now c.in-Some.class.now c.in_ok-body.body c.requires (sym c.in-Some.ensures)
+    c.args.selector.now c.args.source.now c.in-Some.class.now c.in_ok-body.body
+    (short_source c.args.selector.now c.args.source.now c.requires
+    (sym c.is_storable.ensures ∙ c.if-not-is_storable.false)) (sym c.in-Some.ensures)
     c.in_ok-body.ensures
 
 pub returns : goal.returns
