@@ -1,0 +1,7 @@
+mod Steps
+mod KindCases
+mod Entered
+mod Tells
+mod Limited
+mod Order
+mod Fronts

@@ -1,0 +1,11 @@
+use Rattle.prim_parts.proofs.Does.{does_then, does_stop, does_give}
+use Rattle.prim_shared.proofs.Steps.{handed}
+use Rattle.prim_shared.proofs.answers.answer_replaced.Goals as goal
+
+pub returns-in_err-replace_body : goal.returns-in_err-replace_body
+returns-in_err-replace_body g c = λ object there. handed c.from_residual-in_err-replace_body.result c.from_residual-in_err-replace_body.ensures.1
+    (does_stop (c.in_err-replace_body.ensures object there))
+
+pub returns : goal.returns
+returns g c = λ object there. does_then (c.in_ok-replace_body.ensures object there)
+    (rw c.in_ok-given.ensures.cases (does_give _ _))

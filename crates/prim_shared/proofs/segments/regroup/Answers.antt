@@ -1,0 +1,22 @@
+use Rattle.std.proofs.Common.{◌≡◌, sym, ap, ◌∙◌, None, arith}
+use Rattle.running_objects.specs.Seen.{object_at}
+use Rattle.prim_shared.specs.Held.{held_of}
+use Rattle.prim_shared.proofs.Steps.{over, finds, never_none}
+use Rattle.texts.specs.Bytes.{Bytes as Text}
+use Rattle.seg_rights.specs.declared.rights.Rights.{Rights}
+use Rattle.prim_rules.specs.Parts.{segment_in}
+use Rattle.prim_rules.specs.Segments.{with_group_right, regrouped}
+use Rattle.prim_shared.proofs.segments.regroup.Goals as goal
+
+pub returns-in_default : goal.returns-in_default
+returns-in_default g c =
+    let none : held_of segment_in (object_at c.args.name (g.O.Objects.seen c.args.objects.now)) ≡ None =
+    grind (arith, c.rights_of.ensures, c.in_default.is, c.in_default.not-Some) in
+    λ object held there holds. absurd (never_none segment_in c.args.name (g.O.Objects.seen c.args.objects.now) there holds (sym none))
+
+pub returns : goal.returns
+returns g c = λ object held there holds. over (λ (made : Rights Text).
+    regrouped (record { name = c.args.name; object = object; held = held }) made c.args.value.now)
+    (c.in_ok-made.ensures ∙ ap (with_group_right c.args.group.now c.args.right)
+    (sym (finds segment_in c.args.name (g.O.Objects.seen c.args.objects.now) there holds c.in-Some.ensures)))
+    (c.replace_rights.ensures object held there holds)

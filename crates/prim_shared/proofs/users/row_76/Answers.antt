@@ -1,0 +1,14 @@
+use Rattle.prim_parts.proofs.Does.{does_then, does_stop, computes_then, computes_stop}
+use Rattle.prim_shared.proofs.Steps.{handed}
+use Rattle.prim_shared.proofs.users.row_76.Goals as goal
+
+pub returns-in_err-name : goal.returns-in_err-name
+returns-in_err-name g c = handed c.from_residual.result c.from_residual.ensures.1
+    (does_stop c.in_err-name.ensures)
+
+pub returns-in_err-group : goal.returns-in_err-group
+returns-in_err-group g c = handed c.from_residual-in_err-group.result c.from_residual-in_err-group.ensures.1
+    (does_then c.in_ok-name.ensures.does (computes_stop _ c.in_err-group.ensures))
+
+pub returns : goal.returns
+returns g c = does_then c.in_ok-name.ensures.does (computes_then c.in_ok-group.ensures (c.add_group.ensures c.in_ok-name.ensures.object c.in_ok-name.ensures.held c.in_ok-name.ensures.there c.in_ok-name.ensures.holds))

@@ -1,0 +1,5 @@
+pub mod Kinds
+pub mod Held
+pub mod Told
+pub mod Rights
+pub mod NewUsers
