@@ -1,0 +1,5 @@
+pub mod Choices
+pub mod Sources
+pub mod Leaving
+pub mod Replies
+pub mod Commands

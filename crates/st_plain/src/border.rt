@@ -1,0 +1,132 @@
+//! What stands between objects and variables: calls that do something to objects, said with the
+//! variables at hand, which they leave as they are.
+ghost use Rattle.std.specs.Prelude.{◌≡◌, true};
+ghost use Rattle.object_programs.specs.Atom.{Tick};
+ghost use Rattle.object_programs.specs.Run.{atom};
+ghost use Rattle.prim_rules.specs.Rules.{rule_of};
+ghost use Rattle.prim_rules.specs.Printing.{print_text};
+ghost use Rattle.gem_language.specs.LookUp.{find_method};
+ghost use Rattle.gem_language.specs.OutOfScope.{read_out_of_scope, write_out_of_scope};
+ghost use Rattle.gem_language.specs.Literals.{literal_value};
+ghost use Rattle.gem_language.specs.Install.{install};
+ghost use Rattle.st_tree.specs.Views.{constant_of};
+ghost use Rattle.st_grammar.specs.Grammar.{method};
+ghost use Rattle.st_grammar_laws.specs.TreeOf.{tree_of};
+ghost use Rattle.object_programs.specs.Methods.{answers_to};
+ghost use Rattle.running_objects.specs.Ran.{Ran};
+
+use gem_language::Found;
+use gem_object::Value;
+use prim_rules::PrimitiveAnswer;
+use running_objects::{Objects, Stop};
+use st_locals::{Frame, Locals};
+use st_tree::Literal;
+use std::alloc::Global;
+use texts::Text;
+
+/// Takes a unit: E13 where none is left.
+pub(crate) fn take_unit<O: Objects>(objects: &mut O, locals: &Locals) -> Result<(), Stop>
+    ensures { Ran (atom Tick) (O.seen objects.old) locals.now result (O.seen objects.new)
+        locals.now }
+{
+    objects.tick()
+}
+
+/// The method that answers a message with this selector to the receiver.
+pub(crate) fn find_method<O: Objects>(
+    objects: &mut O,
+    locals: &Locals,
+    to_super: bool,
+    frame: &Frame,
+    receiver: &Value,
+    selector: &Text,
+) -> Result<Option<Found>, Stop>
+    ensures { Ran (find_method to_super frame.now receiver.now selector.now)
+        (O.seen objects.old) locals.now result (O.seen objects.new) locals.now }
+{
+    st_outside::find_method(objects, to_super, frame, receiver, selector)
+}
+
+/// What the primitive of this number comes to.
+pub(crate) fn primitive<O: Objects>(
+    alloc: Global,
+    objects: &mut O,
+    locals: &Locals,
+    number: u8,
+    receiver: &Value,
+    arguments: &[Value],
+) -> Result<PrimitiveAnswer, Stop>
+    ensures { Ran (rule_of number receiver.now arguments.now) (O.seen objects.old) locals.now
+        result (O.seen objects.new) locals.now }
+{
+    prim_calls::call(alloc, objects, number, receiver, arguments)
+}
+
+/// The value of a name that is no variable in scope.
+pub(crate) fn read_name<O: Objects>(
+    objects: &mut O,
+    locals: &Locals,
+    name: &Text,
+    frame: &Frame,
+) -> Result<Value, Stop>
+    ensures { Ran (read_out_of_scope name.now frame.now) (O.seen objects.old) locals.now result
+        (O.seen objects.new) locals.now }
+{
+    st_outside::read_name(objects, name, frame)
+}
+
+/// An assignment to a name that is no variable in scope; it answers the value.
+pub(crate) fn write_name<O: Objects>(
+    objects: &mut O,
+    locals: &Locals,
+    name: &Text,
+    frame: &Frame,
+    value: Value,
+) -> Result<Value, Stop>
+    ensures { Ran (write_out_of_scope name.now frame.now value) (O.seen objects.old) locals.now
+        result (O.seen objects.new) locals.now }
+{
+    st_outside::write_name(objects, name, frame, value)
+}
+
+/// The new object of a string or an array that is written out in the text.
+pub(crate) fn literal<O: Objects>(
+    alloc: Global,
+    objects: &mut O,
+    locals: &Locals,
+    literal: &Literal,
+) -> Result<Value, Stop>
+    ensures { Ran (literal_value (constant_of literal.now)) (O.seen objects.old) locals.now result
+        (O.seen objects.new) locals.now }
+{
+    st_outside::literal(alloc, objects, literal)
+}
+
+/// The print text of a value.
+pub(crate) fn print<O: Objects>(
+    alloc: Global,
+    objects: &mut O,
+    locals: &Locals,
+    value: &Value,
+) -> Result<Text, Stop>
+    ensures { Ran (print_text value.now) (O.seen objects.old) locals.now result
+        (O.seen objects.new) locals.now }
+{
+    prim_classes::print_text(alloc, objects, value)
+}
+
+/// Puts the source of a method into the class that a global names.
+pub(crate) fn install<O: Objects>(
+    objects: &mut O,
+    locals: &Locals,
+    class_side: bool,
+    class: &Text,
+    selector: &Text,
+    source: &Text,
+) -> Result<(), Stop>
+    requires { answers_to selector.now (tree_of method source.now) ≡ true }
+    ensures { Ran (install class_side class.now selector.now source.now) (O.seen objects.old)
+        locals.now result (O.seen objects.new) locals.now }
+{
+    st_outside::install(objects, class_side, class, selector, source)
+}

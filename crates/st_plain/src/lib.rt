@@ -1,0 +1,20 @@
+//! Room: running. Gives the plain evaluator: runs chunks and commands over any objects, by their
+//! trees. Knows nothing of how objects are kept, of the Stone and of other sessions.
+#![tactic(auto)]
+
+mod arguments;
+mod border;
+mod calls;
+mod choices;
+mod chunk;
+mod command;
+mod eval;
+mod leaving;
+mod reply;
+mod sources;
+mod variables;
+
+pub use calls::{call_primitive, print_value};
+pub use chunk::run_chunk;
+pub use command::{Command, install_source, run_command, run_text};
+pub use reply::Reply;
