@@ -1,0 +1,261 @@
+// What commands are replied to, on the image of the kernel.
+ghost use Rattle.std.specs.Prelude.{◌≡◌, ◌<◌, ◌≤◌, ◌^◌};
+
+use crate::kernel_state::begin;
+use crate::rows::{ANY, BLOCKS, CLASSES, DICTIONARIES, FORMS, NUMBERS, SEQUENCES, SHARED, STRINGS};
+use crate::scripts::{NAMES_LEFT, SCRIPTS};
+use plain_state::PlainState;
+use radix_pages::Steps;
+use st_plain::{Reply, install_source, run_text};
+use std::alloc::{AllocError, Global};
+use std::marker::Brand;
+use std::sync::ledger::{Blank, Ledger};
+use std::test::Fail;
+use std::thread;
+use std::thread::Builder;
+use texts::Text;
+
+/// The bytes of stack of a thread that runs chunks: 2,000 activations fill some 35 MiB.
+const STACK: usize = 0x1000_0000;
+
+/// The reply in the words of a report.
+fn told(alloc: Global, reply: &Reply) -> Result<Vec<u8>, AllocError> {
+    match reply {
+        Reply::NotRead { at, rule } => {
+            Ok(format!(in alloc; "parse P{} at {}", *rule, *at)?.into_bytes())
+        }
+        Reply::Failed(fault) => {
+            Ok(format!(in alloc; "error E{} {fault}", fault.number())?.into_bytes())
+        }
+        Reply::Ran => behind(alloc, b"ok", b""),
+        Reply::Printed(text) => behind(alloc, b"", text.bytes()),
+        Reply::Installed(selector) => behind(alloc, b"method ", selector.bytes()),
+    }
+}
+
+/// A text and another behind it.
+fn behind(alloc: Global, front: &[u8], text: &[u8]) -> Result<Vec<u8>, AllocError> {
+    let mut both = Vec::new(alloc);
+    both.extend_from_slice(front)?;
+    both.extend_from_slice(text)?;
+    Ok(both)
+}
+
+/// What a chunk is replied to whose value is printed.
+fn reply_to(alloc: Global, state: &mut PlainState, chunk: &str) -> Result<Vec<u8>, AllocError> {
+    state.begin_chunk();
+    let text = Text::copy_of(alloc, chunk.as_bytes())?;
+    let reply = run_text(alloc, state, true, &text)?;
+    told(alloc, &reply)
+}
+
+/// Whether the chunk is replied to so, on a state of its own.
+fn replies<L: Ledger>(
+    alloc: Global,
+    chunk: &str,
+    wanted: &str,
+    steps: &mut Steps<L>,
+) -> Result<bool, AllocError> {
+    let mut state = begin(alloc, 1, steps)?;
+    Ok(reply_to(alloc, &mut state, chunk)?.as_slice() == wanted.as_bytes())
+}
+
+/// Whether a row, a chunk and what is wanted, is replied to so.
+fn row_replies<L: Ledger>(
+    alloc: Global,
+    row: &str,
+    steps: &mut Steps<L>,
+) -> Result<bool, AllocError> {
+    match row.split_once(" => ") {
+        Some((chunk, wanted)) => replies(alloc, chunk, wanted, steps),
+        None => Ok(false),
+    }
+}
+
+/// Runs each of these chunks on a state of its own. Those that aren't replied to as they should be
+/// are noted.
+fn check_rows<L: Ledger>(
+    alloc: Global,
+    rows: &str,
+    steps: &mut Steps<L>,
+    wrong: &mut String,
+) -> Result<(), AllocError> {
+    for row in rows.lines() {
+        if !row_replies(alloc, row, steps)? {
+            note(wrong, row)?;
+        }
+    }
+    Ok(())
+}
+
+/// Notes a line.
+fn note(wrong: &mut String, line: &str) -> Result<(), AllocError> {
+    wrong.push_str(line)?;
+    wrong.push('\n')
+}
+
+/// What one command of a script is replied to.
+fn reply_to_command(
+    alloc: Global,
+    state: &mut PlainState,
+    word: &str,
+    rest: &str,
+) -> Result<Vec<u8>, AllocError> {
+    if word == "print" {
+        return reply_to(alloc, state, rest);
+    }
+    state.begin_chunk();
+    if word == "run" {
+        let text = Text::copy_of(alloc, rest.as_bytes())?;
+        let reply = run_text(alloc, state, false, &text)?;
+        return told(alloc, &reply);
+    }
+    install(alloc, state, word == "class", rest)
+}
+
+/// What the installation of a method is replied to, of which class and source are given.
+fn install(
+    alloc: Global,
+    state: &mut PlainState,
+    class_side: bool,
+    method: &str,
+) -> Result<Vec<u8>, AllocError> {
+    let Some((class, source)) = method.split_once(' ') else {
+        return behind(alloc, b"no method", b"");
+    };
+    let class = Text::copy_of(alloc, class.as_bytes())?;
+    let source = Text::copy_of(alloc, source.as_bytes())?;
+    let reply = install_source(alloc, state, class_side, &class, &source)?;
+    told(alloc, &reply)
+}
+
+/// Whether a line of a script, a command and what is wanted, is replied to so.
+fn line_replies(alloc: Global, state: &mut PlainState, line: &str) -> Result<bool, AllocError> {
+    let Some((command, wanted)) = line.split_once(" => ") else {
+        return Ok(false);
+    };
+    let Some((word, rest)) = command.split_once(' ') else {
+        return Ok(false);
+    };
+    Ok(reply_to_command(alloc, state, word, rest)?.as_slice() == wanted.as_bytes())
+}
+
+/// Runs scripts: each begins after an empty line.
+fn check_scripts<L: Ledger>(
+    alloc: Global,
+    scripts: &str,
+    steps: &mut Steps<L>,
+    wrong: &mut String,
+) -> Result<(), AllocError> {
+    let mut state = begin(alloc, 1, steps)?;
+    for line in scripts.lines() {
+        if line.is_empty() {
+            state = begin(alloc, 1, steps)?;
+            continue;
+        }
+        if !line_replies(alloc, &mut state, line)? {
+            note(wrong, line)?;
+        }
+    }
+    Ok(())
+}
+
+/// What is written on the transcript.
+fn check_transcript<L: Ledger>(
+    alloc: Global,
+    steps: &mut Steps<L>,
+    wrong: &mut String,
+) -> Result<(), AllocError> {
+    let mut state = begin(alloc, 1, steps)?;
+    let chunk = "Transcript show: 'ab' , 'c'; cr; show: 3 printString. 7";
+    let reply = reply_to(alloc, &mut state, chunk)?;
+    if reply.as_slice() == b"7".as_slice() && state.transcript() == b"abc\n3".as_slice() {
+        return Ok(());
+    }
+    note(wrong, chunk)
+}
+
+/// What is made where no more than two names are left.
+fn check_names<L: Ledger>(
+    alloc: Global,
+    steps: &mut Steps<L>,
+    wrong: &mut String,
+) -> Result<(), AllocError> {
+    let mut state = begin(alloc, (1 << 24) - 2, steps)?;
+    for line in NAMES_LEFT.lines() {
+        if !line_replies(alloc, &mut state, line)? {
+            note(wrong, line)?;
+        }
+    }
+    Ok(())
+}
+
+/// The rows that aren't replied to as they should be.
+fn wrong_rows<L: Ledger>(alloc: Global, blank: Blank) -> Result<String, AllocError>
+    requires name { blank.name ≡ L.name }
+    requires parts { blank.parts ≡ L.parts }
+    requires some_parts { 0 < L.parts }
+{
+    let mut steps = Steps::<L>::start(blank);
+    let mut wrong = String::new(alloc);
+    check_rows(alloc, ANY, &mut steps, &mut wrong)?;
+    check_rows(alloc, NUMBERS, &mut steps, &mut wrong)?;
+    check_rows(alloc, BLOCKS, &mut steps, &mut wrong)?;
+    check_rows(alloc, SEQUENCES, &mut steps, &mut wrong)?;
+    check_rows(alloc, STRINGS, &mut steps, &mut wrong)?;
+    check_rows(alloc, CLASSES, &mut steps, &mut wrong)?;
+    check_rows(alloc, DICTIONARIES, &mut steps, &mut wrong)?;
+    check_rows(alloc, SHARED, &mut steps, &mut wrong)?;
+    check_rows(alloc, FORMS, &mut steps, &mut wrong)?;
+    Ok(wrong)
+}
+
+/// The lines of scripts that aren't replied to as they should be.
+fn wrong_lines<L: Ledger>(alloc: Global, blank: Blank) -> Result<String, AllocError>
+    requires name { blank.name ≡ L.name }
+    requires parts { blank.parts ≡ L.parts }
+    requires some_parts { 0 < L.parts }
+{
+    let mut steps = Steps::<L>::start(blank);
+    let mut wrong = String::new(alloc);
+    check_scripts(alloc, SCRIPTS, &mut steps, &mut wrong)?;
+    check_transcript(alloc, &mut steps, &mut wrong)?;
+    check_names(alloc, &mut steps, &mut wrong)?;
+    Ok(wrong)
+}
+
+/// `wrong_rows` with steps that no other call counts.
+fn rows_by_brand(alloc: Global) -> Result<String, AllocError> {
+    wrong_rows::<Brand>(alloc, Blank::new(1))
+}
+
+/// `wrong_lines` with steps that no other call counts.
+fn lines_by_brand(alloc: Global) -> Result<String, AllocError> {
+    wrong_lines::<Brand>(alloc, Blank::new(1))
+}
+
+#[test]
+fn rows(rt: HostRuntime) -> Result<(), Fail> {
+    let wrong = thread::scope(thread::scope_env(), &rt, |scope| {
+        let work = || rows_by_brand(rt.alloc());
+        match Builder::new().stack_size(STACK).spawn_scoped(scope, work) {
+            Ok(child) => child.join(&rt),
+            Err(_) => Err(AllocError),
+        }
+    })?;
+    assert_eq!(rt; wrong.as_str(), "");
+    Ok(())
+}
+
+#[test]
+fn scripts(rt: HostRuntime) -> Result<(), Fail> {
+    let wrong = thread::scope(thread::scope_env(), &rt, |scope| {
+        let work = || lines_by_brand(rt.alloc());
+        match Builder::new().stack_size(STACK).spawn_scoped(scope, work) {
+            Ok(child) => child.join(&rt),
+            Err(_) => Err(AllocError),
+        }
+    })?;
+    assert_eq!(rt; wrong.as_str(), "");
+    Ok(())
+}
