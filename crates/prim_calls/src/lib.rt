@@ -16,6 +16,11 @@ use std::alloc::Global;
 /// Does what the primitive of this number does, for a receiver and arguments, the first one first;
 /// E5 where there is no primitive of this number. A block that is to be evaluated is answered, and
 /// not yet evaluated.
+///
+/// # Errors
+///
+/// `Fails` with the error by which the primitive ends. `NoMemory` where memory ran out; then only
+/// what every run keeps is known.
 pub fn call<O: Objects>(
     alloc: Global,
     objects: &mut O,

@@ -5,3 +5,4 @@ mod Tells
 mod Limited
 mod Order
 mod Fronts
+mod Refused

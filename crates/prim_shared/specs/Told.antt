@@ -1,7 +1,8 @@
 -- What the rules without arguments say of their receivers, and which of them says it.
-use Rattle.std.specs.Prelude.{List, map}
+use Rattle.std.specs.Prelude.{Bool, nat_le, length, List, map}
 use Rattle.gem_object.specs.declared.value.Value.{Value}
 use Rattle.gem_object.specs.declared.value.Value.TheVariants.{Sym, Int, Ref}
+use Rattle.object_programs.specs.declared.limits.TheConstants.{SLOTS_LIMIT}
 use Rattle.prim_rules.specs.Segments.{right_symbol}
 use Rattle.prim_rules.specs.Bags.{items_of}
 use Rattle.prim_shared.specs.declared.receivers.ReceiverKind.{ReceiverKind}
@@ -43,3 +44,7 @@ listed_by listing.Groups = λ user. map Sym user.groups
 listed_by listing.Items = items_of
 listed_by listing.Keys = map (λ pair. pair.0)
 listed_by listing.Waiting = λ queue. queue.items
+
+-- whether an Array has slots enough for so many values
+abbrev pub fits_array : List Value → Bool
+fits_array values = nat_le (length values) SLOTS_LIMIT

@@ -1,5 +1,6 @@
 //! How rules end.
-ghost use Rattle.std.specs.Prelude.{◌≡◌, true, Some};
+ghost use Rattle.std.specs.Prelude.{◌≡◌, true, false, List, Some};
+ghost use Rattle.gem_object.specs.declared.value.Value.{Value};
 ghost use Rattle.gem_image.specs.Image.{Contents};
 ghost use Rattle.object_programs.specs.Methods.{methods_fit};
 ghost use Rattle.object_programs.specs.Run.{and_then};
@@ -7,13 +8,14 @@ ghost use Rattle.object_programs.specs.Programs.{replace_body, update};
 ghost use Rattle.prim_rules.specs.Receivers.{answer, answer_array};
 ghost use Rattle.running_objects.specs.Seen.{object_at};
 ghost use Rattle.prim_parts.specs.Does.{Does};
+ghost use Rattle.prim_shared.specs.Told.{fits_array};
 
 use gem_object::{Body, Value, Values};
 use gem_sound::names::ARRAY_CLASS;
 use gem_update::Update;
 use gem_value::Oid;
 use object_programs::Fault;
-use prim_parts::{kernel_name, new_object, replace_body, update};
+use prim_parts::{default_segment, kernel_name, new_object, replace_body, update};
 use prim_rules::PrimitiveAnswer;
 use running_objects::{Objects, Stop};
 use std::alloc::Global;
@@ -71,4 +73,14 @@ pub fn answer_array<O: Objects>(
         Body::Plain(values),
     )?;
     Ok(PrimitiveAnswer::Gives(array))
+}
+
+/// The answer in place of a new Array of too many values, which weren't listed: E17, after the
+/// profile was read for the segment.
+pub fn refuse_array<O: Objects>(objects: &mut O) -> Result<PrimitiveAnswer, Stop>
+    ensures { (values : List Value) → fits_array values ≡ false
+        → Does (answer_array values) (O.seen objects.old) result (O.seen objects.new) }
+{
+    default_segment(objects)?;
+    Err(Stop::Fails(Fault::ObjectTooLarge))
 }

@@ -35,8 +35,11 @@ use texts::Text;
 /// The names of the objects of a new user.
 #[derive(Clone, Copy)]
 pub struct NewNames {
+    /// The name of the user's segment.
     pub segment: Oid,
+    /// The name of the dictionary of the user's globals.
     pub globals: Oid,
+    /// The name of the user's profile.
     pub profile: Oid,
 }
 

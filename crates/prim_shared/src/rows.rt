@@ -18,6 +18,11 @@ use std::alloc::Global;
 
 /// Does what the primitive of this number does, from 68 to 96, for a receiver and arguments, the
 /// first one first.
+///
+/// # Errors
+///
+/// `Fails` with the error by which the primitive ends. `NoMemory` where memory ran out; then only
+/// what every run keeps is known.
 pub fn call<O: Objects>(
     alloc: Global,
     objects: &mut O,

@@ -6,15 +6,15 @@ ghost use Rattle.gem_object.specs.declared.value.Value.TheVariants.{Ref};
 ghost use Rattle.prim_rules.specs.Receivers.{tells, lists};
 ghost use Rattle.prim_rules.specs.Segments.{right_symbol};
 ghost use Rattle.prim_parts.specs.Does.{Does};
-ghost use Rattle.prim_shared.specs.Kinds.{held_in};
-ghost use Rattle.prim_shared.specs.Told.{kind_told, said_by, kind_listed, listed_by};
+ghost use Rattle.prim_shared.specs.Kinds.{HeldBy, held_in};
+ghost use Rattle.prim_shared.specs.Told.{kind_told, said_by, kind_listed, listed_by, fits_array};
 
-use crate::answers::answer_array;
+use crate::answers::{answer_array, refuse_array};
 use crate::lists::{items_of, keys_of, symbols_of, waiting_in};
 use crate::receivers::{ReceiverKind, read_receiver};
 use gem_object::{Body, UserBody, Value, Values};
 use gem_value::Oid;
-use object_programs::Fault;
+use object_programs::{Fault, SLOTS_LIMIT};
 use prim_parts::no_arguments;
 use prim_rules::PrimitiveAnswer;
 use running_objects::{Objects, Stop};
@@ -188,7 +188,22 @@ fn listed_of(alloc: Global, listing: Listing, body: &Body) -> Result<Option<Valu
     }
 }
 
-/// 75, 88, 93 and 96: a new Array of what is listed of the receiver.
+// Whether an Array has slots enough for what is listed of a body, which isn't listed for that: an
+// item may occur more often than memory can hold.
+fn fits_array(listing: Listing, body: &Body) -> bool
+    ensures { (held : HeldBy (kind_listed listing))
+        → held_in (kind_listed listing) body.now ≡ Some held
+        → result ≡ fits_array (listed_by listing held) }
+{
+    let slots = body.slots();
+    match listing {
+        // A pair takes two slots.
+        Listing::Keys => slots / 2 <= SLOTS_LIMIT,
+        _ => slots <= SLOTS_LIMIT,
+    }
+}
+
+/// 75, 88, 93 and 96: a new Array of what is listed of the receiver. E17 where that is too much.
 pub fn list<O: Objects>(
     alloc: Global,
     objects: &mut O,
@@ -204,6 +219,9 @@ pub fn list<O: Objects>(
     let Some(object) = objects.object(name) else {
         return Err(Stop::Fails(Fault::ArgumentKind));
     };
+    if !fits_array(listing, &object.body) {
+        return refuse_array(objects);
+    }
     let Some(values) = listed_of(alloc, listing, &object.body)? else {
         return Err(Stop::Fails(Fault::ArgumentKind));
     };

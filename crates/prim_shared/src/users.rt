@@ -1,8 +1,7 @@
 //! The primitives 76, 77 and 80, of the groups of users and of the user's own profile.
-ghost use Rattle.std.specs.Prelude.{◌≡◌, IfOk};
+ghost use Rattle.std.specs.Prelude.{◌≡◌, bytes_eq, IfOk};
 ghost use Rattle.object_programs.specs.Programs.{check};
 ghost use Rattle.object_programs.specs.Run.{and_then};
-ghost use Rattle.std.specs.Prelude.{bytes_eq};
 ghost use Rattle.std.specs.List.{list_any};
 ghost use Rattle.object_programs.specs.declared.fault.Fault.TheVariants as fault;
 ghost use Rattle.prim_rules.specs.Parts.{symbol_in, user_in};

@@ -25,6 +25,17 @@ returns-in_err-no_arguments g c =
     handed c.from_residual-in_err-no_arguments.result c.from_residual-in_err-no_arguments.ensures.1
     (does_then reached.does (computes_stop _ c.in_err-no_arguments.ensures))
 
+pub returns-then-not-fits_array : goal.returns-then-not-fits_array
+returns-then-not-fits_array g c =
+    let At : ReceiverKind → Type 0 = λ kind. Reaches (held_in kind) (read_receiver (held_in kind) c.args.receiver.now)
+    (g.O.Objects.seen c.args.objects.now) c.in_ok-name.name (g.O.Objects.seen c.read_receiver.new.objects) in
+    let reached : At (kind_listed c.args.listing) = subst At c.kind_listed.ensures c.in_ok-name.ensures in
+    does_then reached.does (computes_then c.in_ok-no_arguments.ensures
+    (c.refuse_array.ensures (listed_by c.args.listing reached.held) (sym (c.fits_array.ensures reached.held
+    (again (held_in (kind_listed c.args.listing)) c.in_ok-name.name
+    (g.O.Objects.seen c.read_receiver.new.objects) reached.there c.in-Some.ensures reached.holds))
+    ∙ c.if-not-fits_array.true)))
+
 pub returns-in_default-2 : goal.returns-in_default-2
 returns-in_default-2 g c =
     let At : ReceiverKind → Type 0 = λ kind. Reaches (held_in kind) (read_receiver (held_in kind) c.args.receiver.now)
