@@ -2,8 +2,9 @@
 ghost use Rattle.std.specs.Prelude.{◌≡◌, ◌<◌, ◌≤◌, ◌^◌};
 
 use crate::kernel_state::begin;
-use crate::rows::{ANY, BLOCKS, CLASSES, DICTIONARIES, FORMS, LIMITS, NUMBERS};
-use crate::rows::{RIGHTS, SEQUENCES, SHARED, STRINGS};
+use crate::rows::{
+    ANY, BLOCKS, CLASSES, DICTIONARIES, FORMS, LIMITS, NUMBERS, RIGHTS, SEQUENCES, SHARED, STRINGS,
+};
 use crate::scripts::{NAMES_LEFT, SCRIPTS};
 use plain_state::PlainState;
 use radix_pages::Steps;
@@ -20,7 +21,7 @@ use texts::Text;
 const STACK: usize = 256 << 20;
 
 /// The reply in the words of a report.
-fn told(alloc: Global, reply: &Reply) -> Result<Vec<u8>, AllocError> {
+pub(crate) fn told(alloc: Global, reply: &Reply) -> Result<Vec<u8>, AllocError> {
     match reply {
         Reply::NotRead { at, rule } => {
             Ok(format!(in alloc; "parse P{} at {}", *rule, *at)?.into_bytes())
@@ -90,7 +91,7 @@ fn check_rows<L: Ledger>(
 }
 
 /// Notes a line.
-fn note(wrong: &mut String, line: &str) -> Result<(), AllocError> {
+pub(crate) fn note(wrong: &mut String, line: &str) -> Result<(), AllocError> {
     wrong.push_str(line)?;
     wrong.push('\n')
 }
