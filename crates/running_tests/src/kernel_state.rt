@@ -1,5 +1,8 @@
 //! The plain state on the image of the kernel.
-ghost use Rattle.std.specs.Prelude.{◌<◌, ◌≤◌, ◌^◌};
+ghost use Rattle.std.specs.Prelude.{◌≡◌, ◌<◌, ◌≤◌, ◌^◌, IfOk};
+ghost use Rattle.gem_value.specs.Oid.{oid_number};
+ghost use Rattle.kernel_image.specs.Objects.{kernel_image};
+ghost use Rattle.plain_state.specs.State.{begun};
 
 use gem_value::Oid;
 use kernel_image::kernel;
@@ -23,6 +26,8 @@ pub fn begin<L: Ledger>(
 ) -> Result<PlainState, AllocError>
     requires some { 0 < first }
     requires bound { first ≤ 2 ^ 24 }
+    ensures { IfOk result (λ state. state ≡ begun kernel_image kernel_image
+        (oid_number KERNEL_SERIAL DATA_CURATOR_COUNTER) SERIAL first) }
 {
     let place = kernel(alloc, steps)?;
     let view = kernel(alloc, steps)?;

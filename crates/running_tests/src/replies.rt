@@ -2,7 +2,9 @@
 ghost use Rattle.std.specs.Prelude.{◌≡◌, ◌<◌, ◌≤◌, ◌^◌};
 
 use crate::kernel_state::begin;
-use crate::rows::{ANY, BLOCKS, CLASSES, DICTIONARIES, FORMS, NUMBERS, SEQUENCES, SHARED, STRINGS};
+use crate::rows::{
+    ANY, BLOCKS, CLASSES, DICTIONARIES, FORMS, LIMITS, NUMBERS, RIGHTS, SEQUENCES, SHARED, STRINGS,
+};
 use crate::scripts::{NAMES_LEFT, SCRIPTS};
 use plain_state::PlainState;
 use radix_pages::Steps;
@@ -15,11 +17,11 @@ use std::thread;
 use std::thread::Builder;
 use texts::Text;
 
-/// The bytes of stack of a thread that runs chunks: 2,000 activations fill some 35 MiB.
-const STACK: usize = 0x1000_0000;
+/// The bytes of stack of a thread that runs chunks: 2,000 activations fill 14 to 34 MiB.
+const STACK: usize = 256 << 20;
 
 /// The reply in the words of a report.
-fn told(alloc: Global, reply: &Reply) -> Result<Vec<u8>, AllocError> {
+pub(crate) fn told(alloc: Global, reply: &Reply) -> Result<Vec<u8>, AllocError> {
     match reply {
         Reply::NotRead { at, rule } => {
             Ok(format!(in alloc; "parse P{} at {}", *rule, *at)?.into_bytes())
@@ -89,7 +91,7 @@ fn check_rows<L: Ledger>(
 }
 
 /// Notes a line.
-fn note(wrong: &mut String, line: &str) -> Result<(), AllocError> {
+pub(crate) fn note(wrong: &mut String, line: &str) -> Result<(), AllocError> {
     wrong.push_str(line)?;
     wrong.push('\n')
 }
@@ -175,6 +177,22 @@ fn check_transcript<L: Ledger>(
     note(wrong, chunk)
 }
 
+/// What was written on the transcript stays there after an error.
+fn check_kept_transcript<L: Ledger>(
+    alloc: Global,
+    steps: &mut Steps<L>,
+    wrong: &mut String,
+) -> Result<(), AllocError> {
+    let mut state = begin(alloc, 1, steps)?;
+    let chunk = "Transcript show: 'a'. 3 foo";
+    let reply = reply_to(alloc, &mut state, chunk)?;
+    let wanted = b"error E1 not understood: foo";
+    if reply.as_slice() == wanted.as_slice() && state.transcript() == b"a".as_slice() {
+        return Ok(());
+    }
+    note(wrong, chunk)
+}
+
 /// What is made where no more than two names are left.
 fn check_names<L: Ledger>(
     alloc: Global,
@@ -190,6 +208,33 @@ fn check_names<L: Ledger>(
     Ok(())
 }
 
+/// Runs the rows on what most chunks are about.
+fn check_values<L: Ledger>(
+    alloc: Global,
+    steps: &mut Steps<L>,
+    wrong: &mut String,
+) -> Result<(), AllocError> {
+    check_rows(alloc, ANY, steps, wrong)?;
+    check_rows(alloc, NUMBERS, steps, wrong)?;
+    check_rows(alloc, BLOCKS, steps, wrong)?;
+    check_rows(alloc, SEQUENCES, steps, wrong)?;
+    check_rows(alloc, STRINGS, steps, wrong)?;
+    check_rows(alloc, FORMS, steps, wrong)
+}
+
+/// Runs the rows on the other objects, on rights and on limits.
+fn check_objects<L: Ledger>(
+    alloc: Global,
+    steps: &mut Steps<L>,
+    wrong: &mut String,
+) -> Result<(), AllocError> {
+    check_rows(alloc, CLASSES, steps, wrong)?;
+    check_rows(alloc, DICTIONARIES, steps, wrong)?;
+    check_rows(alloc, SHARED, steps, wrong)?;
+    check_rows(alloc, RIGHTS, steps, wrong)?;
+    check_rows(alloc, LIMITS, steps, wrong)
+}
+
 /// The rows that aren't replied to as they should be.
 fn wrong_rows<L: Ledger>(alloc: Global, blank: Blank) -> Result<String, AllocError>
     requires name { blank.name ≡ L.name }
@@ -198,15 +243,8 @@ fn wrong_rows<L: Ledger>(alloc: Global, blank: Blank) -> Result<String, AllocErr
 {
     let mut steps = Steps::<L>::start(blank);
     let mut wrong = String::new(alloc);
-    check_rows(alloc, ANY, &mut steps, &mut wrong)?;
-    check_rows(alloc, NUMBERS, &mut steps, &mut wrong)?;
-    check_rows(alloc, BLOCKS, &mut steps, &mut wrong)?;
-    check_rows(alloc, SEQUENCES, &mut steps, &mut wrong)?;
-    check_rows(alloc, STRINGS, &mut steps, &mut wrong)?;
-    check_rows(alloc, CLASSES, &mut steps, &mut wrong)?;
-    check_rows(alloc, DICTIONARIES, &mut steps, &mut wrong)?;
-    check_rows(alloc, SHARED, &mut steps, &mut wrong)?;
-    check_rows(alloc, FORMS, &mut steps, &mut wrong)?;
+    check_values(alloc, &mut steps, &mut wrong)?;
+    check_objects(alloc, &mut steps, &mut wrong)?;
     Ok(wrong)
 }
 
@@ -220,6 +258,7 @@ fn wrong_lines<L: Ledger>(alloc: Global, blank: Blank) -> Result<String, AllocEr
     let mut wrong = String::new(alloc);
     check_scripts(alloc, SCRIPTS, &mut steps, &mut wrong)?;
     check_transcript(alloc, &mut steps, &mut wrong)?;
+    check_kept_transcript(alloc, &mut steps, &mut wrong)?;
     check_names(alloc, &mut steps, &mut wrong)?;
     Ok(wrong)
 }

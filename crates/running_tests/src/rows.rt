@@ -215,6 +215,10 @@ $5 isLetter => false
 -1152921504606846975 + -2 => error E6 integer range
 1152921504606846975 - -1 => error E6 integer range
 -1 bitShift: 61 => error E6 integer range
+(0 - 1152921504606846975 - 1) \\\\ -1 => 0
+(0 - 1152921504606846975 - 1) rem: -1 => 0
+-5 bitShift: 0 - 1152921504606846975 - 1 => -1
+0 bitShift: 1152921504606846975 => 0
 ";
 
 /// Blocks.
@@ -241,6 +245,14 @@ pub(crate) const BLOCKS: &str = "\
     value => 4
 | b | b := [b value]. b value => error E14 depth
 | b | b := [:x :y | b value: x value: y]. b value: 1 value: 2 => error E14 depth
+| b | b := [:n | n = 0 ifTrue: [[:x | x] value] ifFalse: [b value: n - 1]]. b value: 1998 => \
+    error E9 block argument count
+| b | b := [:n | n = 0 ifTrue: [3 abs] ifFalse: [b value: n - 1]]. b value: 1998 => error E14 \
+    depth
+| b | b := [:n | n = 0 ifTrue: [3 abs] ifFalse: [b value: n - 1]]. b value: 1997 => 3
+| b | b := [:n | n = 0 ifTrue: ['a' size] ifFalse: [b value: n - 1]]. b value: 1998 => 1
+| b | b := [:n | n = 0 ifTrue: [3 foo] ifFalse: [b value: n - 1]]. b value: 1998 => error E1 \
+    not understood: foo
 ";
 
 /// Arrays and OrderedCollections.
@@ -391,6 +403,7 @@ pub(crate) const STRINGS: &str = "\
 #abc at: 4 => error E4 index
 ((String new: 1048554) , 'a') size => 1048555
 (String new: 1048555) , 'a' => error E17 object too large
+'-0' asInteger => 0
 ";
 
 /// Classes and new objects.
@@ -481,6 +494,13 @@ IdentityDictionary subclass: #D instVarNames: #(a) inDictionary: UserGlobals => 
 (RcCounter subclass: #Tally instVarNames: #() inDictionary: UserGlobals) new => a Tally
 Object subclass: #Foo instVarNames: #(a:) inDictionary: UserGlobals => error E5 argument kind
 Object removeSelector: 3 => error E11 no write right: 0:1
+| a | a := Array new: 200. 1 to: 200 do: [:i | a at: i put: ('a' , i printString) asSymbol]. \
+    Object subclass: #Foo instVarNames: a inDictionary: UserGlobals => Foo
+| a | a := Array new: 201. 1 to: 201 do: [:i | a at: i put: ('a' , i printString) asSymbol]. \
+    Object subclass: #Foo instVarNames: a inDictionary: UserGlobals => error E5 argument kind
+| a | a := Array new: 200. 1 to: 200 do: [:i | a at: i put: ('a' , i printString) asSymbol]. \
+    (Object subclass: #Foo instVarNames: a inDictionary: UserGlobals) subclass: #Bar \
+    instVarNames: #(z) inDictionary: UserGlobals => error E5 argument kind
 ";
 
 /// IdentityDictionaries.
@@ -644,6 +664,20 @@ SystemSegment ownerAuthorization: 3 => error E11 no write right: 0:29
 (AllUsers at: #SystemUser) addGroup: #g => error E11 no write right: 0:31
 DataCuratorSegment ownerAuthorization: #read. UserProfile newUser: #Al => error E11 no write \
     right: 0:28
+| s | s := 'aaaaaaaaaaaaaaaa'. UserProfile newUser: (s , s , s , s) asSymbol => an UserProfile
+| s | s := 'aaaaaaaaaaaaaaaa'. UserProfile newUser: (s , s , s , s , 'a') asSymbol => error E5 \
+    argument kind
+UserProfile newUser: #a1 => an UserProfile
+UserProfile newUser: #a_b => error E5 argument kind
+UserProfile newUser: #Al. (AllUsers at: #Al) groups => #()
+(UserProfile newUser: #Al) segment == DataCuratorSegment => true
+| s | s := (UserProfile newUser: #Al) defaultSegment. s segment == s => true
+RcKeyValueDictionary new at: 'a' put: [1] => error E5 argument kind
+RcKeyValueDictionary new at: [1] => error E5 argument kind
+RcKeyValueDictionary new removeKey: [1] => error E5 argument kind
+RcKeyValueDictionary new includesKey: [1] => error E5 argument kind
+RcKeyValueDictionary new copy => error E5 argument kind
+RcQueue new copy => error E5 argument kind
 ";
 
 /// Names, cascades, special forms and budgets.
@@ -710,4 +744,128 @@ nil ifFalse: [1] ifTrue: [2] => error E3 not a Boolean
 nil ifTrue: ([1]) => error E1 not understood: ifTrue:
 true ifTrue: [1]; ifFalse: [2] => nil
 Object foo => error E1 not understood: foo
+3 timesRepeat: 4 => error E1 not understood: value
+1 to: 3 do: 4 => error E1 not understood: value:
+1 to: 499999 do: [:i | i + 1]. 3 + 4 => 7
+1 to: 499999 do: [:i | i + 1]. 3 + 4 + 5 => error E13 send budget
+";
+
+/// What rights let a user do, and which error comes first.
+pub(crate) const RIGHTS: &str = "\
+| s t | s := Segment new. t := 'a'. t assignToSegment: s. s ownerAuthorization: #none. 'b' = t \
+    => error E10 no read right: 1:2
+| s t | s := Segment new. t := 'a'. t assignToSegment: s. s ownerAuthorization: #none. 'b' < t \
+    => error E10 no read right: 1:2
+| s t | s := Segment new. t := 'a'. t assignToSegment: s. s ownerAuthorization: #none. \
+    Transcript show: t => error E10 no read right: 1:2
+| s t | s := Segment new. t := 'a'. t assignToSegment: s. s ownerAuthorization: #none. #b = t \
+    => false
+| s t | s := Segment new. t := Array new: 1. t assignToSegment: s. s ownerAuthorization: #none. \
+    #(1) , t => error E10 no read right: 1:2
+| s t | s := Segment new. t := Array new: 0. t assignToSegment: s. s ownerAuthorization: #none. \
+    Object subclass: #Foo instVarNames: t inDictionary: UserGlobals => error E10 no read right: \
+    1:2
+| s o a | s := Segment new. o := Array new: 1. o assignToSegment: s. a := Array new: 1. a at: 1 \
+    put: o. s ownerAuthorization: #none. a printString => error E10 no read right: 1:2
+| s o | s := Segment new. o := RcCounter new. o assignToSegment: s. s ownerAuthorization: \
+    #none. o value => error E10 no read right: 1:2
+| s o | s := Segment new. o := OrderedCollection new. o assignToSegment: s. s \
+    ownerAuthorization: #read. o add: [1] => error E11 no write right: 1:2
+| s o | s := Segment new. o := OrderedCollection new. o assignToSegment: s. s \
+    ownerAuthorization: #read. o addFirst: [1] => error E11 no write right: 1:2
+| s o | s := Segment new. o := OrderedCollection new. o assignToSegment: s. s \
+    ownerAuthorization: #read. o removeFirst => error E11 no write right: 1:2
+| s o | s := Segment new. o := OrderedCollection new. o assignToSegment: s. s \
+    ownerAuthorization: #read. o removeLast => error E11 no write right: 1:2
+| s o | s := Segment new. o := String new. o assignToSegment: s. s ownerAuthorization: #read. o \
+    at: 1 put: 3 => error E11 no write right: 1:2
+| s o | s := Segment new. o := IdentityDictionary new. o assignToSegment: s. s \
+    ownerAuthorization: #read. o at: nil put: 1 => error E11 no write right: 1:2
+| s o | s := Segment new. o := IdentityDictionary new. o assignToSegment: s. s \
+    ownerAuthorization: #read. Object subclass: #Foo instVarNames: #() inDictionary: o => error \
+    E11 no write right: 1:2
+| s o | s := Segment new. o := RcIdentityBag new. o assignToSegment: s. s ownerAuthorization: \
+    #read. o add: [1] => error E11 no write right: 1:2
+| s o | s := Segment new. o := RcIdentityBag new. o assignToSegment: s. s ownerAuthorization: \
+    #read. o remove: 1 => error E11 no write right: 1:2
+| s o | s := Segment new. o := RcKeyValueDictionary new. o assignToSegment: s. s \
+    ownerAuthorization: #read. o at: nil put: 1 => error E11 no write right: 1:2
+| s o | s := Segment new. o := RcKeyValueDictionary new. o assignToSegment: s. s \
+    ownerAuthorization: #read. o removeKey: nil => error E11 no write right: 1:2
+| s o | s := Segment new. o := RcQueue new. o assignToSegment: s. s ownerAuthorization: #read. \
+    o add: [1] => error E11 no write right: 1:2
+| s o | s := Segment new. o := IdentityDictionary new. o assignToSegment: s. s \
+    ownerAuthorization: #read. Object subclass: #Foo instVarNames: #(1) inDictionary: o => \
+    error E5 argument kind
+SystemSegment group: 3 authorization: 3 => error E11 no write right: 0:29
+(AllUsers at: #SystemUser) removeGroup: 3 => error E11 no write right: 0:31
+Segment new assignToSegment: SystemSegment => error E11 no write right: 0:29
+| s o | System myUserProfile addGroup: #g. s := Segment new. o := Array new: 1. o \
+    assignToSegment: s. s group: #g authorization: #read; group: #g authorization: #write; \
+    ownerAuthorization: #none. o at: 1 put: 3 => 3
+| s o | System myUserProfile addGroup: #g. s := Segment new. o := Array new: 1. o \
+    assignToSegment: s. s group: #g authorization: #read; group: #g authorization: #none; \
+    ownerAuthorization: #none. o at: 1 => error E10 no read right: 1:2
+| s o | System myUserProfile addGroup: #g. s := Segment new. o := Array new: 1. o \
+    assignToSegment: s. s worldAuthorization: #read; ownerAuthorization: #none. o at: 1 => nil
+| s o | System myUserProfile addGroup: #g. s := Segment new. o := Array new: 1. o \
+    assignToSegment: s. s worldAuthorization: #write; ownerAuthorization: #none. o at: 1 put: 3 \
+    => 3
+| s | s := Segment new. s ownerAuthorization: #none. s ownerAuthorization: #write; \
+    ownerAuthorization => #write
+";
+
+/// Space and sizes: in each chunk that fills 30 strings, 4,000,000 is spent or nearly so.
+pub(crate) const LIMITS: &str = "\
+30 timesRepeat: [String new: 1048000]. String new: 559752. 7 => 7
+30 timesRepeat: [String new: 1048000]. String new: 559752. '' => error E15 space
+30 timesRepeat: [String new: 1048000]. String new: 559752. #() => error E15 space
+30 timesRepeat: [String new: 1048000]. String new: 559752. Object new => error E15 space
+30 timesRepeat: [String new: 1048000]. String new: 559752. 3 printString => error E15 space
+30 timesRepeat: [String new: 1048000]. String new: 559752. Transcript cr => error E15 space
+30 timesRepeat: [String new: 1048000]. String new: 559752. System myUserProfile addGroup: #g => \
+    error E15 space
+30 timesRepeat: [String new: 1048000]. String new: 559752. System myUserProfile groups => error \
+    E15 space
+30 timesRepeat: [String new: 1048000]. String new: 559752. UserProfile newUser: #Al => error \
+    E15 space
+30 timesRepeat: [String new: 1048000]. String new: 559752. UserGlobals at: #T put: 3 => error \
+    E15 space
+| o | o := RcIdentityBag new. 30 timesRepeat: [String new: 1048000]. String new: 559744. o add: \
+    1 => error E15 space
+| o | o := RcQueue new. 30 timesRepeat: [String new: 1048000]. String new: 559744. o add: 1 => \
+    error E15 space
+| o | o := OrderedCollection new. 30 timesRepeat: [String new: 1048000]. String new: 559744. o \
+    add: 1 => error E15 space
+| o | o := OrderedCollection new. 30 timesRepeat: [String new: 1048000]. String new: 559744. o \
+    addFirst: 1 => error E15 space
+| o | o := RcKeyValueDictionary new. 30 timesRepeat: [String new: 1048000]. String new: 559744. \
+    o at: 1 put: 1 => error E15 space
+| o | o := IdentityDictionary new. 30 timesRepeat: [String new: 1048000]. String new: 559744. o \
+    at: 1 put: 1 => error E15 space
+| o | o := Segment new. 30 timesRepeat: [String new: 1048000]. String new: 559744. o group: #g \
+    authorization: #read => error E15 space
+| d | d := RcKeyValueDictionary new. d at: 1 put: 1. 30 timesRepeat: [String new: 1048000]. \
+    String new: 559728. d at: 1 put: 2 => 2
+| d | d := IdentityDictionary new. d at: 1 put: 1. 30 timesRepeat: [String new: 1048000]. \
+    String new: 559728. d at: 1 put: 2 => 2
+| t | t := String new: 65537. 30 timesRepeat: [String new: 1048000]. String new: 494200. \
+    Transcript show: t => error E17 object too large
+| b | b := RcIdentityBag new. 65000 timesRepeat: [b add: 3]. b size => 65000
+| b | b := RcIdentityBag new. 65001 timesRepeat: [b add: 3] => error E17 object too large
+| q s | s := (String new: 1000) asSymbol. q := RcQueue new. 1045 timesRepeat: [q add: s]. q \
+    size => 1045
+| q s | s := (String new: 1000) asSymbol. q := RcQueue new. 1046 timesRepeat: [q add: s] => \
+    error E17 object too large
+| b s | s := String new: 996. b := RcIdentityBag new. 1 to: 1037 do: [:i | b add: (s , (1000 + \
+    i) printString) asSymbol] => 1
+| b s | s := String new: 996. b := RcIdentityBag new. 1 to: 1038 do: [:i | b add: (s , (1000 + \
+    i) printString) asSymbol] => error E17 object too large
+| d s | s := (String new: 1000) asSymbol. d := RcKeyValueDictionary new. 1 to: 1036 do: [:i | d \
+    at: i put: s] => 1
+| d s | s := (String new: 1000) asSymbol. d := RcKeyValueDictionary new. 1 to: 1037 do: [:i | d \
+    at: i put: s] => error E17 object too large
+| d | d := IdentityDictionary new. 1 to: 32500 do: [:i | d at: i put: i] => 1
+| d | d := IdentityDictionary new. 1 to: 32501 do: [:i | d at: i put: i] => error E17 object \
+    too large
 ";

@@ -70,11 +70,27 @@ method N foo ^1 => error E5 argument kind
 print 3 + => parse P4 at 3
 print 'ab => parse P2 at 0
 print 3 foo: => parse P4 at 6
+
+run UserGlobals at: #C put: 1 => ok
+run 1 to: 999998 do: [:i | ]. 3 foo: (UserGlobals at: #C put: 5) => error E13 send budget
+print C => 5
+run 1 to: 999999 do: [:i | ]. [UserGlobals at: #C put: 7. false] whileTrue: [] => error E13 send \
+    budget
+print C => 5
+
+run | s | s := Segment new. UserGlobals at: #S put: s. (Object subclass: #Foo instVarNames: #() \
+    inDictionary: UserGlobals) assignToSegment: s. s ownerAuthorization: #read => ok
+method Foo bar ^1 => error E11 no write right: 1:3
+run S ownerAuthorization: #none => ok
+method Foo bar ^1 => error E10 no read right: 1:3
 ";
 
 /// One script, where no more than two names are left.
 pub(crate) const NAMES_LEFT: &str = "\
+print UserProfile newUser: #DataCurator => error E5 argument kind
 print UserProfile newUser: #Al => error E16 names used up
 print Array new: 1. Array new: 1 => #(nil)
 print Array new: 1 => error E16 names used up
+print Array new: 65001 => error E17 object too large
+print 'a' => error E16 names used up
 ";
