@@ -3,6 +3,7 @@ pub mod Blocks
 pub mod Activations
 pub mod Turns
 pub mod Counts
+pub mod Lists
 pub mod Replies
 pub mod Unread
 pub mod Selectors

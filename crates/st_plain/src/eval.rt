@@ -15,7 +15,7 @@ ghost use Rattle.object_programs.specs.Run.{give, atom, and_then};
 ghost use Rattle.tree_meaning.specs.Names.{singleton_value};
 ghost use Rattle.tree_meaning.specs.Operands.{truth_of, by_truth, int_pair};
 ghost use Rattle.tree_meaning.specs.Loops.{while_loop, while_turns, count_between, count_turns};
-ghost use Rattle.tree_meaning.specs.Parts.{first_argument, rest_arguments, first_body, hand, argument_values, cascade_in_turn, messages_in_turn, head_and_messages, statements_from, statements_in_turn};
+ghost use Rattle.tree_meaning.specs.Parts.{first_argument, rest_arguments, first_body, hand, argument_values, cascade_in_turn, messages_in_turn, head_and_messages, statements_in_turn};
 ghost use Rattle.tree_meaning.specs.Meaning.{is_super_head, message, head_value, head_in_place, closure_in_place, expression_value, messages_of, message_of, arguments_of, statement_value, statement_runs};
 ghost use Rattle.tree_meaning.specs.Bodies.{temps_count, statements_of, method_body, block_body};
 ghost use Rattle.tree_meaning.specs.Calls.{activation, evaluation, call_block_at};
@@ -610,34 +610,11 @@ pub(crate) fn eval_statements<O: Objects>(
         place.now frame.now)
         (O.seen objects.old) locals.old result (O.seen objects.new) locals.new }
 {
-    let Some((first, rest)) = body.split_first() else {
-        return Ok(Value::Nil);
-    };
-    eval_statements_from(alloc, objects, locals, place, frame, first, rest, depth)
-}
-
-// The same from this one on.
-#[cycle(evaluation)]
-fn eval_statements_from<O: Objects>(
-    alloc: Global,
-    objects: &mut O,
-    locals: &mut Locals,
-    place: &Place,
-    frame: &Frame,
-    first: &Stat,
-    rest: &[Stat],
-    depth: u32,
-) -> Result<Value, Stop>
-    requires { size_statement first.now + size_statements (statements rest.now) ≤ 2 ^ 40 }
-    ensures { Ran (statements_from (statement_value (outside depth) first.now)
-        (statement_runs (outside depth) (statements rest.now)) place.now frame.now)
-        (O.seen objects.old) locals.old result (O.seen objects.new) locals.new }
-{
-    let Some((next, more)) = rest.split_first() else {
-        return eval_statement(alloc, objects, locals, place, frame, first, depth);
-    };
-    let _ = eval_statement(alloc, objects, locals, place, frame, first, depth)?;
-    eval_statements_from(alloc, objects, locals, place, frame, next, more, depth)
+    let mut answer = Value::Nil;
+    for statement in body {
+        answer = eval_statement(alloc, objects, locals, place, frame, statement, depth)?;
+    }
+    Ok(answer)
 }
 
 // A statement.
@@ -980,7 +957,7 @@ fn call_code<O: Objects>(
     match &found.code {
         MethodCode::Primitive(number) => {
             let answer = primitive(alloc, objects, locals, *number, receiver, &arguments)?;
-            call_primitive(alloc, objects, locals, answer, depth)
+            value_of_primitive(alloc, objects, locals, answer, depth)
         }
         MethodCode::Source(source) => {
             call_source(
@@ -992,7 +969,7 @@ fn call_code<O: Objects>(
 
 // What a primitive's answer comes to: its value, or that of the block that it evaluates.
 #[cycle(evaluation)]
-fn call_primitive<O: Objects>(
+fn value_of_primitive<O: Objects>(
     alloc: Global,
     objects: &mut O,
     locals: &mut Locals,

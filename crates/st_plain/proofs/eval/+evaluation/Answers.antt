@@ -1,8 +1,9 @@
-use Rattle.std.proofs.Common.{◌+◌, ◌+ℤ◌, pos, Option, None, FitsSigned, w64, to_z, of_z, length, rules, arith}
+use Rattle.std.proofs.Common.{◌+◌, ◌≤◌, ◌+ℤ◌, pos, Option, None, FitsSigned, w64, to_z, of_z, length, rules, arith}
 use Rattle.std.proofs.lemmas.Int.{to_z-of_z}
 use Rattle.std.proofs.lemmas.Result.{err_from_is_err_and}
 use Rattle.tree_meaning.specs.Bodies.{temps_count, method_body, block_body}
-use Rattle.st_tree.specs.Trees.{sends, expressions}
+use Rattle.st_tree.specs.Trees.{sends, expressions, statements}
+use Rattle.st_tree.specs.Falls.{size_statement, size_statements}
 use Rattle.st_tree.specs.Views.{head_of}
 use Rattle.gem_object.specs.declared.value.Value.{Value}
 use Rattle.st_plain.specs.Choices.{handed_value}
@@ -14,6 +15,7 @@ use Rattle.st_plain.proofs.Activations.{activation_ran, evaluation_ran, method_r
 use Rattle.st_plain.proofs.Blocks.{closure_ran, closure_stop}
 use Rattle.st_plain.proofs.Turns.{is_turning, turning_starts, turning_goes_on, condition_stops, test_stops, next_condition_stops, next_test_stops, counting_starts}
 use Rattle.st_plain.proofs.Counts.{handed_goes_on}
+use Rattle.st_plain.proofs.Lists.{statement_size, statements_stop}
 use Rattle.st_plain.proofs.eval.+evaluation.Goals as goal
 
 pub activate-returns : goal.activate-returns
@@ -126,3 +128,17 @@ eval_count-loop-at-preserved g t c =
     (g.O.Objects.seen c.args.objects.now) c.args.locals.now (to_z w64 c.loop-at.at-bits) _ c.handed.result c.in_ok-eval_first_block.field-0
     (to_z-of_z w64 (to_z w64 c.loop-at.at-bits +ℤ pos 1) next) c.handed.ensures c.loop-at.invariant c.loop-at-test.true
     c.if-at-ge-LARGEST_INTEGER.false c.in_ok-take_unit.ensures c.in_ok-eval_first_block.ensures
+
+pub eval_statements-eval_statement-requires : goal.eval_statements-eval_statement-requires
+eval_statements-eval_statement-requires g t c κs within =
+    let smaller : size_statement c.statement-item.result + 1 ≤ size_statements (statements c.args.body.now) =
+    statement_size c.args.body.now c.loop-statement.statement-index c.statement-item.result c.loop-statement-test.true c.statement-item.is in
+    search rules
+
+pub eval_statements-returns-in_err-answer : goal.eval_statements-returns-in_err-answer
+eval_statements-returns-in_err-answer g t c =
+    let p = err_from_is_err_and c.from_residual.result c.from_residual.ensures.1 in
+    rw (p.1, p.2) (statements_stop (outside c.args.depth) c.args.body.now c.args.place.now c.args.frame.now
+    (g.O.Objects.seen c.args.objects.now) c.args.locals.now c.loop-statement.statement-index c.statement-item.result
+    c.loop-statement.answer c.loop-statement-test.true c.statement-item.is c.loop-statement.invariant
+    c.in_err-answer.field-0.0 c.in_err-answer.ensures)
