@@ -4,6 +4,7 @@ pub mod Activations
 pub mod Turns
 pub mod Counts
 pub mod Lists
+pub mod Assigned
 pub mod Replies
 pub mod Unread
 pub mod Selectors

@@ -171,8 +171,8 @@ fn eval_chain<O: Objects>(
     frame: &Frame,
     messages: &[Message],
     cascade: &[Message],
-    to_super: bool,
-    receiver: Value,
+    mut to_super: bool,
+    mut receiver: Value,
     depth: u32,
 ) -> Result<Value, Stop>
     requires { size_sends (sends messages.now) + size_sends (sends cascade.now) ≤ 2 ^ 40 }
@@ -180,19 +180,17 @@ fn eval_chain<O: Objects>(
         (messages_of (outside depth) (sends cascade.now)) to_super receiver place.now frame.now)
         (O.seen objects.old) locals.old result (O.seen objects.new) locals.new }
 {
-    let Some((message, rest)) = messages.split_first() else {
+    let Some((last, before)) = messages.split_last() else {
         return Ok(receiver);
     };
-    let Some(_) = rest.split_first() else {
-        return eval_last(
-            alloc, objects, locals, place, frame, message, cascade, to_super, &receiver, depth,
-        );
-    };
-    let answer = eval_by_form(
-        alloc, objects, locals, place, frame, message, to_super, &receiver, depth,
-    )?;
-    eval_chain(
-        alloc, objects, locals, place, frame, rest, cascade, false, answer, depth,
+    for message in before {
+        receiver = eval_by_form(
+            alloc, objects, locals, place, frame, message, to_super, &receiver, depth,
+        )?;
+        to_super = false;
+    }
+    eval_last(
+        alloc, objects, locals, place, frame, last, cascade, to_super, &receiver, depth,
     )
 }
 
@@ -246,17 +244,15 @@ fn eval_cascade<O: Objects>(
         (messages_of (outside depth) (sends rest.now)) to_super receiver.now place.now frame.now)
         (O.seen objects.old) locals.old result (O.seen objects.new) locals.new }
 {
-    let Some((next, more)) = rest.split_first() else {
-        return eval_as_sent(
-            alloc, objects, locals, place, frame, message, to_super, receiver, depth,
-        );
-    };
-    let _ = eval_as_sent(
+    let mut answer = eval_as_sent(
         alloc, objects, locals, place, frame, message, to_super, receiver, depth,
     )?;
-    eval_cascade(
-        alloc, objects, locals, place, frame, next, more, to_super, receiver, depth,
-    )
+    for next in rest {
+        answer = eval_as_sent(
+            alloc, objects, locals, place, frame, next, to_super, receiver, depth,
+        )?;
+    }
+    Ok(answer)
 }
 
 // A message as one that is sent.
@@ -872,15 +868,12 @@ fn eval_arguments<O: Objects>(
         receiver.now all))
         (O.seen objects.old) locals.old result (O.seen objects.new) locals.new }
 {
-    let Some((first, rest)) = arguments.split_first() else {
-        return send(
-            alloc, objects, locals, frame, to_super, selector, receiver, values, depth,
-        );
-    };
-    let answer = eval_expression(alloc, objects, locals, place, frame, first, depth)?;
-    values.push(answer)?;
-    eval_arguments(
-        alloc, objects, locals, place, frame, selector, rest, to_super, receiver, values, depth,
+    for argument in arguments {
+        let answer = eval_expression(alloc, objects, locals, place, frame, argument, depth)?;
+        values.push(answer)?;
+    }
+    send(
+        alloc, objects, locals, frame, to_super, selector, receiver, values, depth,
     )
 }
 

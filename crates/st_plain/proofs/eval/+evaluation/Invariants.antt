@@ -1,14 +1,14 @@
-use Rattle.std.proofs.Common.{◌+◌, ◌*◌, ◌^◌, None, drop}
+use Rattle.std.proofs.Common.{◌+◌, ◌*◌, ◌^◌, ◌++◌, ◌∷◌, [], None, drop}
 use Rattle.st_tree.specs.Trees.{sends, expressions, statements}
 use Rattle.st_tree.specs.Falls.{size_head, size_closure, size_expression, size_send, size_statement, size_statements, size_sends, size_expressions, size_program}
 use Rattle.st_tree.specs.Views.{head_of}
-use Rattle.tree_meaning.specs.Parts.{first_argument, first_body, statements_in_turn}
-use Rattle.tree_meaning.specs.Meaning.{head_in_place, messages_of, arguments_of, statement_runs}
-use Rattle.gem_language.specs.Sends.{outside}
+use Rattle.tree_meaning.specs.Parts.{first_argument, first_body, argument_values, cascade_in_turn, messages_in_turn, statements_in_turn}
+use Rattle.tree_meaning.specs.Meaning.{head_in_place, messages_of, message_of, arguments_of, statement_runs}
+use Rattle.gem_language.specs.Sends.{outside, callee, send_by}
 use Rattle.running_objects.specs.Ran.{Leads}
 use Rattle.st_plain.specs.Choices.{handed_value}
 use Rattle.st_plain.proofs.Turns.{Turning, Counting}
-use Rattle.st_plain.proofs.Lists.{statements_after}
+use Rattle.st_plain.proofs.Lists.{statements_after, cascade_after}
 use Rattle.st_plain.proofs.eval.+evaluation.Given as goal
 
 abbrev pub decreases-eval_expression : goal.decreases-eval_expression
@@ -154,4 +154,32 @@ invariant-eval_statements-loop-statement g l =
     Leads (statements_in_turn (statement_runs (outside l.depth) (statements l.body)) l.place l.frame)
     (g.O.Objects.seen l.fn.objects) l.fn.locals
     (statements_after l.answer (statement_runs (outside l.depth) (statements (drop l.statement-index l.body))) l.place l.frame)
+    (g.O.Objects.seen l.objects) l.locals
+
+-- the same of messages
+abbrev pub invariant-eval_chain-loop-message : goal.invariant-eval_chain-loop-message
+invariant-eval_chain-loop-message g l =
+    Leads (messages_in_turn (messages_of (outside l.depth) (sends l.messages)) (messages_of (outside l.depth) (sends l.cascade))
+    l.fn.to_super l.fn.receiver l.place l.frame)
+    (g.O.Objects.seen l.fn.objects) l.fn.locals
+    (messages_in_turn (messages_of (outside l.depth) (sends (drop l.message-index l.before ++ l.last ∷ [])))
+    (messages_of (outside l.depth) (sends l.cascade)) l.to_super l.receiver l.place l.frame)
+    (g.O.Objects.seen l.objects) l.locals
+
+abbrev pub invariant-eval_cascade-loop-next : goal.invariant-eval_cascade-loop-next
+invariant-eval_cascade-loop-next g l =
+    Leads (cascade_in_turn (message_of (outside l.depth) l.message) (messages_of (outside l.depth) (sends l.rest)) l.to_super
+    l.receiver l.place l.frame)
+    (g.O.Objects.seen l.fn.objects) l.fn.locals
+    (cascade_after l.answer (messages_of (outside l.depth) (sends (drop l.next-index l.rest))) l.to_super l.receiver l.place
+    l.frame)
+    (g.O.Objects.seen l.objects) l.locals
+
+abbrev pub invariant-eval_arguments-loop-argument : goal.invariant-eval_arguments-loop-argument
+invariant-eval_arguments-loop-argument g l =
+    Leads (argument_values (arguments_of (outside l.depth) (expressions l.arguments)) l.fn.values l.place l.frame
+    (λ all. send_by (callee l.depth) l.to_super l.selector l.frame l.receiver all))
+    (g.O.Objects.seen l.fn.objects) l.fn.locals
+    (argument_values (arguments_of (outside l.depth) (expressions (drop l.argument-index l.arguments))) l.values l.place l.frame
+    (λ all. send_by (callee l.depth) l.to_super l.selector l.frame l.receiver all))
     (g.O.Objects.seen l.objects) l.locals
