@@ -24,13 +24,13 @@ use std::alloc::Global;
 /// How many activations may begin in a chunk, which is the first one itself.
 const CALLS_OF_CHUNK: u32 = (ACTIVATION_LIMIT - 1) as u32;
 
-/// Runs a chunk by its tree, with nothing local.
+/// Runs a chunk by its tree, with nothing local. The tree is no larger than any text below 2^32
+/// bytes gives.
 ///
 /// # Errors
 ///
-/// `Fails` with the error by which the chunk ends. `Returns` for a value that would return further
-/// than to the chunk, of which the meaning has none. `NoMemory` where memory ran out; then only
-/// what every run keeps is known.
+/// `Fails` with the error by which the chunk ends. `Returns` exactly where the meaning ends so.
+/// `NoMemory` where memory ran out; then only what every run keeps is known.
 pub fn run_chunk<O: Objects>(alloc: Global, objects: &mut O, tree: &Tree) -> Result<Value, Stop>
     requires { size_program tree.now ≤ 2 ^ 40 }
     ensures { (later : Local MadeBlock) × Ran (chunk_value tree.now) (O.seen objects.old)

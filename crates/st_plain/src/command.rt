@@ -63,8 +63,8 @@ pub fn run_command<O: Objects>(
     }
 }
 
-/// Runs a chunk of this text, whose value may be printed. The text is not touched where it has no
-/// tree.
+/// Runs a chunk of this text, whose value may be printed. Where the text has no tree, nothing is
+/// touched.
 ///
 /// # Errors
 ///

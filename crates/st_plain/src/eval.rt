@@ -15,7 +15,7 @@ ghost use Rattle.object_programs.specs.Run.{give, atom, and_then};
 ghost use Rattle.tree_meaning.specs.Names.{singleton_value};
 ghost use Rattle.tree_meaning.specs.Operands.{truth_of, by_truth, int_pair};
 ghost use Rattle.tree_meaning.specs.Loops.{while_loop, while_turns, count_between, count_turns};
-ghost use Rattle.tree_meaning.specs.Parts.{first_argument, rest_arguments, first_body, hand, argument_values, cascade_in_turn, messages_in_turn, head_and_messages, statements_from, statements_in_turn};
+ghost use Rattle.tree_meaning.specs.Parts.{first_argument, rest_arguments, first_body, hand, argument_values, cascade_in_turn, messages_in_turn, head_and_messages, statements_in_turn};
 ghost use Rattle.tree_meaning.specs.Meaning.{is_super_head, message, head_value, head_in_place, closure_in_place, expression_value, messages_of, message_of, arguments_of, statement_value, statement_runs};
 ghost use Rattle.tree_meaning.specs.Bodies.{temps_count, statements_of, method_body, block_body};
 ghost use Rattle.tree_meaning.specs.Calls.{activation, evaluation, call_block_at};
@@ -171,8 +171,8 @@ fn eval_chain<O: Objects>(
     frame: &Frame,
     messages: &[Message],
     cascade: &[Message],
-    to_super: bool,
-    receiver: Value,
+    mut to_super: bool,
+    mut receiver: Value,
     depth: u32,
 ) -> Result<Value, Stop>
     requires { size_sends (sends messages.now) + size_sends (sends cascade.now) ≤ 2 ^ 40 }
@@ -180,19 +180,17 @@ fn eval_chain<O: Objects>(
         (messages_of (outside depth) (sends cascade.now)) to_super receiver place.now frame.now)
         (O.seen objects.old) locals.old result (O.seen objects.new) locals.new }
 {
-    let Some((message, rest)) = messages.split_first() else {
+    let Some((last, before)) = messages.split_last() else {
         return Ok(receiver);
     };
-    let Some(_) = rest.split_first() else {
-        return eval_last(
-            alloc, objects, locals, place, frame, message, cascade, to_super, &receiver, depth,
-        );
-    };
-    let answer = eval_by_form(
-        alloc, objects, locals, place, frame, message, to_super, &receiver, depth,
-    )?;
-    eval_chain(
-        alloc, objects, locals, place, frame, rest, cascade, false, answer, depth,
+    for message in before {
+        receiver = eval_by_form(
+            alloc, objects, locals, place, frame, message, to_super, &receiver, depth,
+        )?;
+        to_super = false;
+    }
+    eval_last(
+        alloc, objects, locals, place, frame, last, cascade, to_super, &receiver, depth,
     )
 }
 
@@ -246,17 +244,15 @@ fn eval_cascade<O: Objects>(
         (messages_of (outside depth) (sends rest.now)) to_super receiver.now place.now frame.now)
         (O.seen objects.old) locals.old result (O.seen objects.new) locals.new }
 {
-    let Some((next, more)) = rest.split_first() else {
-        return eval_as_sent(
-            alloc, objects, locals, place, frame, message, to_super, receiver, depth,
-        );
-    };
-    let _ = eval_as_sent(
+    let mut answer = eval_as_sent(
         alloc, objects, locals, place, frame, message, to_super, receiver, depth,
     )?;
-    eval_cascade(
-        alloc, objects, locals, place, frame, next, more, to_super, receiver, depth,
-    )
+    for next in rest {
+        answer = eval_as_sent(
+            alloc, objects, locals, place, frame, next, to_super, receiver, depth,
+        )?;
+    }
+    Ok(answer)
 }
 
 // A message as one that is sent.
@@ -610,34 +606,11 @@ pub(crate) fn eval_statements<O: Objects>(
         place.now frame.now)
         (O.seen objects.old) locals.old result (O.seen objects.new) locals.new }
 {
-    let Some((first, rest)) = body.split_first() else {
-        return Ok(Value::Nil);
-    };
-    eval_statements_from(alloc, objects, locals, place, frame, first, rest, depth)
-}
-
-// The same from this one on.
-#[cycle(evaluation)]
-fn eval_statements_from<O: Objects>(
-    alloc: Global,
-    objects: &mut O,
-    locals: &mut Locals,
-    place: &Place,
-    frame: &Frame,
-    first: &Stat,
-    rest: &[Stat],
-    depth: u32,
-) -> Result<Value, Stop>
-    requires { size_statement first.now + size_statements (statements rest.now) ≤ 2 ^ 40 }
-    ensures { Ran (statements_from (statement_value (outside depth) first.now)
-        (statement_runs (outside depth) (statements rest.now)) place.now frame.now)
-        (O.seen objects.old) locals.old result (O.seen objects.new) locals.new }
-{
-    let Some((next, more)) = rest.split_first() else {
-        return eval_statement(alloc, objects, locals, place, frame, first, depth);
-    };
-    let _ = eval_statement(alloc, objects, locals, place, frame, first, depth)?;
-    eval_statements_from(alloc, objects, locals, place, frame, next, more, depth)
+    let mut answer = Value::Nil;
+    for statement in body {
+        answer = eval_statement(alloc, objects, locals, place, frame, statement, depth)?;
+    }
+    Ok(answer)
 }
 
 // A statement.
@@ -895,15 +868,12 @@ fn eval_arguments<O: Objects>(
         receiver.now all))
         (O.seen objects.old) locals.old result (O.seen objects.new) locals.new }
 {
-    let Some((first, rest)) = arguments.split_first() else {
-        return send(
-            alloc, objects, locals, frame, to_super, selector, receiver, values, depth,
-        );
-    };
-    let answer = eval_expression(alloc, objects, locals, place, frame, first, depth)?;
-    values.push(answer)?;
-    eval_arguments(
-        alloc, objects, locals, place, frame, selector, rest, to_super, receiver, values, depth,
+    for argument in arguments {
+        let answer = eval_expression(alloc, objects, locals, place, frame, argument, depth)?;
+        values.push(answer)?;
+    }
+    send(
+        alloc, objects, locals, frame, to_super, selector, receiver, values, depth,
     )
 }
 
@@ -980,7 +950,7 @@ fn call_code<O: Objects>(
     match &found.code {
         MethodCode::Primitive(number) => {
             let answer = primitive(alloc, objects, locals, *number, receiver, &arguments)?;
-            call_primitive(alloc, objects, locals, answer, depth)
+            value_of_primitive(alloc, objects, locals, answer, depth)
         }
         MethodCode::Source(source) => {
             call_source(
@@ -992,7 +962,7 @@ fn call_code<O: Objects>(
 
 // What a primitive's answer comes to: its value, or that of the block that it evaluates.
 #[cycle(evaluation)]
-fn call_primitive<O: Objects>(
+fn value_of_primitive<O: Objects>(
     alloc: Global,
     objects: &mut O,
     locals: &mut Locals,

@@ -51,17 +51,18 @@ pub(crate) fn assign_all<O: Objects>(
     place: &Place,
     frame: &Frame,
     names: &[Text],
-    value: Value,
+    mut value: Value,
     depth: u32,
 ) -> Result<Value, Stop>
     ensures { Ran (assign_all (outside depth) names.now place.now frame.now value)
         (O.seen objects.old) locals.old result (O.seen objects.new) locals.new }
 {
-    let Some((first, rest)) = names.split_first() else {
-        return Ok(value);
-    };
-    let assigned = assign_all(objects, locals, place, frame, rest, value, depth)?;
-    assign(objects, locals, place, frame, first, assigned, depth)
+    let mut rest = names;
+    while let Some((last, before)) = rest.split_last() {
+        value = assign(objects, locals, place, frame, last, value, depth)?;
+        rest = before;
+    }
+    Ok(value)
 }
 
 /// An assignment to one name.

@@ -1,8 +1,9 @@
-use Rattle.std.proofs.Common.{◌+◌, ◌+ℤ◌, pos, Option, None, FitsSigned, w64, to_z, of_z, length, rules, arith}
+use Rattle.std.proofs.Common.{◌≡◌, ◌+◌, ◌≤◌, ◌+ℤ◌, pos, Option, None, FitsSigned, w64, to_z, of_z, length, rules, arith}
 use Rattle.std.proofs.lemmas.Int.{to_z-of_z}
 use Rattle.std.proofs.lemmas.Result.{err_from_is_err_and}
 use Rattle.tree_meaning.specs.Bodies.{temps_count, method_body, block_body}
-use Rattle.st_tree.specs.Trees.{sends, expressions}
+use Rattle.st_tree.specs.Trees.{sends, expressions, statements}
+use Rattle.st_tree.specs.Falls.{size_expression, size_expressions, size_send, size_sends, size_statement, size_statements}
 use Rattle.st_tree.specs.Views.{head_of}
 use Rattle.gem_object.specs.declared.value.Value.{Value}
 use Rattle.st_plain.specs.Choices.{handed_value}
@@ -14,6 +15,7 @@ use Rattle.st_plain.proofs.Activations.{activation_ran, evaluation_ran, method_r
 use Rattle.st_plain.proofs.Blocks.{closure_ran, closure_stop}
 use Rattle.st_plain.proofs.Turns.{is_turning, turning_starts, turning_goes_on, condition_stops, test_stops, next_condition_stops, next_test_stops, counting_starts}
 use Rattle.st_plain.proofs.Counts.{handed_goes_on}
+use Rattle.st_plain.proofs.Lists.{statement_size, send_size, sizes_with_last, argument_size, statements_stop, chain_stops, chain_goes_on, first_stops, cascade_stops}
 use Rattle.st_plain.proofs.eval.+evaluation.Goals as goal
 
 pub activate-returns : goal.activate-returns
@@ -126,3 +128,76 @@ eval_count-loop-at-preserved g t c =
     (g.O.Objects.seen c.args.objects.now) c.args.locals.now (to_z w64 c.loop-at.at-bits) _ c.handed.result c.in_ok-eval_first_block.field-0
     (to_z-of_z w64 (to_z w64 c.loop-at.at-bits +ℤ pos 1) next) c.handed.ensures c.loop-at.invariant c.loop-at-test.true
     c.if-at-ge-LARGEST_INTEGER.false c.in_ok-take_unit.ensures c.in_ok-eval_first_block.ensures
+
+pub eval_statements-eval_statement-requires : goal.eval_statements-eval_statement-requires
+eval_statements-eval_statement-requires g t c κs within =
+    let smaller : size_statement c.statement-item.result + 1 ≤ size_statements (statements c.args.body.now) =
+    statement_size c.args.body.now c.loop-statement.statement-index c.statement-item.result c.loop-statement-test.true c.statement-item.is in
+    search rules
+
+pub eval_statements-returns-in_err-answer : goal.eval_statements-returns-in_err-answer
+eval_statements-returns-in_err-answer g t c =
+    let p = err_from_is_err_and c.from_residual.result c.from_residual.ensures.1 in
+    rw (p.1, p.2) (statements_stop (outside c.args.depth) c.args.body.now c.args.place.now c.args.frame.now
+    (g.O.Objects.seen c.args.objects.now) c.args.locals.now c.loop-statement.statement-index c.statement-item.result
+    c.loop-statement.answer c.loop-statement-test.true c.statement-item.is c.loop-statement.invariant
+    c.in_err-answer.field-0.0 c.in_err-answer.ensures)
+
+pub eval_chain-eval_by_form-requires : goal.eval_chain-eval_by_form-requires
+eval_chain-eval_by_form-requires g t c κs within =
+    let smaller : size_send c.message-item.result + 1 ≤ size_sends (sends c.in-Some.before.now) =
+    send_size c.in-Some.before.now c.loop-message.message-index c.message-item.result c.loop-message-test.true c.message-item.is in
+    let whole : size_sends (sends c.args.messages.now) ≡ size_sends (sends c.in-Some.before.now) + (size_send c.in-Some.last.now + 1) =
+    sizes_with_last c.args.messages.now c.in-Some.before.now c.in-Some.last.now c.in-Some.ensures.cases.0 in
+    search rules
+
+pub eval_chain-returns-in_err-receiver : goal.eval_chain-returns-in_err-receiver
+eval_chain-returns-in_err-receiver g t c =
+    let p = err_from_is_err_and c.from_residual.result c.from_residual.ensures.1 in
+    rw (p.1, p.2) (chain_stops (outside c.args.depth) c.in-Some.before.now c.in-Some.last.now
+    (messages_of (outside c.args.depth) (sends c.args.cascade.now)) c.args.place.now c.args.frame.now c.args.messages.now
+    c.args.to_super c.args.receiver (g.O.Objects.seen c.args.objects.now) c.args.locals.now c.loop-message.message-index
+    c.loop-message.to_super c.loop-message.receiver c.loop-message.invariant c.message-item.result c.loop-message-test.true
+    c.message-item.is c.in_err-receiver.field-0.0 c.in_err-receiver.ensures)
+
+pub eval_chain-loop-message-preserved : goal.eval_chain-loop-message-preserved
+eval_chain-loop-message-preserved g t c =
+    chain_goes_on (outside c.args.depth) c.in-Some.before.now c.in-Some.last.now
+    (messages_of (outside c.args.depth) (sends c.args.cascade.now)) c.args.place.now c.args.frame.now c.args.messages.now
+    c.args.to_super c.args.receiver (g.O.Objects.seen c.args.objects.now) c.args.locals.now c.loop-message.message-index
+    c.loop-message.to_super c.loop-message.receiver c.loop-message.invariant c.message-item.result c.loop-message-test.true
+    c.message-item.is c.in_ok-receiver.receiver c.in_ok-receiver.ensures
+
+pub eval_chain-eval_last-requires : goal.eval_chain-eval_last-requires
+eval_chain-eval_last-requires g t c κs within =
+    let whole : size_sends (sends c.args.messages.now) ≡ size_sends (sends c.in-Some.before.now) + (size_send c.in-Some.last.now + 1) =
+    sizes_with_last c.args.messages.now c.in-Some.before.now c.in-Some.last.now c.in-Some.ensures.cases.0 in
+    search rules
+
+pub eval_cascade-returns-in_err-answer : goal.eval_cascade-returns-in_err-answer
+eval_cascade-returns-in_err-answer g t c =
+    let p = err_from_is_err_and c.from_residual.result c.from_residual.ensures.1 in
+    rw (p.1, p.2) (first_stops c.args.to_super c.args.receiver.now c.args.place.now c.args.frame.now (outside c.args.depth)
+    c.args.message.now c.args.rest.now (g.O.Objects.seen c.args.objects.now) c.args.locals.now c.in_err-answer.field-0.0
+    c.in_err-answer.ensures)
+
+pub eval_cascade-eval_as_sent-requires-in-loop-next : goal.eval_cascade-eval_as_sent-requires-in-loop-next
+eval_cascade-eval_as_sent-requires-in-loop-next g t c κs within =
+    let smaller : size_send c.next-item.result + 1 ≤ size_sends (sends c.args.rest.now) =
+    send_size c.args.rest.now c.loop-next.next-index c.next-item.result c.loop-next-test.true c.next-item.is in
+    search rules
+
+pub eval_cascade-returns-in_err-answer-2 : goal.eval_cascade-returns-in_err-answer-2
+eval_cascade-returns-in_err-answer-2 g t c =
+    let p = err_from_is_err_and c.from_residual-in_err-answer-2.result c.from_residual-in_err-answer-2.ensures.1 in
+    rw (p.1, p.2) (cascade_stops c.args.to_super c.args.receiver.now c.args.place.now c.args.frame.now (outside c.args.depth)
+    c.args.message.now c.args.rest.now (g.O.Objects.seen c.args.objects.now) c.args.locals.now c.loop-next.next-index
+    c.loop-next.answer c.loop-next.invariant c.next-item.result c.loop-next-test.true c.next-item.is
+    c.in_err-answer-2.field-0.0 c.in_err-answer-2.ensures)
+
+pub eval_arguments-eval_expression-requires : goal.eval_arguments-eval_expression-requires
+eval_arguments-eval_expression-requires g t c κs within =
+    let smaller : size_expression c.argument-item.result + 1 ≤ size_expressions (expressions c.args.arguments.now) =
+    argument_size c.args.arguments.now c.loop-argument.argument-index c.argument-item.result c.loop-argument-test.true
+    c.argument-item.is in
+    search rules

@@ -1,12 +1,14 @@
-use Rattle.std.proofs.Common.{◌+◌, ◌*◌, ◌^◌, None}
+use Rattle.std.proofs.Common.{◌+◌, ◌*◌, ◌^◌, ◌++◌, ◌∷◌, [], None, drop}
 use Rattle.st_tree.specs.Trees.{sends, expressions, statements}
 use Rattle.st_tree.specs.Falls.{size_head, size_closure, size_expression, size_send, size_statement, size_statements, size_sends, size_expressions, size_program}
 use Rattle.st_tree.specs.Views.{head_of}
-use Rattle.tree_meaning.specs.Parts.{first_argument, first_body}
-use Rattle.tree_meaning.specs.Meaning.{head_in_place, messages_of, arguments_of}
-use Rattle.gem_language.specs.Sends.{outside}
+use Rattle.tree_meaning.specs.Parts.{first_argument, first_body, argument_values, cascade_in_turn, messages_in_turn, statements_in_turn}
+use Rattle.tree_meaning.specs.Meaning.{head_in_place, messages_of, message_of, arguments_of, statement_runs}
+use Rattle.gem_language.specs.Sends.{outside, callee, send_by}
+use Rattle.running_objects.specs.Ran.{Leads}
 use Rattle.st_plain.specs.Choices.{handed_value}
 use Rattle.st_plain.proofs.Turns.{Turning, Counting}
+use Rattle.st_plain.proofs.Lists.{statements_after, cascade_after}
 use Rattle.st_plain.proofs.eval.+evaluation.Given as goal
 
 abbrev pub decreases-eval_expression : goal.decreases-eval_expression
@@ -63,9 +65,6 @@ decreases-eval_body g l = 2 ^ 44 * l.depth + 8 * (size_closure l.block.now) + 4
 abbrev pub decreases-eval_statements : goal.decreases-eval_statements
 decreases-eval_statements g l = 2 ^ 44 * l.depth + 8 * (size_statements (statements l.body.now)) + 2
 
-abbrev pub decreases-eval_statements_from : goal.decreases-eval_statements_from
-decreases-eval_statements_from g l = 2 ^ 44 * l.depth + 8 * (size_statement l.first.now + size_statements (statements l.rest.now)) + 2
-
 abbrev pub decreases-eval_statement : goal.decreases-eval_statement
 decreases-eval_statement g l = 2 ^ 44 * l.depth + 8 * (size_statement l.statement.now) + 1
 
@@ -102,8 +101,8 @@ decreases-call_found g l = 2 ^ 44 * l.depth + 6
 abbrev pub decreases-call_code : goal.decreases-call_code
 decreases-call_code g l = 2 ^ 44 * l.depth + 5
 
-abbrev pub decreases-call_primitive : goal.decreases-call_primitive
-decreases-call_primitive g l = 2 ^ 44 * l.depth + 4
+abbrev pub decreases-value_of_primitive : goal.decreases-value_of_primitive
+decreases-value_of_primitive g l = 2 ^ 44 * l.depth + 4
 
 abbrev pub decreases-call_source : goal.decreases-call_source
 decreases-call_source g l = 2 ^ 44 * l.depth + 4
@@ -148,3 +147,39 @@ invariant-eval_count-loop-at g l =
 
 abbrev pub decreases-eval_count-loop-at : goal.decreases-eval_count-loop-at
 decreases-eval_count-loop-at g l = (g.O.Objects.seen l.objects).budget.units
+
+-- the statements that are left come to what all of them come to from the start
+abbrev pub invariant-eval_statements-loop-statement : goal.invariant-eval_statements-loop-statement
+invariant-eval_statements-loop-statement g l =
+    Leads (statements_in_turn (statement_runs (outside l.depth) (statements l.body)) l.place l.frame)
+    (g.O.Objects.seen l.fn.objects) l.fn.locals
+    (statements_after l.answer (statement_runs (outside l.depth) (statements (drop l.statement-index l.body))) l.place l.frame)
+    (g.O.Objects.seen l.objects) l.locals
+
+-- the same of messages
+abbrev pub invariant-eval_chain-loop-message : goal.invariant-eval_chain-loop-message
+invariant-eval_chain-loop-message g l =
+    Leads (messages_in_turn (messages_of (outside l.depth) (sends l.messages)) (messages_of (outside l.depth) (sends l.cascade))
+    l.fn.to_super l.fn.receiver l.place l.frame)
+    (g.O.Objects.seen l.fn.objects) l.fn.locals
+    (messages_in_turn (messages_of (outside l.depth) (sends (drop l.message-index l.before ++ l.last ∷ [])))
+    (messages_of (outside l.depth) (sends l.cascade)) l.to_super l.receiver l.place l.frame)
+    (g.O.Objects.seen l.objects) l.locals
+
+abbrev pub invariant-eval_cascade-loop-next : goal.invariant-eval_cascade-loop-next
+invariant-eval_cascade-loop-next g l =
+    Leads (cascade_in_turn (message_of (outside l.depth) l.message) (messages_of (outside l.depth) (sends l.rest)) l.to_super
+    l.receiver l.place l.frame)
+    (g.O.Objects.seen l.fn.objects) l.fn.locals
+    (cascade_after l.answer (messages_of (outside l.depth) (sends (drop l.next-index l.rest))) l.to_super l.receiver l.place
+    l.frame)
+    (g.O.Objects.seen l.objects) l.locals
+
+abbrev pub invariant-eval_arguments-loop-argument : goal.invariant-eval_arguments-loop-argument
+invariant-eval_arguments-loop-argument g l =
+    Leads (argument_values (arguments_of (outside l.depth) (expressions l.arguments)) l.fn.values l.place l.frame
+    (λ all. send_by (callee l.depth) l.to_super l.selector l.frame l.receiver all))
+    (g.O.Objects.seen l.fn.objects) l.fn.locals
+    (argument_values (arguments_of (outside l.depth) (expressions (drop l.argument-index l.arguments))) l.values l.place l.frame
+    (λ all. send_by (callee l.depth) l.to_super l.selector l.frame l.receiver all))
+    (g.O.Objects.seen l.objects) l.locals
