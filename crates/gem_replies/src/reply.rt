@@ -36,7 +36,8 @@ pub enum Line {
     Printed(Text),
     /// `method SELECTOR`: the class has the method now.
     Method(Text),
-    /// `spoiled`: nothing is committed, since a chunk or method of the transaction was short of memory.
+    /// `spoiled`: nothing is committed, since a chunk or method of the transaction was short of
+    /// memory.
     Spoiled,
     /// `committed unchanged at N view V`: nothing had been written. It counts after commit `at`,
     /// and the view `view` begins.

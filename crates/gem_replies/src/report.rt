@@ -121,7 +121,8 @@ fn denied_words(
     holder: u32,
     held: LockKind,
 ) -> Result<String, AllocError>
-    ensures { IfOk result (λ words. string_bytes words ≡ reply_words (Line.Denied kind oid holder held)) }
+    ensures { IfOk result (λ words.
+        string_bytes words ≡ reply_words (Line.Denied kind oid holder held)) }
 {
     let (kind, held) = (kind_name(kind), kind_name(held));
     format!(in alloc; "denied {kind} {oid} by session {holder} {held}")
