@@ -62,6 +62,14 @@ one_commit number entries i entry d before now next below is here written =
 pub four_pieces : (a b c d : Bytes) → a ++ (b ++ (c ++ d)) ≡ a ++ b ++ c ++ d
 four_pieces a b c d = sym (append_assoc (a ++ b) c d ∙ append_assoc a b (c ++ d))
 
--- the same of eight pieces, the last of them the line's end
-pub eight_pieces : (a b c d e f g h : Bytes) → a ++ (b ++ (c ++ (d ++ (e ++ (f ++ (g ++ h)))))) ≡ (a ++ b ++ c ++ d ++ e ++ f ++ g) ++ h ++ []
-eight_pieces a b c d e f g h = search (rules, append_assoc, append-nil)
+-- the same of six pieces
+pub six_pieces : (a b c d e f : Bytes) → a ++ (b ++ (c ++ (d ++ (e ++ f)))) ≡ a ++ b ++ c ++ d ++ e ++ f
+six_pieces a b c d e f = search (rules, append_assoc)
+
+-- the same of eight pieces
+pub eight_pieces : (a b c d e f g h : Bytes) → a ++ (b ++ (c ++ (d ++ (e ++ (f ++ (g ++ h)))))) ≡ a ++ b ++ c ++ d ++ e ++ f ++ g ++ h
+eight_pieces a b c d e f g h = search (rules, append_assoc)
+
+-- the same, the last of them the line's end
+pub eight_with_end : (a b c d e f g h : Bytes) → a ++ (b ++ (c ++ (d ++ (e ++ (f ++ (g ++ h)))))) ≡ (a ++ b ++ c ++ d ++ e ++ f ++ g) ++ h ++ []
+eight_with_end a b c d e f g h = eight_pieces a b c d e f g h ∙ sym (append-nil (a ++ b ++ c ++ d ++ e ++ f ++ g ++ h))

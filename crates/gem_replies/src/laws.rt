@@ -1,8 +1,9 @@
 //! What follows from the definitions alone. Each law is the contract of a function that does
 //! nothing.
-ghost use Rattle.std.specs.Prelude.{◌≡◌};
-ghost use Rattle.std.specs.List.{AllByRecursion};
+ghost use Rattle.std.specs.Prelude.{◌≡◌, true};
+ghost use Rattle.std.specs.List.{AllByRecursion, list_all};
 ghost use Rattle.texts.specs.Bytes.{Bytes};
+ghost use Rattle.texts.specs.NameBytes.{is_name_byte};
 ghost use Rattle.gem_replies.specs.Escapes.{IsShown, escaped};
 
 /// A text from the image stays within its line: no byte below 32 and no 127 is shown of it.
@@ -13,4 +14,9 @@ pub fn within_its_line()
 /// Texts that are shown alike are the same.
 pub fn shown_apart()
     ensures { (text other : Bytes) → escaped text ≡ escaped other → text ≡ other }
+{}
+
+/// A name is shown as it is.
+pub fn names_as_they_are()
+    ensures { (name : Bytes) → list_all is_name_byte name ≡ true → escaped name ≡ name }
 {}

@@ -1,5 +1,6 @@
 //! What sessions reply, and the book that a run leaves.
-use gem_value::{Conflicts, History, Sequence};
+use gem_value::{Conflicts, History, Oid, Sequence};
+use lock_table::LockKind;
 use texts::Text;
 
 /// A reply to a command. Its line in the report stands beside it.
@@ -15,28 +16,73 @@ pub enum Line {
     NoMemory,
     /// `parse PR at A`: the chunk or method breaks this rule of the grammar, at this place in bytes
     /// from 0.
-    Parse { at: u32, rule: u8 },
+    Parse {
+        at: u32,
+        rule: u8,
+    },
     /// `not built`: the command asks for what isn't run yet.
     NotBuilt,
-    /// `error EK TEXT`: running the chunk ended with an error of this kind.
-    Error { kind: u8, detail: Text },
+    /// `show T`: what the chunk or method wrote to the transcript, where that isn't empty. The
+    /// reply that says how it ended comes next, with the same number.
+    Show(Text),
+    /// `error EK TEXT`: the chunk or method ended with an error of this kind, from 1 to 20.
+    Error {
+        kind: u8,
+        detail: Text,
+    },
     /// `ok`: the chunk ran.
     Ran,
     /// The text of the chunk's value.
     Printed(Text),
+    /// `method SELECTOR`: the class has the method now.
+    Method(Text),
     /// `spoiled`: nothing is committed, since a chunk or method of the transaction was short of memory.
     Spoiled,
     /// `committed unchanged at N view V`: nothing had been written. It counts after commit `at`,
     /// and the view `view` begins.
-    Unchanged { at: u64, view: u64 },
+    Unchanged {
+        at: u64,
+        view: u64,
+    },
     /// `refused K`, and a line for each of the K conflicts.
     Refused(Conflicts),
     /// `committed N view V`: it is commit `number`, and the view `view` begins.
-    Committed { number: u64, view: u64 },
+    Committed {
+        number: u64,
+        view: u64,
+    },
     /// `aborted view V`: the view with this number begins.
     Aborted(u64),
     /// `logout`: the session ends.
     Logout,
+    /// `no name NAME`: no global has the name that the command gives, or the user may not read a
+    /// dictionary in which it is looked up.
+    NoName(Text),
+    /// `not an object NAME`: the global with this name doesn't refer to an object.
+    NotObject(Text),
+    /// `not committed OID`: the transaction made the object, so it can't be locked yet.
+    NotCommitted(Oid),
+    /// `no right OID`: the user lacks the right on the object that the lock needs.
+    NoRight(Oid),
+    /// `denied KIND OID by session S KIND`: a lock of the first kind was asked for, and the session
+    /// `holder` is in the way, which holds the object in the kind `held`.
+    Denied {
+        kind: LockKind,
+        oid: Oid,
+        holder: u32,
+        held: LockKind,
+    },
+    /// `locked KIND OID clean`, or `dirty` where `clean` is false: the session holds the object in
+    /// this kind now. It is clean where no commit has changed the object since the view.
+    Locked {
+        kind: LockKind,
+        oid: Oid,
+        clean: bool,
+    },
+    /// `not held OID`: the session holds no lock on the object.
+    NotHeld(Oid),
+    /// `unlocked OID`: the session's lock on the object is gone.
+    Unlocked(Oid),
 }
 
 /// A reply with the number of its command within the session. Login is 0. Replies to one command

@@ -2,12 +2,14 @@
 ghost use Rattle.std.specs.Prelude.{◌≡◌, ◌<◌, ◌++◌, false, [], ◌∷◌, map, flat_map, string_bytes, IfOk, OnOk};
 ghost use Rattle.std.specs.Fmt.{digit_glyph};
 ghost use Rattle.gem_replies.specs.Escapes.{escape, escaped};
-ghost use Rattle.gem_replies.specs.Line.{reply_words, reply_image, conflicts_of};
+ghost use Rattle.gem_replies.specs.Line.{kind_name, state_name, reply_words, reply_ending, conflicts_of};
+ghost use Rattle.gem_replies.specs.declared.reply.Line as Line;
 ghost use Rattle.texts.specs.Lines.{text_of_lines};
 ghost use Rattle.gem_replies.specs.Report.{shown_name, conflict_text, reply_lines, transcript_lines, entry_text, history_lines, commit_lines, report_of};
 
 use crate::reply::{Line, Reply, RunBook, Transcript};
-use gem_value::{Conflict, ConflictKind, Entry};
+use gem_value::{Conflict, ConflictKind, Entry, Oid};
+use lock_table::LockKind;
 use std::alloc::{AllocError, Global};
 
 /// The report of a run: the transcripts in order, each a line with the session's number and its
@@ -67,12 +69,12 @@ fn push_reply(alloc: Global, report: &mut Vec<u8>, reply: &Reply) -> Result<(), 
 {
     let (number, words) = (reply.command, words(alloc, &reply.line)?);
     push_text(report, &format!(in alloc; "[{number}] {words}")?)?;
-    push_escaped(report, image_text(&reply.line))?;
+    push_escaped(report, ending(&reply.line))?;
     push_text(report, "\n")?;
     push_conflicts(alloc, report, conflicts(&reply.line))
 }
 
-// What the reply says up to its text from the image.
+// What the reply says up to the text at its end.
 fn words(alloc: Global, line: &Line) -> Result<String, AllocError>
     ensures { IfOk result (λ words. string_bytes words ≡ reply_words line.now) }
 {
@@ -83,30 +85,81 @@ fn words(alloc: Global, line: &Line) -> Result<String, AllocError>
         Line::NoMemory => format!(in alloc; "no memory"),
         Line::Parse { at, rule } => format!(in alloc; "parse P{rule} at {at}"),
         Line::NotBuilt => format!(in alloc; "not built"),
+        Line::Show(_) => format!(in alloc; "show "),
         Line::Error { kind, .. } => format!(in alloc; "error E{kind} "),
         Line::Ran => format!(in alloc; "ok"),
         Line::Printed(_) => Ok(String::new(alloc)),
+        Line::Method(_) => format!(in alloc; "method "),
         Line::Spoiled => format!(in alloc; "spoiled"),
         Line::Unchanged { at, view } => {
             format!(in alloc; "committed unchanged at {at} view {view}")
         }
-        Line::Refused(conflicts) => {
-            let count = conflicts.as_slice().len();
-            format!(in alloc; "refused {count}")
-        }
+        Line::Refused(conflicts) => format!(in alloc; "refused {}", conflicts.as_slice().len()),
         Line::Committed { number, view } => format!(in alloc; "committed {number} view {view}"),
         Line::Aborted(view) => format!(in alloc; "aborted view {view}"),
         Line::Logout => format!(in alloc; "logout"),
+        Line::NoName(_) => format!(in alloc; "no name "),
+        Line::NotObject(_) => format!(in alloc; "not an object "),
+        Line::NotCommitted(oid) => format!(in alloc; "not committed {oid}"),
+        Line::NoRight(oid) => format!(in alloc; "no right {oid}"),
+        Line::Denied {
+            kind,
+            oid,
+            holder,
+            held,
+        } => denied_words(alloc, *kind, *oid, *holder, *held),
+        Line::Locked { kind, oid, clean } => locked_words(alloc, *kind, *oid, *clean),
+        Line::NotHeld(oid) => format!(in alloc; "not held {oid}"),
+        Line::Unlocked(oid) => format!(in alloc; "unlocked {oid}"),
     }
 }
 
-// The text from the image at the reply's end, if it has one.
-fn image_text(line: &Line) -> &[u8]
-    ensures { result.now ≡ reply_image line.now }
+fn denied_words(
+    alloc: Global,
+    kind: LockKind,
+    oid: Oid,
+    holder: u32,
+    held: LockKind,
+) -> Result<String, AllocError>
+    ensures { IfOk result (λ words. string_bytes words ≡ reply_words (Line.Denied kind oid holder held)) }
+{
+    let (kind, held) = (kind_name(kind), kind_name(held));
+    format!(in alloc; "denied {kind} {oid} by session {holder} {held}")
+}
+
+fn locked_words(alloc: Global, kind: LockKind, oid: Oid, clean: bool) -> Result<String, AllocError>
+    ensures { IfOk result (λ words. string_bytes words ≡ reply_words (Line.Locked kind oid clean)) }
+{
+    let (kind, state) = (kind_name(kind), state_name(clean));
+    format!(in alloc; "locked {kind} {oid} {state}")
+}
+
+// How a lock's kind is named.
+fn kind_name(kind: LockKind) -> &'static str
+    ensures { result.now ≡ kind_name kind }
+{
+    match kind {
+        LockKind::Read => "read",
+        LockKind::Write => "write",
+    }
+}
+
+// How a locked object is, by whether it is clean.
+fn state_name(clean: bool) -> &'static str
+    ensures { result.now ≡ state_name clean }
+{
+    if clean { "clean" } else { "dirty" }
+}
+
+// The text at the reply's end, if it has one: from the image, or a name that the script gave.
+fn ending(line: &Line) -> &[u8]
+    ensures { result.now ≡ reply_ending line.now }
 {
     match line {
+        Line::Show(text) | Line::Printed(text) => text.bytes(),
         Line::Error { detail, .. } => detail.bytes(),
-        Line::Printed(text) => text.bytes(),
+        Line::Method(selector) => selector.bytes(),
+        Line::NoName(name) | Line::NotObject(name) => name.bytes(),
         _ => &[],
     }
 }

@@ -2,6 +2,7 @@ ghost use Rattle.std.specs.Prelude.{◌≡◌, IfOk};
 
 use gem_replies::{Line, Replies, Reply, RunBook, Transcript, Transcripts, report_text};
 use gem_value::{Conflict, ConflictKind, Conflicts, Entry, History, Oid};
+use lock_table::LockKind;
 use std::alloc::{AllocError, Global};
 use std::test::Fail;
 use texts::Text;
@@ -121,21 +122,174 @@ fn refusals(rt: HostRuntime) -> Result<(), Fail> {
     Ok(())
 }
 
+// A reply, and what its lines in a report say after its number.
+#[derive(Drop)]
+struct Row {
+    line: Line,
+    shown: &'static str,
+}
+
+fn row(line: Line, shown: &'static str) -> Row {
+    Row { line, shown }
+}
+
+// The report of a run of one session with this reply alone, to its fifth command.
+fn report_of_line(alloc: Global, line: Line) -> Result<Vec<u8>, AllocError> {
+    let replies = Replies::of(vec![in alloc; Reply { command: 5, line }]?);
+    let user = text(alloc, b"DataCurator")?;
+    let transcript = Transcript {
+        session: 1,
+        user,
+        replies,
+    };
+    let book = RunBook {
+        first: 0,
+        base: 1,
+        transcripts: Transcripts::of(vec![in alloc; transcript]?),
+        history: History::of(Vec::new(alloc)),
+    };
+    report_text(alloc, &book)
+}
+
+// What the rows want that are reported otherwise.
+fn wrong_rows(alloc: Global, rows: Vec<Row>) -> Result<String, AllocError> {
+    let mut wrong = String::new(alloc);
+    for row in rows {
+        let Row { line, shown } = row;
+        let report = report_of_line(alloc, line)?;
+        let wanted = format!(in alloc; "session 1 DataCurator\n[5] {shown}\ncommits 0\n")?;
+        if report.as_slice() != wanted.as_bytes() {
+            wrong.push_str(shown)?;
+            wrong.push_str(";")?;
+        }
+    }
+    Ok(wrong)
+}
+
+fn of_logins(alloc: Global) -> Result<Vec<Row>, AllocError> {
+    vec![in alloc;
+        row(Line::NoUser(0), "no user at view 0"),
+        row(Line::NotLoggedIn, "not logged in"),
+        row(Line::Login(1), "login view 1"),
+        row(Line::Aborted(2), "aborted view 2"),
+        row(Line::Logout, "logout"),
+    ]
+}
+
 #[test]
-fn faults_of_chunks(rt: HostRuntime) -> Result<(), Fail> {
+fn lines_of_logins(rt: HostRuntime) -> Result<(), Fail> {
     let alloc = rt.alloc();
-    let lines = [
-        Line::NoMemory,
-        Line::Parse { at: 12, rule: 4 },
-        Line::NotBuilt,
-        Line::Error {
-            kind: 1,
-            detail: text(alloc, b"String a\\b\nc")?,
-        },
-    ];
-    let wanted = b"session 1 DataCurator\n[0] no memory\n[1] parse P4 at 12\n[2] not built\n\
-        [3] error E1 String a\\\\b\\nc\ncommits 0\n";
-    assert!(rt; report_of_lines(alloc, lines)?.as_slice() == wanted.as_slice());
+    assert_eq!(rt; wrong_rows(alloc, of_logins(alloc)?)?.as_str(), "");
+    Ok(())
+}
+
+fn error(alloc: Global, kind: u8, detail: &[u8]) -> Result<Line, AllocError> {
+    let detail = text(alloc, detail)?;
+    Ok(Line::Error { kind, detail })
+}
+
+fn of_chunks(alloc: Global) -> Result<Vec<Row>, AllocError> {
+    let shown = Line::Show(text(alloc, b"abc\n3")?);
+    let raised = error(alloc, 20, b"error: a\\b")?;
+    let make = Line::Method(text(alloc, b"make")?);
+    let backslashes = Line::Method(text(alloc, b"\\\\")?);
+    vec![in alloc;
+        row(Line::NoMemory, "no memory"),
+        row(Line::Parse { at: 12, rule: 4 }, "parse P4 at 12"),
+        row(Line::NotBuilt, "not built"),
+        row(shown, "show abc\\n3"),
+        row(error(alloc, 8, b"dead home")?, "error E8 dead home"),
+        row(raised, "error E20 error: a\\\\b"),
+        row(Line::Ran, "ok"),
+        row(Line::Printed(text(alloc, b"-1")?), "-1"),
+        row(make, "method make"),
+        row(backslashes, "method \\\\\\\\"),
+    ]
+}
+
+#[test]
+fn lines_of_chunks(rt: HostRuntime) -> Result<(), Fail> {
+    let alloc = rt.alloc();
+    assert_eq!(rt; wrong_rows(alloc, of_chunks(alloc)?)?.as_str(), "");
+    Ok(())
+}
+
+fn of_commits(alloc: Global) -> Result<Vec<Row>, AllocError> {
+    let conflict = Conflict {
+        oid: Oid::from_parts(1, 10),
+        kind: ConflictKind::WriteWrite,
+        shown: 2,
+    };
+    let refused = Line::Refused(Conflicts::of(vec![in alloc; conflict]?));
+    vec![in alloc;
+        row(Line::Spoiled, "spoiled"),
+        row(
+            Line::Unchanged { at: 1, view: 2 },
+            "committed unchanged at 1 view 2",
+        ),
+        row(refused, "refused 1\nC1 object 1:10 commit 2"),
+        row(Line::Committed { number: 2, view: 3 }, "committed 2 view 3"),
+    ]
+}
+
+#[test]
+fn lines_of_commits(rt: HostRuntime) -> Result<(), Fail> {
+    let alloc = rt.alloc();
+    assert_eq!(rt; wrong_rows(alloc, of_commits(alloc)?)?.as_str(), "");
+    Ok(())
+}
+
+fn denied(kind: LockKind, holder: u32, held: LockKind) -> Line {
+    Line::Denied {
+        kind,
+        oid: Oid::from_parts(1, 1),
+        holder,
+        held,
+    }
+}
+
+fn locked(kind: LockKind, clean: bool) -> Line {
+    Line::Locked {
+        kind,
+        oid: Oid::from_parts(16_777_215, 16_777_215),
+        clean,
+    }
+}
+
+fn of_refused_locks(alloc: Global) -> Result<Vec<Row>, AllocError> {
+    let none = Line::NoName(text(alloc, b"Box_2")?);
+    let number = Line::NotObject(text(alloc, b"T")?);
+    let first_denied = denied(LockKind::Read, 2, LockKind::Write);
+    let second_denied = denied(LockKind::Write, 16, LockKind::Read);
+    vec![in alloc;
+        row(none, "no name Box_2"),
+        row(number, "not an object T"),
+        row(
+            Line::NotCommitted(Oid::from_parts(2, 4)),
+            "not committed 2:4"
+        ),
+        row(Line::NoRight(Oid::from_parts(0, 27)), "no right 0:27"),
+        row(first_denied, "denied read 1:1 by session 2 write"),
+        row(second_denied, "denied write 1:1 by session 16 read"),
+    ]
+}
+
+fn of_locks(alloc: Global) -> Result<Vec<Row>, AllocError> {
+    let clean = locked(LockKind::Read, true);
+    let dirty = locked(LockKind::Write, false);
+    vec![in alloc;
+        row(clean, "locked read 16777215:16777215 clean"),
+        row(dirty, "locked write 16777215:16777215 dirty"),
+        row(Line::NotHeld(Oid::from_parts(1, 1)), "not held 1:1"),
+        row(Line::Unlocked(Oid::from_parts(0, 1)), "unlocked 0:1"),
+    ]
+}
+
+#[test]
+fn lines_of_locks(rt: HostRuntime) -> Result<(), Fail> {
+    let alloc = rt.alloc();
+    assert_eq!(rt; wrong_rows(alloc, of_refused_locks(alloc)?)?.as_str(), "");
+    assert_eq!(rt; wrong_rows(alloc, of_locks(alloc)?)?.as_str(), "");
     Ok(())
 }
 

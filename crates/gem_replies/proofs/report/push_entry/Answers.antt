@@ -1,12 +1,12 @@
 use Rattle.std.proofs.Common.{◌++◌, [], ◌∷◌, ap, ◌∙◌, codes}
 use Rattle.std.proofs.lemmas.Result.{on_ok_weaker}
 use Rattle.std.specs.Fmt.{decimal}
-use Rattle.gem_replies.proofs.Written.{eight_pieces}
+use Rattle.gem_replies.proofs.Written.{eight_with_end}
 use Rattle.gem_replies.proofs.report.push_entry.Goals as goal
 
 pub returns : goal.returns
 returns c =
-    let pieces = eight_pieces (decimal c.args.number) (codes " session ") (decimal c.args.entry.now.session) (codes " transaction ")
+    let pieces = eight_with_end (decimal c.args.number) (codes " session ") (decimal c.args.entry.now.session) (codes " transaction ")
     (decimal c.args.entry.now.transaction) (codes " view ") (decimal c.args.entry.now.view) (10 ∷ []) in
     on_ok_weaker c.push_text.result
     (λ is. is ∙ ap (λ text. c.args.report.now.items ++ text) (c.deref.ensures ∙ c.in_ok-line.ensures.ok ∙ pieces))
