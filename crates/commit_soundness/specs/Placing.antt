@@ -1,5 +1,5 @@
 -- A transaction that runs at its place, and what its commit makes there.
-use Rattle.std.specs.Prelude.{◌×◌, ◌≡◌, ◌≤◌, ◌<◌, ℕ, List}
+use Rattle.std.specs.Prelude.{◌≡◌, ◌≤◌, ◌<◌, ℕ, List}
 use Rattle.gem_value.specs.Oid.{oid_number}
 use Rattle.gem_object.specs.declared.object.Object.{Object}
 use Rattle.gem_image.specs.Image.{Image, IsImage, objects_in, with_objects}
