@@ -1,14 +1,14 @@
 -- What was at the place before anything is done, among what is seen when all is done.
-use Rattle.std.proofs.Common.{◌≡◌, ◌∙◌, ◌⊎◌, inl, inr, refl, sym, ap, subst, ℕ, Bool, true, false, ◌&&◌, cond, Option, Some, None, is_some, option_map, arith}
+use Rattle.std.proofs.Common.{◌≡◌, ◌∙◌, ◌⊎◌, inl, inr, refl, sym, ap, ℕ, Bool, true, false, cond, Option, Some, None, is_some, option_map, arith}
 use Rattle.std.specs.FinMap.{get, get-empty}
 use Rattle.std.specs.Option.{option_or}
 use Rattle.std.specs.Ordering.{nat_cmp}
 use Rattle.std.proofs.lemmas.Bool.{false≢true, and_from}
 use Rattle.std.proofs.lemmas.Option.{same_Some}
 use Rattle.gem_object.specs.Kinds.{is_shared}
-use Rattle.gem_image.specs.Image.{Image, Contents, objects_in}
-use Rattle.gem_world.specs.World.{Setting, World, untouched, as_of, before_changes, shown, is_drawn, is_made}
-use Rattle.object_programs.specs.Fixed.{Fixed, fixed_of, fixed_by}
+use Rattle.gem_image.specs.Image.{Contents, objects_in}
+use Rattle.gem_world.specs.World.{Setting, World, untouched, as_of, before_changes, is_drawn, is_made}
+use Rattle.object_programs.specs.Fixed.{fixed_of, fixed_by}
 use Rattle.object_programs.specs.Laws.{Stays, KeepsParts, IsInReach}
 use Rattle.commit_soundness.proofs.Seen.{IsSeen}
 

@@ -1,10 +1,10 @@
 -- What a commit changes, and what stands in the image that it makes.
-use Rattle.std.proofs.Common.{◌≡◌, ◌∙◌, ◌⊎◌, inl, inr, refl, sym, ap, subst, ℕ, true, false, List, [], ◌∷◌, ◌++◌, map, Option, Some, None, is_some, option_map}
+use Rattle.std.proofs.Common.{◌≡◌, ◌∙◌, ◌⊎◌, inl, inr, refl, sym, ap, subst, ℕ, true, ◌++◌, map, Option, Some, None, is_some, option_map}
 use Rattle.std.specs.List.{All, AllByRecursion, Contains}
 use Rattle.std.specs.Ordering.{nat_cmp}
 use Rattle.std.specs.FinMap.{find, get}
 use Rattle.std.proofs.lemmas.Bool.{false≢true}
-use Rattle.std.proofs.lemmas.List.Elements.{All-from_recursion, recursion_from_All, All-contains, All-contains_itself, All-weaker}
+use Rattle.std.proofs.lemmas.List.Elements.{recursion_from_All, All-contains, All-contains_itself, All-weaker}
 use Rattle.std.proofs.lemmas.Option.{same_Some}
 use Rattle.gem_object.specs.declared.object.Object.{Object}
 use Rattle.gem_image.specs.Image.{Image, Contents, contents_of, objects_in, with_objects}
@@ -17,7 +17,7 @@ use Rattle.commit_check.specs.Table.{IsMerged}
 use Rattle.object_meaning.specs.Effect.{changed_objects, stamped, effect_at}
 use Rattle.commit_soundness.proofs.Lists.{all_weaker, all_both, all_mapped, all_two}
 use Rattle.commit_soundness.proofs.Entries.{found_left, found_right, found_mapped, named_all, named_found, put_which, put_stays, put_there}
-use Rattle.commit_soundness.proofs.Records.{done, Stands, written_is, made_found, roots, kept, Leads, written_lead, kept_is, kept_found}
+use Rattle.commit_soundness.proofs.Records.{done, Stands, written_is, roots, kept, Leads, written_lead, kept_is, kept_found}
 use Rattle.commit_soundness.proofs.Seen.{mapped_some}
 use Rattle.gem_object.specs.References.{references_of}
 use Rattle.gem_world.specs.Changes.{was_written}
@@ -63,7 +63,8 @@ module _ (entry : Entry) (setting : Setting) (world : World) where
           (kept_is entry setting world)
 
       -- what the law of merges says of the list
-      module _ (merged : (name : ℕ) (object : Object) → Contains (merged_objects place (done entry setting world)) (name, object)
+      module _ (merged : (name : ℕ) (object : Object)
+          → Contains (merged_objects place (done entry setting world)) (name, object)
           → IsMerged place (done entry setting world) name object)
           (fit : All (λ e. fits e.1) (merged_objects place (done entry setting world))) where
         merged_changed : AllByRecursion Changed (merged_objects place (done entry setting world))

@@ -1,25 +1,21 @@
 -- The image that a commit makes: its objects have the fixed parts that are seen, and they refer to
 -- what is in it.
-use Rattle.std.proofs.Common.{◌≡◌, ◌∙◌, ◌⊎◌, inl, inr, refl, sym, ap, subst, ℕ, zero, suc, true, false, List, [], ◌∷◌, ◌++◌, Option, Some, None, IsSome, is_some, option_map}
+use Rattle.std.proofs.Common.{◌≡◌, ◌∙◌, ◌⊎◌, inl, inr, refl, sym, ap, subst, ℕ, true, List, Option, Some, None, is_some, option_map}
 use Rattle.std.specs.List.{All, AllByRecursion, Contains}
-use Rattle.std.specs.Option.{option_to_list}
-use Rattle.std.specs.FinMap.{get}
 use Rattle.std.proofs.lemmas.Bool.{false≢true}
-use Rattle.gem_object.specs.References.{names_in_body}
-use Rattle.gem_object.specs.declared.body.Body.{Body}
 use Rattle.gem_object.specs.declared.object.Object.{Object}
 use Rattle.gem_update.specs.References.{values_in_update, names_in_update}
 use Rattle.gem_update.specs.Spelling.{IsStorableUpdate}
 use Rattle.gem_update.specs.declared.update.Update.{Update}
 use Rattle.gem_image.specs.Image.{Image, Contents, contents_of, objects_in}
 use Rattle.gem_sound.specs.Sound.{names_in}
-use Rattle.gem_world.specs.World.{Setting, World, untouched, is_made}
+use Rattle.gem_world.specs.World.{Setting, World, untouched}
 use Rattle.gem_world.specs.Changes.{with_body}
 use Rattle.gem_record.specs.Names.{under}
 use Rattle.gem_record.specs.declared.record.Entry.{Entry}
 use Rattle.commit_check.specs.Conflicts.{merged_objects}
 use Rattle.commit_check.specs.Table.{IsMerged}
-use Rattle.object_programs.specs.Fixed.{Fixed, fixed_of, fixed_by}
+use Rattle.object_programs.specs.Fixed.{fixed_of, fixed_by}
 use Rattle.object_programs.specs.Laws.{begun_at, Stays, KeepsParts, IsInReach, AreSound}
 use Rattle.object_programs.proofs.Admits.{shown_first}
 use Rattle.object_programs.proofs.Worlds.{changed_shown}
@@ -27,7 +23,7 @@ use Rattle.commit_soundness.proofs.Lists.{all_weaker, all_two}
 use Rattle.commit_soundness.proofs.Values.{Brought, IsLike, merge_like, merge_keeps}
 use Rattle.commit_soundness.proofs.References.{Refers, names_each, body_each, body_all}
 use Rattle.commit_soundness.proofs.Likes.{likes_shared, likes_fixed}
-use Rattle.commit_soundness.proofs.Seen.{IsSeen, mapped_some, refers_to_seen}
+use Rattle.commit_soundness.proofs.Seen.{IsSeen, refers_to_seen}
 use Rattle.commit_soundness.proofs.Bases.{placed_known, seen_from}
 use Rattle.commit_soundness.proofs.Updates.{IsBrought, Brings}
 use Rattle.commit_soundness.proofs.Records.{done, under_each, made_found, updates_each, Leads, updates_lead}

@@ -1,6 +1,6 @@
 -- A body in place of one of the same reduced-conflict class: the fixed part stays, and the guard asks
 -- no more than that what it refers to is there, and that it can be stored.
-use Rattle.std.proofs.Common.{◌≡◌, ◌∙◌, refl, sym, ap, ap₂, subst, ℕ, Bool, true, false, ◌&&◌, ◌||◌, nat_lt, Option, Some, None, List, [], ◌∷◌}
+use Rattle.std.proofs.Common.{◌≡◌, ◌∙◌, refl, sym, ap, ap₂, ℕ, true, false, ◌&&◌, ◌||◌, Option, Some, None, []}
 use Rattle.std.specs.List.{list_all}
 use Rattle.std.proofs.lemmas.Bool.{false≢true, and_parts, and_from}
 use Rattle.gem_object.specs.Kinds as kinds
@@ -14,7 +14,7 @@ use Rattle.gem_world.specs.Changes.{with_body}
 use Rattle.gem_sound.specs.Kernel.{KernelBody, a_class, a_dictionary, a_segment, a_user, no_slots, kernel_body, has_kind}
 use Rattle.gem_sound.specs.Sound.{names_in}
 use Rattle.object_programs.specs.Fixed.{BodyKind, body_kind, ClassPart, class_part, Fixed, fixed_of}
-use Rattle.object_programs.specs.Guard.{Parts, holds_of, is_known, is_segment_at, names_at, has_slots, is_class_object, is_transcript, accepts_by, accepts, named_fit, kernel_fits_by, kernel_fits, place_fits, fits}
+use Rattle.object_programs.specs.Guard.{Parts, holds_of, is_known, names_at, has_slots, accepts_by, named_fit, kernel_fits_by, place_fits, fits}
 use Rattle.object_programs.specs.Methods.{methods_fit}
 use Rattle.object_programs.specs.Spelled.{is_spelled}
 use Rattle.commit_soundness.proofs.Values.{IsLike, counters, bags_both, dicts_both, queues_both}
@@ -72,14 +72,18 @@ kernel_like (Some of) one other first second = not_of_kernel of other second ∙
 module _ (parts : Parts) where
   part_like : {one other : Body} → IsLike one other → (class : ℕ) (part : ClassPart)
       → accepts_by parts class other (Some part) ≡ accepts_by parts class one (Some part)
-  part_like (counters one other) class part = ap (λ b. (b && holds_of (has_slots (body.Counter one)) (names_at parts class))
-      || (false || false)) (kind_like (counters one other) part.kind)
-  part_like (bags_both one other) class part = ap (λ b. (b && holds_of (has_slots (body.Bag one)) (names_at parts class))
-      || (false || false)) (kind_like (bags_both one other) part.kind)
-  part_like (dicts_both one other) class part = ap (λ b. (b && holds_of (has_slots (body.RcDict one)) (names_at parts class))
-      || (false || false)) (kind_like (dicts_both one other) part.kind)
-  part_like (queues_both one other) class part = ap (λ b. (b && holds_of (has_slots (body.Queue one)) (names_at parts class))
-      || (false || false)) (kind_like (queues_both one other) part.kind)
+  part_like (counters one other) class part =
+      ap (λ b. (b && holds_of (has_slots (body.Counter one)) (names_at parts class)) || (false || false))
+      (kind_like (counters one other) part.kind)
+  part_like (bags_both one other) class part =
+      ap (λ b. (b && holds_of (has_slots (body.Bag one)) (names_at parts class)) || (false || false))
+      (kind_like (bags_both one other) part.kind)
+  part_like (dicts_both one other) class part =
+      ap (λ b. (b && holds_of (has_slots (body.RcDict one)) (names_at parts class)) || (false || false))
+      (kind_like (dicts_both one other) part.kind)
+  part_like (queues_both one other) class part =
+      ap (λ b. (b && holds_of (has_slots (body.Queue one)) (names_at parts class)) || (false || false))
+      (kind_like (queues_both one other) part.kind)
 
   accept_like : {one other : Body} → IsLike one other → (class : ℕ) (found : Option ClassPart)
       → accepts_by parts class other found ≡ accepts_by parts class one found

@@ -1,7 +1,7 @@
 -- The guard's test where other objects are left out: it goes the same where all that an object names,
 -- and the superclasses of what is there, are kept.
-use Rattle.std.proofs.Common.{◌≡◌, ◌∙◌, refl, sym, ap, subst, ℕ, zero, suc, Bool, true, false, ◌||◌, nat_eq, Option, Some, None, List, [], ◌∷◌, ◌++◌, is_some, option_map}
-use Rattle.std.specs.List.{AllByRecursion, list_any}
+use Rattle.std.proofs.Common.{◌≡◌, ◌∙◌, refl, sym, ap, subst, ℕ, zero, suc, Bool, true, false, ◌||◌, nat_eq, Option, Some, None, List, [], ◌∷◌, ◌++◌, option_map}
+use Rattle.std.specs.List.{AllByRecursion}
 use Rattle.std.specs.Option.{option_to_list}
 use Rattle.std.proofs.lemmas.Bool.{false≢true, eqb-true}
 use Rattle.std.proofs.lemmas.Option.{none-some, same_Some}
@@ -31,7 +31,8 @@ module _ (P : ℕ → Type 0) where
 superclass_held : (P : ℕ → Type 0) (of : Body) (part : ClassPart) (superclass : ℕ) → class_part of ≡ Some part
     → part.superclass ≡ Some superclass → AllByRecursion P (names_in_body of) → P superclass
 superclass_held P (body.Class class) part superclass is above all =
-    let same : class.superclass ≡ Some superclass = ap (λ (some : ClassPart). some.superclass) (same_Some _ part is) ∙ above in
+    let same : class.superclass ≡ Some superclass
+    = ap (λ (some : ClassPart). some.superclass) (same_Some _ part is) ∙ above in
     (subst (λ found. AllByRecursion P (option_to_list found)) same all).0
 superclass_held P _ part superclass is above all = absurd (none-some part is)
 

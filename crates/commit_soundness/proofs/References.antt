@@ -1,13 +1,13 @@
 -- What reduced-conflict bodies and updates refer to, by their values; and which updates can be stored.
-use Rattle.std.proofs.Common.{◌≡◌, refl, sym, ap, subst, ℕ, true, false, IsTrue, List, [], ◌∷◌, ◌++◌, Option, Some, None, is_some}
-use Rattle.std.specs.List.{All, AllByRecursion}
+use Rattle.std.proofs.Common.{◌≡◌, sym, subst, ℕ, true, IsTrue, List, [], ◌∷◌, Some, is_some}
+use Rattle.std.specs.List.{AllByRecursion}
 use Rattle.std.specs.Option.{IfSome}
 use Rattle.std.proofs.lemmas.Bool.{false≢true}
 use Rattle.std.proofs.lemmas.List.Elements.{All-from_recursion, recursion_from_All}
 use Rattle.std.proofs.lemmas.Option.{none-some, same_Some}
 use Rattle.gem_object.specs.Kinds.{is_shared}
 use Rattle.gem_object.specs.Order.{value_order}
-use Rattle.gem_object.specs.References.{reference_of, names_in, names_in_pairs, names_in_items, names_in_body}
+use Rattle.gem_object.specs.References.{reference_of, names_in, names_in_body}
 use Rattle.gem_object.specs.Spelling.{IsStorable, IsStorablePair, is_key, IsSpelledBody}
 use Rattle.gem_object.specs.declared.value.Value.{Value}
 use Rattle.gem_object.specs.declared.body.Body.{Body}
@@ -22,7 +22,7 @@ use Rattle.gem_update.specs.Update.{updated}
 use Rattle.gem_update.specs.declared.update.Update.{Update}
 use Rattle.gem_update.specs.declared.update.Update.TheVariants as change
 use Rattle.commit_soundness.proofs.Lists.{to_each, from_each, all_weaker, each_given, all_given}
-use Rattle.commit_soundness.proofs.Values.{EachValue, Brought, update_left, from_put, from_entry, removed_some, update_brought}
+use Rattle.commit_soundness.proofs.Values.{EachValue, update_left, from_put, from_entry, removed_some, update_brought}
 
 -- ---- references
 

@@ -1,18 +1,17 @@
 -- A run at its place, from what is known of place and view; and the names and numbers of its effect.
-use Rattle.std.proofs.Common.{◌≡◌, ◌∙◌, ◌⊎◌, inl, inr, refl, sym, ap, subst, ℕ, ◌+◌, ◌-◌, ◌*◌, ◌≤◌, ◌<◌, ◌^◌, true, false, ◌&&◌, nat_le, nat_lt, Option, Some, None, is_some, option_map, arith}
-use Rattle.std.specs.List.{All, AllByRecursion, Contains}
+use Rattle.std.proofs.Common.{◌≡◌, ◌↔◌, ◌∙◌, inl, inr, sym, ap, ℕ, ◌-◌, ◌*◌, ◌^◌, true, nat_le, nat_lt, None, is_some, option_map, arith}
+use Rattle.std.specs.List.{All, Contains}
 use Rattle.std.specs.FinMap.{get}
 use Rattle.std.proofs.lemmas.Bool.{false≢true, and_parts, leb-true, ltb-true}
 use Rattle.std.proofs.lemmas.List.Elements.{All-from_recursion, All-contains}
 use Rattle.std.proofs.lemmas.Option.{none-some}
 use Rattle.gem_object.specs.declared.object.Object.{Object}
-use Rattle.gem_image.specs.Image.{Image, Contents, contents_of, objects_in}
+use Rattle.gem_image.specs.Image.{Image, contents_of, objects_in}
 use Rattle.gem_world.specs.World.{Setting, World, untouched, name_of, is_drawn, is_made}
 use Rattle.gem_record.specs.declared.record.TxnRecord.{TxnRecord}
 use Rattle.commit_check.specs.Conflicts.{merged_objects}
 use Rattle.commit_check.specs.Table.{IsMerged}
-use Rattle.object_programs.specs.Fixed.{fixed_of, fixed_by}
-use Rattle.object_programs.specs.Laws.{Stays, KeepsParts, IsInReach, AreSound, begun_at}
+use Rattle.object_programs.specs.Laws.{Stays, IsInReach, AreSound, begun_at}
 use Rattle.object_programs.proofs.Admits.{admits_image}
 use Rattle.object_programs.proofs.AtPlace.{sound_at}
 use Rattle.object_programs.proofs.Objects.{StaysFixed, StaysSound, parts_stay, soundness_stays}
@@ -21,13 +20,13 @@ use Rattle.gem_language.proofs.Lists.{listed}
 use Rattle.commit_soundness.specs.Placing.{Placing, setting_of, left_by, record_placed, effect_placed, image_made, CanRun, IsDrawnIn}
 use Rattle.commit_soundness.proofs.Bases.{changed_from, begun_in_reach}
 use Rattle.commit_soundness.proofs.Updates.{brought}
-use Rattle.commit_soundness.proofs.Effects.{IsPut, IsMergedHere, IsChanged, effect_is}
-use Rattle.commit_soundness.proofs.Images.{Ran, known, Agrees, place_agrees}
+use Rattle.commit_soundness.proofs.Effects.{IsChanged, effect_is}
+use Rattle.commit_soundness.proofs.Images.{Ran, known, place_agrees}
 
 -- what the law of merges says
 abbrev pub MergesAre : Type 0
 MergesAre = (image : Image) (transaction : TxnRecord) (name : ℕ) (object : Object)
-    → Contains (merged_objects image transaction) (name, object) → IsMerged image transaction name object
+    → Contains (merged_objects image transaction) (name, object) ↔ IsMerged image transaction name object
 
 abbrev Anything : Object → Type 0
 Anything object = Unit {0}
@@ -38,6 +37,10 @@ module _ (merges : MergesAre) (p : Placing) where
 
   abbrev begun : World
   begun = untouched p.first
+
+  only_merged : (name : ℕ) (object : Object) → Contains (merged_objects p.place (record_placed p)) (name, object)
+      → IsMerged p.place (record_placed p) name object
+  only_merged name object = (merges p.place (record_placed p) name object).0
 
   module _ (can : CanRun p) where
     placed_sound : AreSound (begun_at p.place p.place p.user p.serial p.first) begun
@@ -59,7 +62,7 @@ module _ (merges : MergesAre) (p : Placing) where
       keeps = (listed at (StaysFixed at) (parts_stay at) p.commands begun begun_sound.free).1;
       reach = reached;
       brings = brought at p.commands begun begun_sound tt;
-      merged = merges p.place (record_placed p);
+      merged = only_merged;
       fit = fit;
     }
 
@@ -79,7 +82,7 @@ module _ (merges : MergesAre) (p : Placing) where
   of_effect : (name : ℕ) (object : Object) → Contains (effect_placed p) (name, object) → IsOfEffect (name, object)
   of_effect name object among = All-contains IsOfEffect (effect_placed p) (name, object)
       (All-from_recursion IsOfEffect (effect_placed p)
-      (effect_is p.entry at (left_by p) p.place Anything p.number (merges p.place (record_placed p)) (λ k d below. tt)))
+      (effect_is p.entry at (left_by p) p.place Anything p.number only_merged (λ k d below. tt)))
       among
 
   pub has_number : (name : ℕ) (object : Object) → Contains (effect_placed p) (name, object)

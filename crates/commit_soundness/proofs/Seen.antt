@@ -1,5 +1,5 @@
 -- Names at which an object is seen, and what a sound object that is seen refers to.
-use Rattle.std.proofs.Common.{◌≡◌, ◌∙◌, refl, sym, ap, subst, ℕ, true, false, Option, Some, None, List, is_some, option_map}
+use Rattle.std.proofs.Common.{◌≡◌, ◌∙◌, refl, sym, ap, ℕ, true, Option, Some, None, is_some, option_map}
 use Rattle.std.specs.List.{AllByRecursion}
 use Rattle.std.proofs.lemmas.Bool.{false≢true}
 use Rattle.std.proofs.lemmas.List.Elements.{recursion_from_All}
@@ -7,7 +7,7 @@ use Rattle.gem_object.specs.Spelling.{IsSpelledBody}
 use Rattle.gem_image.specs.Image.{Contents}
 use Rattle.gem_world.specs.World.{Setting, World, shown, shown_objects}
 use Rattle.gem_sound.specs.Sound.{names_in}
-use Rattle.object_programs.specs.Fixed.{Fixed, fixed_of, fixed_by}
+use Rattle.object_programs.specs.Fixed.{fixed_of, fixed_by}
 use Rattle.object_programs.specs.Laws.{KeepsParts, AreSound}
 use Rattle.object_programs.proofs.Rules.{fits_here, keeps_references, keeps_spelling}
 

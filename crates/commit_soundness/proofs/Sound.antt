@@ -1,11 +1,11 @@
 -- The image that a commit makes is sound, and can be stored.
-use Rattle.std.proofs.Common.{◌≡◌, ◌∙◌, ◌⊎◌, inl, inr, refl, sym, ap, subst, ℕ, ◌<◌, ◌≤◌, ◌^◌, ◌+◌, true, false, ◌&&◌, List, [], ◌∷◌, Option, Some, None, IsSome, is_some, option_map, arith}
+use Rattle.std.proofs.Common.{◌≡◌, ◌∙◌, inl, inr, refl, sym, ap, subst, ℕ, ◌<◌, ◌≤◌, ◌^◌, true, List, [], ◌∷◌, Option, Some, None, is_some, option_map, arith}
 use Rattle.std.specs.List.{All, AllByRecursion, list_all}
 use Rattle.std.specs.FinMap.{get}
 use Rattle.std.proofs.Math.Path.{fun_ext}
-use Rattle.std.proofs.lemmas.Bool.{false≢true, and_from, cases_lt}
+use Rattle.std.proofs.lemmas.Bool.{false≢true, and_from}
 use Rattle.std.proofs.lemmas.List.Elements.{All-from_recursion}
-use Rattle.gem_object.specs.Spelling.{IsOid, IsSpelledBody, IsSpelled}
+use Rattle.gem_object.specs.Spelling.{IsSpelledBody, IsSpelled}
 use Rattle.gem_object.specs.declared.body.Body.{Body}
 use Rattle.gem_object.specs.declared.object.Object.{Object}
 use Rattle.gem_update.specs.Spelling.{IsStorableUpdate, entries_of}
@@ -15,12 +15,10 @@ use Rattle.gem_image.specs.Image.{Image, IsImage, Contents, contents_of, objects
 use Rattle.gem_sound.specs.Kernel.{kernel_body}
 use Rattle.gem_sound.specs.Sound.{IsSoundFor, names_in}
 use Rattle.gem_world.specs.World.{Setting, World, untouched, name_of, shown}
-use Rattle.gem_world.specs.Changes.{with_body}
 use Rattle.gem_record.specs.declared.record.Entry.{Entry}
 use Rattle.object_programs.specs.Fixed.{Fixed, fixed_of, fixed_by}
 use Rattle.object_programs.specs.Guard.{holds_of, is_there, is_user, is_known, fits}
-use Rattle.object_programs.specs.Spelled.{is_spelled}
-use Rattle.object_programs.specs.Laws.{begun_at, KeepsParts, AreFree, AreSound}
+use Rattle.object_programs.specs.Laws.{begun_at, KeepsParts, AreSound}
 use Rattle.object_programs.proofs.Admits.{shown_first}
 use Rattle.object_programs.proofs.Guards.{fits_more, known_more}
 use Rattle.object_programs.proofs.Rules.{fits_here, keeps_spelling, sound_for}
@@ -29,8 +27,8 @@ use Rattle.object_programs.proofs.Worlds.{changed_shown}
 use Rattle.commit_soundness.proofs.Lists.{all_weaker}
 use Rattle.commit_soundness.proofs.Likes.{likes_fit}
 use Rattle.commit_soundness.proofs.Seen.{mapped_some}
-use Rattle.commit_soundness.proofs.Effects.{IsPut, IsMergedHere, stands_still}
-use Rattle.commit_soundness.proofs.Images.{Ran, place, image, at_place, first, known, which, old, old_placed, new_is, new_like, part_seen, Agrees, agrees, place_agrees, IsWelcome, welcome_under, all_agree}
+use Rattle.commit_soundness.proofs.Effects.{IsMergedHere}
+use Rattle.commit_soundness.proofs.Images.{Ran, image, at_place, first, known, which, old, old_placed, new_is, new_like, Agrees, agrees, place_agrees, IsWelcome, welcome_under, all_agree}
 use Rattle.commit_soundness.proofs.Lines.{fits_among}
 
 -- a merged object's pairs or items can be counted
@@ -70,13 +68,13 @@ module _ (entry : Entry) (setting : Setting) (world : World) (number : ℕ)
 
   placed_fits : (name : ℕ) (object : Contents) → objects_in setting.place name ≡ Some object
       → fits (fixed_by setting world) name object ≡ true
-  placed_fits name object here = fits_more (fixed_by placed_setting start) (fixed_by setting world) place_keeps name object
-      (ran.placed.each name object (sym (place_shown name) ∙ here))
+  placed_fits name object here = fits_more (fixed_by placed_setting start) (fixed_by setting world) place_keeps name
+      object (ran.placed.each name object (sym (place_shown name) ∙ here))
 
   placed_spelled : (name : ℕ) (object : Contents) → objects_in setting.place name ≡ Some object
       → IsSpelledBody object.body
-  placed_spelled name object here = (keeps_spelling (objects_in setting.place) placed_setting start place_shown name object
-      here (fits_here (objects_in setting.place) placed_setting start place_shown name object ran.placed here)
+  placed_spelled name object here = (keeps_spelling (objects_in setting.place) placed_setting start place_shown name
+      object here (fits_here (objects_in setting.place) placed_setting start place_shown name object ran.placed here)
       ran.placed).body
 
   agreed_known : (name : ℕ) → Agrees entry setting world number IsCounted ran name

@@ -1,6 +1,6 @@
 -- The values of reduced-conflict bodies. What an update brings was in the body or is in what the
 -- update leaves of it; and what a merge leaves was at the place, or an update brought it.
-use Rattle.std.proofs.Common.{◌≡◌, ◌==◌, ◌∙◌, refl, sym, ap, subst, ℕ, ℤ, ◌+◌, Bool, true, false, cond, List, [], ◌∷◌, ◌++◌, Option, Some, None, Result, Ok, Err, Ordering, is_some, option_map}
+use Rattle.std.proofs.Common.{◌≡◌, ◌==◌, refl, sym, ap, subst, ℕ, ◌+◌, Bool, true, false, cond, List, [], ◌∷◌, ◌++◌, Option, Some, None, Result, Ok, Err, Ordering, is_some, option_map}
 use Rattle.std.specs.List.{AllByRecursion}
 use Rattle.std.specs.Option.{ok_or, option_and_then}
 use Rattle.std.specs.Ordering.{is_eq, match_ordering}
@@ -28,7 +28,7 @@ use Rattle.rc_queue.specs.Update as queues
 use Rattle.rc_queue.specs.declared.update.QueueUpdate.{QueueUpdate}
 use Rattle.rc_queue.specs.declared.update.QueueUpdate.TheVariants as queue
 use Rattle.rc_queue.specs.declared.update.QueueFault.TheVariants as queue_fault
-use Rattle.gem_update.specs.Outcomes.{by_fault, counter_merged, bag_updated, bag_merged, dict_updated, dict_merged, queue_updated, queue_merged}
+use Rattle.gem_update.specs.Outcomes.{by_fault, counter_merged}
 use Rattle.gem_update.specs.References.{values_in_update}
 use Rattle.gem_update.specs.Update.{updated, merged, all_changes, counter_change, bag_change, dict_change, queue_change}
 use Rattle.gem_update.specs.declared.update.Update.{Update}
@@ -401,7 +401,8 @@ module _ (P : Value → Type 0) where
 
   -- what follows where all updates are of one class
   of_one_class : {C : Type 0} (made : List C → Option Body) (found : Option (List C)) (after : Body)
-      → option_and_then made found ≡ Some after → (changes : List C) × (found ≡ Some changes) × (made changes ≡ Some after)
+      → option_and_then made found ≡ Some after
+      → (changes : List C) × (found ≡ Some changes) × (made changes ≡ Some after)
   of_one_class made None after is = absurd (none-some after is)
   of_one_class made (Some changes) after is = (changes, refl, is)
 
@@ -429,7 +430,8 @@ module _ (P : Value → Type 0) where
       (dicts_both place left.0, subst (AllByRecursion BothHold) same (dict_settled changes.0 place old each))
   merge_keeps (body.Queue view) (body.Queue place) after updates is old all =
       let changes = of_one_class _ (all_changes queue_change updates) after is in
-      let left = merge_left body.Queue queue_fault.Remove (queues.merged value_order view place changes.0) after changes.2 in
+      let left = merge_left body.Queue queue_fault.Remove (queues.merged value_order view place changes.0) after
+      changes.2 in
       let each = each_change queue_change change.Queue queue_back updates changes.0 changes.1 all in
       let same = queue_unrefused (queues.removed_since view place changes.0)
       (queues.replayed value_order 0 changes.0 place) left.0 left.1 in
