@@ -1,0 +1,79 @@
+-- A legal run: the book of a run, by what the Stone was opened with and all its events.
+use Rattle.std.specs.Prelude.{◌≡◌, ◌≢◌, ℕ, ◌+◌, ◌++◌, nat_lt, List, [], ◌∷◌}
+use Rattle.std.specs.List.{filter, AllByRecursion}
+use Rattle.shell_words.specs.Script.{SessionCommands}
+use Rattle.gem_record.specs.declared.record.Entry.{Entry}
+use Rattle.gem_replies.specs.declared.reply.Line.TheVariants.{NoMemory}
+use Rattle.gem_replies.specs.declared.reply.Reply.{Reply}
+use Rattle.gem_replies.specs.declared.reply.Transcript.{Transcript}
+use Rattle.object_meaning.specs.Opened.{base_serial}
+use Rattle.object_meaning.specs.Events.{Event, Told, entries_of, events_of, standing}
+use Rattle.object_meaning.specs.Serial.{IsConsistent}
+use Rattle.object_meaning.specs.Session.{Says, TellsLogin}
+
+-- What a run leaves: the number of commits before it, the serial of its first session, what its
+-- sessions replied, and what was committed.
+pub record Book : Type 0 where
+  pub first : ℕ
+  pub base : ℕ
+  pub transcripts : List Transcript
+  pub history : List Entry
+
+-- the transcript is what the session with this number says
+pub record IsTranscript (t : Told) (number : ℕ) (session : SessionCommands)
+    (transcript : Transcript) : Type 0 where
+  pub session_is : transcript.session ≡ number
+  pub user_is : transcript.user ≡ session.user
+  pub says : Says t number session transcript.replies
+
+-- a transcript for each session, in the order of the script, whose numbers go on from this one
+abbrev pub AreTranscripts : Told → ℕ → List SessionCommands → List Transcript → Type 0
+AreTranscripts t number [] [] = Unit {0}
+AreTranscripts t number (session ∷ sessions) (transcript ∷ transcripts) =
+    IsTranscript t number session transcript × AreTranscripts t (number + 1) sessions transcripts
+AreTranscripts t number [] (transcript ∷ transcripts) = ⊥
+AreTranscripts t number (session ∷ sessions) [] = ⊥
+
+-- A run is legal: the book has the number that the Stone was opened at, its base serial and its
+-- history, each transcript is what its session says, every event is of a session of the script, and
+-- the commits have a serial order.
+pub record IsLegal (t : Told) (book : Book) : Type 0 where
+  pub first : book.first ≡ t.opened.number
+  pub base : book.base ≡ base_serial t.opened
+  pub history : book.history ≡ entries_of t.events
+  pub transcripts : AreTranscripts t 1 t.opened.script book.transcripts
+  pub consistent : IsConsistent t
+
+-- the reply isn't that there was no memory
+abbrev pub HadMemory : Reply → Type 0
+HadMemory reply = reply.line ≢ NoMemory
+
+-- no session replied `no memory`
+abbrev pub NeverShort : Book → Type 0
+NeverShort book =
+    AllByRecursion (λ transcript. AllByRecursion HadMemory transcript.replies) book.transcripts
+
+-- the events of the sessions before this one
+abbrev pub events_before : ℕ → List Event → List Event
+events_before session events = filter (λ event. nat_lt event.0 session) events
+
+-- the same, as a Stone that has seen no others
+abbrev pub told_before : ℕ → Told → Told
+told_before session t = record t { events = events_before session t.events }
+
+-- A session's turn: its events follow those of the sessions before it, its login tells the number
+-- that stands after these, and what it says it says by these and its own alone.
+pub record IsTurn (t : Told) (session : ℕ) (script : SessionCommands)
+    (transcript : Transcript) : Type 0 where
+  pub order : events_before (session + 1) t.events
+      ≡ events_before session t.events ++ events_of session t.events
+  pub login : TellsLogin (standing (told_before session t)).number transcript.replies
+  pub says : Says (told_before (session + 1) t) session script transcript.replies
+
+-- The sessions, whose numbers go on from this one, took turns in the order of the script.
+abbrev pub AreInTurn : Told → ℕ → List SessionCommands → List Transcript → Type 0
+AreInTurn t session [] [] = Unit {0}
+AreInTurn t session (script ∷ scripts) (transcript ∷ transcripts) =
+    IsTurn t session script transcript × AreInTurn t (session + 1) scripts transcripts
+AreInTurn t session [] (transcript ∷ transcripts) = ⊥
+AreInTurn t session (script ∷ scripts) [] = ⊥

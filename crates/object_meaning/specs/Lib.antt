@@ -1,0 +1,14 @@
+pub mod Commands
+pub mod Lines
+pub mod Opened
+pub mod Effect
+pub mod Events
+pub mod Serial
+pub mod Names
+pub mod State
+pub mod Runs
+pub mod Commits
+pub mod Locks
+pub mod Session
+pub mod Claims
+pub mod Legal

@@ -1,0 +1,128 @@
+-- Entries of the history that are transactions of the script, and the serial order: each one did at
+-- its place what it did on its view.
+use Rattle.std.specs.Prelude.{◌≡◌, ℕ, ◌-◌, ◌≤◌, ◌<◌, ◌^◌, ◌⊎◌, ◌+◌, List, [], ◌∷◌, ◌++◌, length, Option, Some, None, IsSome}
+use Rattle.std.specs.List.{AllByRecursion, slice_get}
+use Rattle.std.specs.FinMap.{get}
+use Rattle.gem_image.specs.Image.{IsImage, objects_in}
+use Rattle.gem_record.specs.declared.record.Entry.{Entry}
+use Rattle.gem_record.specs.declared.record.TxnRecord.{TxnRecord}
+use Rattle.gem_record.specs.History.{entry_of}
+use Rattle.gem_sound.specs.Parts.{user_at}
+use Rattle.gem_sound.specs.Sound.{IsSoundImage}
+use Rattle.lock_table.specs.Locks.{kind_held, denied_for}
+use Rattle.shell_words.specs.Script.{SessionCommands}
+use Rattle.shell_words.specs.declared.script.Command.{Command}
+use Rattle.shell_words.specs.declared.script.Command.TheVariants.{Commit, Abort, Logout}
+use Rattle.object_meaning.specs.declared.event.What.TheVariants.{Placed, Held, Dropped, Left}
+use Rattle.object_meaning.specs.Opened.{Opened, base_serial, commands_of, entry_commands}
+use Rattle.object_meaning.specs.Effect.{MergesFit}
+use Rattle.object_meaning.specs.Events.{Event, Told, Standing, image_at, next_counter, run_at_place, run_on_view, record_at_place, record_on_view, after_events, standing, conflicts_at}
+
+-- the command is there and may end a transaction: an abort, or a commit, which may also have been
+-- refused
+abbrev pub EndsTransaction : Option Command → Type 0
+EndsTransaction (Some Commit) = Unit {0}
+EndsTransaction (Some Abort) = Unit {0}
+EndsTransaction _ = ⊥
+
+-- A transaction may go on after this command: after any but an abort and a logout, also after a
+-- commit, which may have been refused.
+abbrev pub MayGoOn : Command → Type 0
+MayGoOn Abort = ⊥
+MayGoOn Logout = ⊥
+MayGoOn _ = Unit {0}
+
+-- The entry names commands of its session that may be one transaction: they end with a commit, none
+-- of them is an abort or a logout, and they begin with the session or after a commit or an abort.
+-- Which number the transaction has is for what the session says.
+pub record IsTransaction (script : List SessionCommands) (e : Entry) : Type 0 where
+  pub session : (1 ≤ e.session) × (e.session ≤ length script)
+  pub first : (e.first_command ≡ 1)
+      ⊎ ((2 ≤ e.first_command)
+      × EndsTransaction (slice_get (commands_of script e.session) (e.first_command - 2)))
+  pub order : e.first_command ≤ e.last_command
+  pub last : slice_get (commands_of script e.session) (e.last_command - 1) ≡ Some Commit
+  pub whole : AllByRecursion MayGoOn (entry_commands script e)
+
+-- The entry's transaction may begin where this stands: its view is one that there was, its user is
+-- a user there, and its names begin after all that the session's commits have drawn.
+pub record MayBeginAt (o : Opened) (s : Standing) (e : Entry) : Type 0 where
+  pub from : o.number ≤ e.view
+  pub to : e.view ≤ s.number
+  pub user : IsSome (user_at (objects_in (image_at s e.view)) e.user)
+  pub names : next_counter s e.session ≤ e.first_name
+  pub names_end : e.first_name ≤ 2 ^ 24
+
+-- the event isn't of this session, or its transaction ended before this command
+abbrev pub EndedBefore : (session first : ℕ) → Event → Type 0
+EndedBefore session first (author, Placed e) = author ≡ session → e.last_command < first
+EndedBefore session first (author, _) = Unit {0}
+
+-- The entry is a transaction of this session, placed after these events: it may begin there, no
+-- earlier entry of the session names one of its commands, it has no conflict there, what its merges
+-- make can be stored, and at its place it says and does all that it says and does where all stands
+-- as at its view.
+pub record IsPlaced (o : Opened) (before : List Event) (session : ℕ) (e : Entry) : Type 0 where
+  pub of_session : e.session ≡ session
+  pub of_script : IsTransaction o.script e
+  pub begins : MayBeginAt o (after_events o before) e
+  pub apart : AllByRecursion (EndedBefore session e.first_command) before
+  pub no_conflict : conflicts_at (after_events o before)
+      (record_on_view o (after_events o before) e) ≡ []
+  pub merges : MergesFit (after_events o before).image
+      (record_at_place o (after_events o before) e)
+  pub same : run_at_place o (after_events o before) e ≡ run_on_view o (after_events o before) e
+
+-- A lock was free for the session, and the object was there. One that is given back was held; a
+-- session that leaves held some.
+abbrev pub HoldsSome : Standing → (session : ℕ) → Type 0
+HoldsSome s session = (oid : ℕ) × IsSome (kind_held s.locks session oid)
+
+abbrev pub IsSerialEvent : Opened → List Event → Event → Type 0
+IsSerialEvent o before (session, Placed e) = IsPlaced o before session e
+IsSerialEvent o before (session, Held oid kind) = let s = after_events o before in
+    (denied_for s.locks session oid kind ≡ None) × IsSome (get s.image oid)
+IsSerialEvent o before (session, Dropped oid) =
+    IsSome (kind_held (after_events o before).locks session oid)
+IsSerialEvent o before (session, Left) = HoldsSome (after_events o before) session
+
+-- the events have a serial order, where these came before them
+abbrev pub IsSerialFrom : Opened → (before events : List Event) → Type 0
+IsSerialFrom o before [] = Unit {0}
+IsSerialFrom o before (event ∷ events) =
+    IsSerialEvent o before event × IsSerialFrom o (before ++ event ∷ []) events
+
+-- the commits have a serial order, which is that of the events
+unfoldable pub IsSerial : Told → Type 0
+IsSerial t = IsSerialFrom t.opened [] t.events
+
+-- the event was made by a session of the script
+abbrev pub IsOfScript : List SessionCommands → Event → Type 0
+IsOfScript script event = (1 ≤ event.0) × (event.0 ≤ length script)
+
+-- What holds of the events of every Stone: each is of a session of the script, and the commits have
+-- a serial order.
+pub record IsConsistent (t : Told) : Type 0 where
+  pub sessions : AllByRecursion (IsOfScript t.opened.script) t.events
+  pub serial : IsSerial t
+
+-- The record is what running its commands gives where all stands as at its view, and no earlier
+-- entry of the session names one of them. This is what a session claims of what it commits.
+pub record IsRecorded (t : Told) (done : TxnRecord) : Type 0 where
+  pub of_script : IsTransaction t.opened.script (entry_of done)
+  pub begins : MayBeginAt t.opened (standing t) (entry_of done)
+  pub apart : AllByRecursion (EndedBefore done.session done.first_command) t.events
+  pub is : done ≡ record_on_view t.opened (standing t) (entry_of done)
+
+-- the most commits in an image that a Stone is opened with: more than a Stone can add are left
+-- below 2^64
+abbrev pub most_at_opening : ℕ
+most_at_opening = 2 ^ 62
+
+-- What a Stone may be opened with: a sound image, which has so many commits that more can be added,
+-- and a serial for each session of the script.
+pub record CanServe (o : Opened) : Type 0 where
+  pub image : IsImage o.image
+  pub sound : IsSoundImage o.image
+  pub number : o.number ≤ most_at_opening
+  pub serials : base_serial o + length o.script ≤ 2 ^ 24

@@ -1,0 +1,141 @@
+-- What each call of a Stone answers, by the events before and after it. Events of other sessions
+-- may come first; then the call's own one. Each answer is judged when the others' events have come.
+use Rattle.std.specs.Prelude.{◌≡◌, ◌≢◌, ◌↔◌, ◌≤◌, ◌<◌, ◌^◌, ℕ, ◌+◌, Bool, true, IsTrue, List, [], ◌∷◌, ◌++◌, Option, Some, None, IsSome, is_some}
+use Rattle.std.specs.FinMap.{get}
+use Rattle.gem_value.specs.Oid.{oid_number}
+use Rattle.gem_image.specs.Image.{Image}
+use Rattle.gem_sound.specs.Sound.{IsSoundImage}
+use Rattle.gem_record.specs.declared.record.TxnRecord.{TxnRecord}
+use Rattle.gem_record.specs.History.{entry_of}
+use Rattle.commit_check.specs.Conflicts.{last_change}
+use Rattle.lock_table.specs.LockKind.{kind_granted}
+use Rattle.lock_table.specs.Locks.{kind_held, denied_for}
+use Rattle.lock_table.specs.declared.lock.LockKind.{LockKind}
+use Rattle.object_meaning.specs.declared.event.What.TheVariants.{Placed, Held, Dropped, Left}
+use Rattle.object_meaning.specs.Opened.{Opened, session_serial}
+use Rattle.object_meaning.specs.Effect.{IsUnchanged}
+use Rattle.object_meaning.specs.Events.{Event, Told, Standing, next_counter, after_events, events_of, Extends, OthersCame, conflicts_at}
+use Rattle.object_meaning.specs.Serial.{HoldsSome, IsConsistent}
+use Rattle.object_meaning.specs.Locks.{leaving}
+use Rattle.object_stone.specs.declared.port.CommitAnswer.{CommitAnswer}
+use Rattle.object_stone.specs.declared.port.CommitAnswer.TheVariants.{ReadOnly, Conflicts, Placed as PlacedAt, NoMemory}
+use Rattle.object_stone.specs.declared.port.LockAnswer.{LockAnswer}
+use Rattle.object_stone.specs.declared.port.LockAnswer.TheVariants.{Granted, Denied, NoMemory as NoMemoryForLock}
+
+-- ---- the beginning of a transaction
+
+-- No object has a name of the session's serial from the counter on after those that its commits
+-- drew.
+abbrev pub NamesAreFree : Opened → Standing → (session : ℕ) → Type 0
+NamesAreFree o s session = (counter : ℕ) → next_counter s session ≤ counter → counter < 2 ^ 24
+    → get s.image (oid_number (session_serial o session) counter) ≡ None
+
+-- Others' events came, and the image and the number are those that stand then. The image is sound,
+-- and the session's further names are free in it.
+pub record BeginSays (o : Opened) (session : ℕ) (before after : List Event) (image : Image)
+    (number : ℕ) : Type 0 where
+  pub others_came : OthersCame session before after
+  pub image_is : image ≡ (after_events o after).image
+  pub number_is : number ≡ (after_events o after).number
+  pub sound : IsSoundImage image
+  pub serial_bound : session_serial o session < 2 ^ 24
+  pub free : NamesAreFree o (after_events o after) session
+
+-- ---- a commit
+
+-- the event that an answer makes
+abbrev pub event_of_answer : TxnRecord → CommitAnswer → List Event
+event_of_answer done (PlacedAt number) = (done.session, Placed (entry_of done)) ∷ []
+event_of_answer done _ = []
+
+-- Where nothing was written or updated, the commit is read only. Otherwise it is refused where it
+-- has conflicts at this point, and else placed, with the next number. Where something was changed
+-- memory may be wanting instead.
+abbrev pub AnswerFits : Standing → TxnRecord → CommitAnswer → Type 0
+AnswerFits s done (ReadOnly number) = IsUnchanged done × (number ≡ done.view)
+AnswerFits s done (Conflicts found) =
+    (IsUnchanged done → ⊥) × (found ≢ []) × (found ≡ conflicts_at s done)
+AnswerFits s done (PlacedAt number) =
+    (IsUnchanged done → ⊥) × (conflicts_at s done ≡ []) × (number ≡ s.number + 1)
+AnswerFits s done NoMemory = IsUnchanged done → ⊥
+
+-- What a commit says: others' events came, then the one that its answer makes.
+pub record CommitSays (o : Opened) (before after : List Event) (done : TxnRecord)
+    (answer : CommitAnswer) : Type 0 where
+  pub others : List Event
+  pub are_others : events_of done.session others ≡ []
+  pub events : after ≡ (before ++ others) ++ event_of_answer done answer
+  pub fits : AnswerFits (after_events o (before ++ others)) done answer
+
+-- ---- locks
+
+-- the event that an answer to a lock makes
+abbrev pub event_of_lock : (session oid : ℕ) → LockAnswer → List Event
+event_of_lock session oid (Granted kind last) = (session, Held oid kind) ∷ []
+event_of_lock session oid _ = []
+
+-- A lock is denied exactly where another session's is in the way: then the lowest such session is
+-- named, with its kind. Else it is granted, in the greater of the kinds held and asked for, with
+-- the number of the last commit that changed the object; or memory is wanting.
+abbrev pub LockFits : Standing → (session oid : ℕ) → LockKind → LockAnswer → Type 0
+LockFits s session oid asked (Granted kind last) = (denied_for s.locks session oid asked ≡ None)
+    × (kind ≡ kind_granted (kind_held s.locks session oid) asked)
+    × (last ≡ last_change s.image oid)
+LockFits s session oid asked (Denied holder held) =
+    denied_for s.locks session oid asked ≡ Some (holder, held)
+LockFits s session oid asked NoMemoryForLock = denied_for s.locks session oid asked ≡ None
+
+-- What a lock says.
+pub record LockSays (o : Opened) (before after : List Event) (session oid : ℕ) (asked : LockKind)
+    (answer : LockAnswer) : Type 0 where
+  pub others : List Event
+  pub are_others : events_of session others ≡ []
+  pub events : after ≡ (before ++ others) ++ event_of_lock session oid answer
+  pub fits : LockFits (after_events o (before ++ others)) session oid asked answer
+
+-- the event of an unlock, where the session held the object
+abbrev pub dropping : (held : Bool) → (session oid : ℕ) → List Event
+dropping true session oid = (session, Dropped oid) ∷ []
+dropping _ session oid = []
+
+-- What an unlock says: whether the session held the object.
+pub record UnlockSays (o : Opened) (before after : List Event) (session oid : ℕ) (held : Bool)
+    : Type 0 where
+  pub others : List Event
+  pub are_others : events_of session others ≡ []
+  pub events : after ≡ (before ++ others) ++ dropping held session oid
+  pub held_is : held
+      ≡ is_some (kind_held (after_events o (before ++ others)).locks session oid)
+
+-- What a logout says: the session leaves, as its own event, exactly where it holds a lock.
+pub record LogoutSays (o : Opened) (before after : List Event) (session : ℕ) : Type 0 where
+  pub others : List Event
+  pub are_others : events_of session others ≡ []
+  pub holds : Bool
+  pub events : after ≡ (before ++ others) ++ leaving holds session
+  pub exactly : IsTrue holds ↔ HoldsSome (after_events o (before ++ others)) session
+
+-- ---- ports
+
+-- A port as contracts see it: what its Stone was opened with and the events that it has seen, which
+-- sessions it serves, and whether nobody else uses the Stone as long as the port is there.
+pub record PortState : Type 0 where
+  pub told : Told
+  pub serves : ℕ → Bool
+  pub alone : Bool
+
+-- A port that is alone stays so, and in a call for this session no other session has a further
+-- event.
+abbrev pub IsAloneStill : ℕ → PortState → PortState → Type 0
+IsAloneStill session before after = before.alone ≡ true → (after.alone ≡ true)
+    × ((other : ℕ) → other ≢ session
+    → events_of other after.told.events ≡ events_of other before.told.events)
+
+-- What every call for a session keeps: the port is on the same Stone and has seen more events,
+-- which are consistent; it serves whom it served; and a port that is alone stays so.
+pub record GoesOn (session : ℕ) (before after : PortState) : Type 0 where
+  pub opened : after.told.opened ≡ before.told.opened
+  pub extends : Extends before.told.events after.told.events
+  pub serves : (other : ℕ) → before.serves other ≡ true → after.serves other ≡ true
+  pub alone : IsAloneStill session before after
+  pub consistent : IsConsistent after.told
