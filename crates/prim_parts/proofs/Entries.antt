@@ -30,8 +30,8 @@ use Rattle.object_programs.specs.Run.{Run, give, atom, and_then, Ending, gives, 
 use Rattle.running_objects.specs.Ran.{EndsSo}
 use Rattle.running_objects.specs.declared.stop.Stop.TheVariants as stop
 use Rattle.running_objects.proofs.Running.{keeps_same, seen_twice}
-use Rattle.prim_parts.specs.Changes.{Changes}
-use Rattle.prim_parts.specs.declared.change.Change.{Change}
+use Rattle.body_growth.specs.Changes.{Changes}
+use Rattle.body_growth.specs.declared.change.Change.{Change}
 use Rattle.gem_object.specs.declared.object.Object.{Object}
 use Rattle.prim_rules.specs.Dictionaries.{pair_growth}
 use Rattle.prim_rules.specs.Receivers.{Receiver}
