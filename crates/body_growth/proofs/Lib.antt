@@ -1,3 +1,3 @@
 mod Sums
 pub mod Changes
-mod Updates
+mod Told

@@ -57,12 +57,15 @@ fn item_added(bag: &Bag<Value>, item: &Value) -> Change
 {
     let pairs = bag.pairs();
     match place(pairs, item) {
-        Ok(at) => Change {
-            slots_freed: 0,
-            slots_taken: step(pairs[at].1),
-            bytes_freed: 0,
-            bytes_taken: 0,
-        },
+        Ok(at) => {
+            let pair = &pairs[at];
+            Change {
+                slots_freed: 0,
+                slots_taken: step(pair.1),
+                bytes_freed: 0,
+                bytes_taken: 0,
+            }
+        }
         Err(_) => Change {
             slots_freed: 0,
             slots_taken: 1,
@@ -130,12 +133,15 @@ fn key_put(dict: &KeyDict<Value, Value>, key: &Value, value: &Value) -> Change
 {
     let pairs = dict.pairs();
     match place(pairs, key) {
-        Ok(at) => Change {
-            slots_freed: 0,
-            slots_taken: 0,
-            bytes_freed: pair_bytes(&pairs[at].0, &pairs[at].1),
-            bytes_taken: pair_bytes(key, value),
-        },
+        Ok(at) => {
+            let pair = &pairs[at];
+            Change {
+                slots_freed: 0,
+                slots_taken: 0,
+                bytes_freed: pair_bytes(&pair.0, &pair.1),
+                bytes_taken: pair_bytes(key, value),
+            }
+        }
         Err(_) => Change {
             slots_freed: 0,
             slots_taken: 2,

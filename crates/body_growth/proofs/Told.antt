@@ -1,14 +1,14 @@
 -- What each update of a reduced-conflict body changes.
-use Rattle.std.proofs.Common.{◌≡◌, ◌∙◌, rules, refl, sym, ap, subst, ℕ, ◌+◌, ◌-◌, ◌^◌, ◌<◌, ◌≤◌, Bool, true, false, List, [], ◌∷◌, ◌++◌, Option, Some, None, option_map, is_some, if◌then◌else◌, length, set, get_or, min, Ordering, arith}
-use Rattle.std.specs.List.{sum_by, slice_get, insert, remove}
+use Rattle.std.proofs.Common.{◌≡◌, ◌∙◌, rules, refl, sym, ap, subst, ℕ, zero, suc, ℤ, ◌+◌, ◌-◌, ◌^◌, ◌<◌, ◌≤◌, Bool, true, false, List, [], ◌∷◌, ◌++◌, Option, Some, None, option_map, is_some, if◌then◌else◌, length, set, get_or, min, Ordering, arith}
+use Rattle.std.specs.List.{AllByRecursion, sum_by, slice_get, insert, remove}
 use Rattle.std.specs.Option.{ok_or}
 use Rattle.std.specs.Ordering.{is_eq}
 use Rattle.std.specs.Result.{result_ok}
 use Rattle.std.proofs.Math.Path.{fun_ext}
-use Rattle.std.proofs.lemmas.Option.{same_Some, none-some, slice_get-get_or}
-use Rattle.std.proofs.lemmas.List.{length-set}
+use Rattle.std.proofs.lemmas.Option.{same_Some, none-some}
+use Rattle.std.proofs.lemmas.List.{length-set, length-append}
 use Rattle.std.proofs.lemmas.List.Edits.{length-insert, length-remove}
-use Rattle.std.proofs.lemmas.List.Sums.{sum_by-cons, sum_by-append, sum_by-insert}
+use Rattle.std.proofs.lemmas.List.Sums.{sum_by-cons, sum_by-append, sum_by-insert, sum_by-remove}
 use Rattle.sorted_pairs.specs.Place.{StandsAt, FitsAt}
 use Rattle.gem_object.specs.Order.{value_order}
 use Rattle.gem_object.specs.Sizes.{value_size, pair_size, occurrences_size, fields_size}
@@ -18,6 +18,8 @@ use Rattle.gem_object.specs.declared.value.Value.{Value}
 use Rattle.gem_object.specs.declared.body.Body.{Body}
 use Rattle.gem_object.specs.declared.body.Body.TheVariants as body
 use Rattle.rc_counter_bag.specs.Bag.{one_more, one_less, with_one_more, with_one_less}
+use Rattle.rc_counter_bag.specs.declared.counter.Counter.{Counter}
+use Rattle.rc_counter_bag.specs.declared.counter.CounterRange.{CounterRange}
 use Rattle.rc_counter_bag.specs.declared.update.BagFault.TheVariants as bag_fault
 use Rattle.rc_counter_bag.proofs.Edits as bags
 use Rattle.rc_dict.specs.Dict.{entry, put, without}
@@ -28,7 +30,7 @@ use Rattle.rc_queue.specs.Update.{without_front, one_removal_more}
 use Rattle.rc_queue.specs.declared.update.QueueFault.TheVariants as queue_fault
 use Rattle.body_growth.specs.declared.change.Change.{Change}
 use Rattle.body_growth.specs.Changes.{Shifts, Changes, Tells, counted}
-use Rattle.body_growth.proofs.Sums.{item_put, item_removed}
+use Rattle.body_growth.proofs.Sums.{item_put}
 use Rattle.body_growth.proofs.Changes.{changed_as, after_head}
 
 -- ---- what is told
@@ -63,7 +65,46 @@ module _ {X : Type 0} (key : Value) (pairs : List (Value × X)) (at : ℕ) where
   fits : FitsAt order.ghosts.cmp key pairs at → FitsAt value_order key pairs at
   fits = subst (λ cmp. FitsAt cmp key pairs at) orders
 
+-- ---- counters
+
+abbrev counter_of : ℤ → Counter
+counter_of value = record { value = value }
+
+abbrev no_range : CounterRange
+no_range = record {}
+
+abbrev counter_after : Option ℤ → Option Body
+counter_after value = option_map body.Counter (result_ok (ok_or
+    (option_map counter_of value) no_range))
+
+-- a counter's value counts nothing
+counter_kept : {change : Change} → ((one : Body) → Changes change one one) → (old new : Counter)
+    → Changes change (body.Counter old) (body.Counter new)
+counter_kept each old new =
+    let same = each (body.Counter old) in
+    record {
+      slots = same.slots;
+      few = same.few;
+      freed = same.freed;
+      taken = same.taken;
+      bytes = same.bytes;
+      freed_is = same.freed_is;
+      taken_is = same.taken_is;
+    }
+
+pub counter_told : {change : Change} → ((one : Body) → Changes change one one) → (old new : Counter) (value : Option ℤ)
+    → value ≡ Some new.value → Tells (Some change) (body.Counter old) (counter_after value)
+counter_told {change} each old new value is =
+    tells_some change (body.Counter old) _ (body.Counter new) (ap counter_after is) (counter_kept each old new)
+
 -- ---- bags
+
+-- each item of a bag occurs
+pub occurs : (pairs : List (Value × ℕ)) (at : ℕ) (pair : Value × ℕ) → AllByRecursion (λ one. 0 < one.1) pairs → at < length pairs
+    → pair ≡ get_or pairs at pair → 0 < pair.1
+occurs [] at pair each within read = absurd (omega (arith, within))
+occurs (first ∷ rest) zero pair each within read = subst (λ (one : Value × ℕ). 0 < one.1) (sym read) each.0
+occurs (first ∷ rest) (suc at) pair each within read = occurs rest at pair each.1 (omega (arith, within)) read
 
 -- a number that went and came again
 moved : {old freed taken new : ℕ} → Shifts old freed taken new → (less more : ℕ) → less ≤ freed → taken + less ≡ freed + more
@@ -72,6 +113,14 @@ moved shifts less more below even = record {
   had = omega (arith, below, shifts.had);
   is = omega (arith, even, shifts.is, shifts.had);
 }
+
+-- an item goes that stands at a place
+item_taken : {X : Type 0} (f : X → ℕ) (xs : List X) (at : ℕ) (old : X) → at < length xs → old ≡ get_or xs at old
+    → Shifts (sum_by f xs) (f old) 0 (sum_by f (remove xs at))
+item_taken f xs at old within read =
+    let size : f (get_or xs at old) ≡ f old = ap f (sym read) in
+    let left = sum_by-remove f xs at old within in
+    record { had = omega (arith, size, left); is = omega (arith, size, left) }
 
 abbrev bag_after : Option (List (Value × ℕ)) → Option Body
 bag_after pairs = option_map body.Bag (result_ok (ok_or pairs (bag_fault.Missing 0)))
@@ -116,14 +165,13 @@ module _ (item : Value) (pairs : List (Value × ℕ)) (at : ℕ) where
       → Tells (Some (record { slots_freed = 1; slots_taken = 0; bytes_freed = freed; bytes_taken = 0 })) (body.Bag pairs)
       (bag_after (with_one_less value_order item pairs))
   item_gone pair freed there within read last is =
-      let here : slice_get pairs at ≡ Some pair = slice_get-get_or pairs at pair within ∙ ap Some (sym read) in
       tells_some _ (body.Bag pairs) _ (body.Bag (remove pairs at))
       (ap bag_after (bags.with_one_less-last value_order item pairs at pair (stands item pairs at there) read last)) (record {
-        slots = moved (item_removed (λ (one : Value × ℕ). one.1) pairs at pair here) 1 0 (omega (arith, last)) (omega (arith, last));
+        slots = moved (item_taken (λ (one : Value × ℕ). one.1) pairs at pair within read) 1 0 (omega (arith, last)) (omega (arith, last));
         few = omega arith;
         freed = value_size pair.0 + 8;
         taken = 0;
-        bytes = after_head 4 (item_removed occurrences_size pairs at pair here);
+        bytes = after_head 4 (item_taken occurrences_size pairs at pair within read);
         freed_is = is;
         taken_is = refl;
       })
@@ -199,7 +247,6 @@ module _ (key : Value) (pairs : List (Value × Value)) (at : ℕ) where
       → Tells (Some (record { slots_freed = 2; slots_taken = 0; bytes_freed = freed; bytes_taken = 0 })) (body.RcDict pairs)
       (dict_after (removed_at (entry value_order key pairs)))
   key_gone pair freed there within read is =
-      let here : slice_get pairs at ≡ Some pair = slice_get-get_or pairs at pair within ∙ ap Some (sym read) in
       let long : length (remove pairs at) + 1 ≡ length pairs = length-remove pairs at within in
       let found = stands key pairs at there in
       tells_some _ (body.RcDict pairs) _ (body.RcDict (remove pairs at))
@@ -209,7 +256,7 @@ module _ (key : Value) (pairs : List (Value × Value)) (at : ℕ) where
         few = omega arith;
         freed = pair_size pair;
         taken = 0;
-        bytes = after_head 4 (item_removed pair_size pairs at pair here);
+        bytes = after_head 4 (item_taken pair_size pairs at pair within read);
         freed_is = is;
         taken_is = refl;
       })
@@ -245,7 +292,7 @@ item_queued queue item taken is =
 module _ (item : Value) (removed : ℕ) where
   -- the front goes, which is the item
   pub front_gone : (items : List Value) (front : Value) (freed : ℕ) → Some front ≡ slice_get items 0
-      → is_eq (value_order front item) ≡ true → freed ≡ counted (value_size front)
+      → is_eq (order.ghosts.cmp front item) ≡ true → freed ≡ counted (value_size front)
       → Tells (Some (record { slots_freed = 1; slots_taken = 0; bytes_freed = freed; bytes_taken = 0 }))
       (body.Queue (record { removed = removed; items = items })) (queue_after (without_front value_order item removed items))
   front_gone [] front freed there same is = cc
@@ -254,7 +301,7 @@ module _ (item : Value) (removed : ℕ) where
       let size : value_size first ≡ value_size front = ap value_size one in
       let left : Contents Value = record { removed = one_removal_more removed; items = rest } in
       tells_some _ (body.Queue (record { removed = removed; items = first ∷ rest })) _ (body.Queue left)
-      (ap (λ b. queue_after (if b then Some left else None)) (ap (λ v. is_eq (value_order v item)) one ∙ same)) (record {
+      (ap (λ b. queue_after (if b then Some left else None)) (ap (λ v. is_eq (value_order v item)) one ∙ ap is_eq (sym (in_order front item)) ∙ same)) (record {
         slots = record { had = omega arith; is = omega arith };
         few = omega arith;
         freed = value_size front;
@@ -266,10 +313,3 @@ module _ (item : Value) (removed : ℕ) where
         freed_is = is;
         taken_is = refl;
       })
-
-  -- another front, or none
-  pub front_other : (items : List Value) → ((front : Value) → Some front ≡ slice_get items 0 → is_eq (value_order front item) ≡ false)
-      → Tells None (body.Queue (record { removed = removed; items = items })) (queue_after (without_front value_order item removed items))
-  front_other [] other = tells_none _ _ refl
-  front_other (first ∷ rest) other = tells_none _ _
-      (ap (λ b. queue_after (if b then Some (record { removed = one_removal_more removed; items = rest }) else None)) (other first refl))
