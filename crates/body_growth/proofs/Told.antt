@@ -1,6 +1,6 @@
 -- What each update of a reduced-conflict body changes.
-use Rattle.std.proofs.Common.{◌≡◌, ◌∙◌, rules, refl, sym, ap, subst, ℕ, zero, suc, ℤ, ◌+◌, ◌-◌, ◌^◌, ◌<◌, ◌≤◌, Bool, true, false, List, [], ◌∷◌, ◌++◌, Option, Some, None, option_map, is_some, if◌then◌else◌, length, set, get_or, min, Ordering, arith}
-use Rattle.std.specs.List.{AllByRecursion, sum_by, slice_get, insert, remove}
+use Rattle.std.proofs.Common.{◌≡◌, ◌∙◌, rules, refl, sym, ap, subst, ℕ, zero, suc, ℤ, ◌+◌, ◌<◌, ◌≤◌, true, List, [], ◌∷◌, ◌++◌, Option, Some, None, option_map, is_some, if◌then◌else◌, length, set, get_or, arith}
+use Rattle.std.specs.List.{AllByRecursion, sum_by, slice_get, remove}
 use Rattle.std.specs.Option.{ok_or}
 use Rattle.std.specs.Ordering.{is_eq}
 use Rattle.std.specs.Result.{result_ok}
@@ -11,8 +11,7 @@ use Rattle.std.proofs.lemmas.List.Edits.{length-insert, length-remove}
 use Rattle.std.proofs.lemmas.List.Sums.{sum_by-cons, sum_by-append, sum_by-insert, sum_by-remove}
 use Rattle.sorted_pairs.specs.Place.{StandsAt, FitsAt}
 use Rattle.gem_object.specs.Order.{value_order}
-use Rattle.gem_object.specs.Sizes.{value_size, pair_size, occurrences_size, fields_size}
-use Rattle.gem_object.specs.Slots.{slots_of}
+use Rattle.gem_object.specs.Sizes.{value_size, pair_size, occurrences_size}
 use Rattle.gem_object.specs.contracts.value.ValueOrd.TheImpl as order
 use Rattle.gem_object.specs.declared.value.Value.{Value}
 use Rattle.gem_object.specs.declared.body.Body.{Body}
@@ -149,12 +148,12 @@ module _ (item : Value) (pairs : List (Value × ℕ)) (at : ℕ) where
   item_more pair more there within read grown =
       changed_as (ap body.Bag (bags.with_one_more-stands value_order item pairs at pair (stands item pairs at there) read)) (record {
         slots = moved (item_put (λ (one : Value × ℕ). one.1) pairs at pair (pair.0, one_more pair.1) within read) 0 more
-        (omega arith) (omega (arith, grown));
+            (omega arith) (omega (arith, grown));
         few = omega arith;
         freed = 0;
         taken = 0;
         bytes = after_head 4 (moved (item_put occurrences_size pairs at pair (pair.0, one_more pair.1) within read) 0 0
-        (omega arith) (omega arith));
+            (omega arith) (omega arith));
         freed_is = refl;
         taken_is = refl;
       })
@@ -186,12 +185,12 @@ module _ (item : Value) (pairs : List (Value × ℕ)) (at : ℕ) where
       (ap bag_after (bags.with_one_less-written value_order item pairs at pair pair (stands item pairs at there) within read read more))
       (record {
         slots = moved (item_put (λ (one : Value × ℕ). one.1) pairs at pair (pair.0, one_less pair.1) within read) less 0
-        (omega (arith, shrunk)) (omega (arith, shrunk));
+            (omega (arith, shrunk)) (omega (arith, shrunk));
         few = omega (arith, few);
         freed = 0;
         taken = 0;
         bytes = after_head 4 (moved (item_put occurrences_size pairs at pair (pair.0, one_less pair.1) within read) 0 0
-        (omega arith) (omega arith));
+            (omega arith) (omega arith));
         freed_is = refl;
         taken_is = refl;
       })

@@ -204,14 +204,6 @@ module _ (refusal : Fault) (change : Update) (name : ℕ) (seen : Seen) (held : 
       → Computes (limits_of_update refusal change object.body) result
   of_it {result} = subst (λ (one : Contents). Computes (limits_of_update refusal change one.body) result) (sym (seen_twice there shown))
 
-  pub limits_refused : Tells None held.body (updated change held.body)
-      → Computes (limits_of_update refusal change object.body) (Err (stop.Fails refusal))
-  limits_refused tells = of_it (by (updated change held.body) tells)
-    where
-      by : (found : Option Body) → Tells None held.body found → Computes (limits_by refusal held found) (Err (stop.Fails refusal))
-      by None tells = record { ends = λ setting state. refl }
-      by (Some new) tells = absurd (false≢true tells.taken)
-
   pub limits_updated : (nothing told : Change) (first second : Bool) → ((body : Body) → Changes nothing body body)
       → Tells (Some told) held.body (updated change held.body) → TellsLimits nothing name seen first → TellsLimits told name seen second
       → Computes (limits_of_update refusal change object.body) (Ok (first && second))
