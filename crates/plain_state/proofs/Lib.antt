@@ -11,8 +11,6 @@ mod Shared
 mod Rooms
 mod Notes
 pub mod Bytes
-mod Sums
-mod Growths
 mod NewObjects
 mod InTurn
 mod Costs

@@ -1,6 +1,5 @@
 pub mod Classes
 pub mod Edit
-pub mod Growth
 pub mod Keys
 pub mod Overlay
 pub mod Parts

@@ -1,11 +1,11 @@
 //! Edits of one object.
-ghost use Rattle.std.specs.Prelude.{◌≡◌, IfOk, OnOk, OnErr, length};
+ghost use Rattle.std.specs.Prelude.{◌≡◌, IfOk, IfSome, OnErr, OnOk};
 ghost use Rattle.gem_object.specs.Edits.{plain_slots, body_bytes, with_slot, with_slot_more, without_slot, with_byte, with_value_at, without_value_at};
+ghost use Rattle.body_growth.specs.Changes.{Changes};
 ghost use Rattle.gem_image.specs.Image.{contents_of};
 ghost use Rattle.plain_state.specs.Edit.{edited_by};
-ghost use Rattle.plain_state.specs.Growth.{Grows};
 
-use crate::growth::{Growth, pair_put, pair_removed, slot_inserted, slot_removed, slot_replaced};
+use body_growth::{Change, pair_put, pair_removed, slot_inserted, slot_removed, slot_replaced};
 use gem_object::{Body, Object, Value};
 use gem_value::Oid;
 use std::alloc::AllocError;
@@ -32,31 +32,32 @@ pub(crate) enum Edit {
 }
 
 impl Edit {
-    /// Edits the object; how the bytes of its body change.
+    /// Edits the object; how its body changed, and None where another body came.
     ///
     /// # Errors
     ///
     /// `AllocError` where memory ran out. The object is as before.
-    pub(crate) fn apply(self, object: &mut Object) -> Result<Growth, AllocError>
+    pub(crate) fn apply(self, object: &mut Object) -> Result<Option<Change>, AllocError>
         ensures edited { OnOk result
             (contents_of object.new ≡ edited_by self (contents_of object.old)) }
-        ensures grown { IfOk result (λ growth. Grows growth object.old.body object.new.body) }
+        ensures changed { IfOk result (λ told. IfSome told (λ change.
+            Changes change object.old.body object.new.body)) }
         ensures unchanged { OnErr result (object.new ≡ object.old) }
     {
         match self {
-            Edit::SetSlot(at, value) => Ok(set_slot(&mut object.body, at, value)),
-            Edit::InsertSlot(at, value) => insert_slot(&mut object.body, at, value),
-            Edit::RemoveSlot(at) => Ok(remove_slot(&mut object.body, at)),
-            Edit::SetByte(at, byte) => Ok(set_byte(&mut object.body, at, byte)),
-            Edit::PutAt(key, value) => put_at(&mut object.body, key, value),
-            Edit::RemoveAt(key) => Ok(remove_at(&mut object.body, &key)),
+            Edit::SetSlot(at, value) => Ok(Some(set_slot(&mut object.body, at, value))),
+            Edit::InsertSlot(at, value) => Ok(Some(insert_slot(&mut object.body, at, value)?)),
+            Edit::RemoveSlot(at) => Ok(Some(remove_slot(&mut object.body, at))),
+            Edit::SetByte(at, byte) => Ok(Some(set_byte(&mut object.body, at, byte))),
+            Edit::PutAt(key, value) => Ok(Some(put_at(&mut object.body, key, value)?)),
+            Edit::RemoveAt(key) => Ok(Some(remove_at(&mut object.body, &key))),
             Edit::PutBody(body) => {
                 object.body = body;
-                Ok(Growth::Anew)
+                Ok(None)
             }
             Edit::MoveTo(segment) => {
                 object.segment = segment;
-                Ok(Growth::none())
+                Ok(Some(Change::none()))
             }
         }
     }
@@ -82,64 +83,64 @@ pub(crate) fn byte_count(body: &Body) -> usize
     }
 }
 
-fn set_slot(body: &mut Body, at: usize, value: Value) -> Growth
+fn set_slot(body: &mut Body, at: usize, value: Value) -> Change
     ensures set { body.new ≡ with_slot at value body.old }
-    ensures grown { Grows result body.old body.new }
+    ensures changed { Changes result body.old body.new }
 {
-    let growth = slot_replaced(body, at, &value);
+    let change = slot_replaced(body, at, &value);
     if at < slot_count(body) {
         body.set_slot(at, value);
     }
-    growth
+    change
 }
 
-fn insert_slot(body: &mut Body, at: usize, value: Value) -> Result<Growth, AllocError>
+fn insert_slot(body: &mut Body, at: usize, value: Value) -> Result<Change, AllocError>
     ensures added { OnOk result (body.new ≡ with_slot_more at value body.old) }
-    ensures grown { IfOk result (λ growth. Grows growth body.old body.new) }
+    ensures changed { IfOk result (λ change. Changes change body.old body.new) }
     ensures unchanged { OnErr result (body.new ≡ body.old) }
 {
     let at = at.min(slot_count(body));
-    let growth = slot_inserted(body, at, &value);
+    let change = slot_inserted(body, at, &value);
     body.insert_slot(at, value)?;
-    Ok(growth)
+    Ok(change)
 }
 
-fn remove_slot(body: &mut Body, at: usize) -> Growth
+fn remove_slot(body: &mut Body, at: usize) -> Change
     ensures removed { body.new ≡ without_slot at body.old }
-    ensures grown { Grows result body.old body.new }
+    ensures changed { Changes result body.old body.new }
 {
-    let growth = slot_removed(body, at);
+    let change = slot_removed(body, at);
     if at < slot_count(body) {
         body.remove_slot(at);
     }
-    growth
+    change
 }
 
-fn set_byte(body: &mut Body, at: usize, byte: u8) -> Growth
+fn set_byte(body: &mut Body, at: usize, byte: u8) -> Change
     ensures set { body.new ≡ with_byte at byte body.old }
-    ensures grown { Grows result body.old body.new }
+    ensures changed { Changes result body.old body.new }
 {
     if at < byte_count(body) {
         body.set_byte(at, byte);
     }
-    Growth::none()
+    Change::none()
 }
 
-fn put_at(body: &mut Body, key: Value, value: Value) -> Result<Growth, AllocError>
+fn put_at(body: &mut Body, key: Value, value: Value) -> Result<Change, AllocError>
     ensures put { OnOk result (body.new ≡ with_value_at key value body.old) }
-    ensures grown { IfOk result (λ growth. Grows growth body.old body.new) }
+    ensures changed { IfOk result (λ change. Changes change body.old body.new) }
     ensures unchanged { OnErr result (body.new ≡ body.old) }
 {
-    let growth = pair_put(body, &key, &value);
+    let change = pair_put(body, &key, &value);
     body.put_at(key, value)?;
-    Ok(growth)
+    Ok(change)
 }
 
-fn remove_at(body: &mut Body, key: &Value) -> Growth
+fn remove_at(body: &mut Body, key: &Value) -> Change
     ensures removed { body.new ≡ without_value_at key.now body.old }
-    ensures grown { Grows result body.old body.new }
+    ensures changed { Changes result body.old body.new }
 {
-    let growth = pair_removed(body, key);
+    let change = pair_removed(body, key);
     body.remove_at(key);
-    growth
+    change
 }

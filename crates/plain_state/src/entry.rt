@@ -1,13 +1,15 @@
 //! An object that a transaction has changed, with its bytes.
-ghost use Rattle.std.specs.Prelude.{◌≡◌, IfOk, OnOk, OnErr};
+ghost use Rattle.std.specs.Prelude.{◌≡◌, IfOk, IfSome, OnErr, OnOk};
+ghost use Rattle.body_growth.specs.Changes.{Changes, bytes_of};
+ghost use Rattle.gem_object.specs.declared.body.Body.{Body};
 ghost use Rattle.gem_image.specs.Image.{contents_of};
 ghost use Rattle.plain_state.specs.Edit.{edited_by};
-ghost use Rattle.plain_state.specs.Growth.{bytes_of};
 ghost use Rattle.plain_state.specs.Updates.{takes, with_update};
 
 use crate::edit::Edit;
 use crate::updates::take_update;
-use gem_object::Object;
+use body_growth::{Change, body_updated};
+use gem_object::{Body, Object};
 use gem_update::Update;
 use std::alloc::AllocError;
 use std::marker::Model;
@@ -24,7 +26,7 @@ impl Model for Entry {
     ghost use Rattle.std.specs.Prelude.{◌≡◌};
     ghost use Rattle.gem_object.specs.contracts.object.Object as objects;
     ghost use Rattle.gem_object.specs.declared.object.Object.{Object};
-    ghost use Rattle.plain_state.specs.Growth.{bytes_of};
+    ghost use Rattle.body_growth.specs.Changes.{bytes_of};
 
     ghost Value = { Object };
 
@@ -71,12 +73,13 @@ impl Entry {
             (contents_of self.new ≡ edited_by edit (contents_of self.old)) }
         ensures unchanged { OnErr result (self.new ≡ self.old) }
     {
-        let growth = edit.apply(&mut self.object)?;
-        self.bytes = growth.bytes_after(self.bytes, &self.object.body);
+        let told = edit.apply(&mut self.object)?;
+        self.bytes = bytes_after(told, self.bytes, &self.object.body);
         Ok(())
     }
 
-    /// Updates the object, and counts its bytes; whether it took the update.
+    /// Updates the object; whether it took the update. The bytes are known from what the update
+    /// changes.
     ///
     /// # Errors
     ///
@@ -87,8 +90,26 @@ impl Entry {
             (contents_of self.new ≡ with_update update (contents_of self.old)) }
         ensures unchanged { OnErr result (self.new ≡ self.old) }
     {
+        let Some(change) = body_updated(&self.object.body, &update) else {
+            return Ok(false);
+        };
         let taken = take_update(&mut self.object, update)?;
-        self.bytes = self.object.body.size();
+        self.bytes = bytes_after(Some(change), self.bytes, &self.object.body);
         Ok(taken)
     }
+}
+
+// The bytes of the body after a change, where they were so many before. They are counted where
+// another body came, and where their number stood at 2^64 - 1.
+fn bytes_after(told: Option<Change>, bytes: u64, body: &Body) -> u64
+    ensures { (old : Body) → IfSome told (λ change. Changes change old body.now)
+        → bytes ≡ bytes_of old → result ≡ bytes_of body.now }
+{
+    let Some(change) = told else {
+        return body.size();
+    };
+    if bytes == u64::MAX {
+        return body.size();
+    }
+    change.bytes_after(bytes)
 }

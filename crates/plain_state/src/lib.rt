@@ -7,7 +7,6 @@ mod classes;
 mod edit;
 mod edits;
 mod entry;
-mod growth;
 pub mod laws;
 mod makes;
 mod many;

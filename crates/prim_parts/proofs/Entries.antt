@@ -1,5 +1,5 @@
 -- Objects that are made and put into a dictionary.
-use Rattle.std.proofs.Common.{◌≡◌, refl, sym, ap, ◌∙◌, subst, ℕ, suc, ◌+◌, ◌-◌, ◌*◌, ◌≤◌, ◌<◌, nat_le, nat_eq, cond, Bool, true, false, ◌&&◌, if◌then◌else◌, List, [], ◌∷◌, length, map, Option, Some, None, option_map, Result, Ok, Err, arith}
+use Rattle.std.proofs.Common.{◌≡◌, refl, sym, ap, ◌∙◌, subst, ℕ, ◌+◌, ◌*◌, ◌≤◌, ◌<◌, nat_le, nat_eq, cond, Bool, true, false, ◌&&◌, if◌then◌else◌, List, [], ◌∷◌, length, map, Option, Some, None, Result, Ok, Err, arith}
 use Rattle.std.proofs.lemmas.Bool.Decides.{nat_tests}
 use Rattle.std.specs.List.{sum_by, list_all}
 use Rattle.std.proofs.lemmas.List.Sums.{sum_by-cons}
@@ -30,8 +30,8 @@ use Rattle.object_programs.specs.Run.{Run, give, atom, and_then, Ending, gives, 
 use Rattle.running_objects.specs.Ran.{EndsSo}
 use Rattle.running_objects.specs.declared.stop.Stop.TheVariants as stop
 use Rattle.running_objects.proofs.Running.{keeps_same, seen_twice}
-use Rattle.prim_parts.specs.Changes.{Changes}
-use Rattle.prim_parts.specs.declared.change.Change.{Change}
+use Rattle.body_growth.specs.Changes.{Changes}
+use Rattle.body_growth.specs.declared.change.Change.{Change}
 use Rattle.gem_object.specs.declared.object.Object.{Object}
 use Rattle.prim_rules.specs.Dictionaries.{pair_growth}
 use Rattle.prim_rules.specs.Receivers.{Receiver}

@@ -25,8 +25,9 @@ use Rattle.running_objects.specs.declared.stop.Stop.{Stop}
 use Rattle.running_objects.specs.declared.stop.Stop.TheVariants as stop
 use Rattle.running_objects.proofs.Running.{keeps_same, seen_twice}
 use Rattle.running_objects.proofs.Bytes.{seen_small}
-use Rattle.prim_parts.specs.declared.change.Change.{Change}
-use Rattle.prim_parts.specs.Changes.{Shifts, is_small, TellsLimits, room_where, limits_of_update}
+use Rattle.body_growth.specs.declared.change.Change.{Change}
+use Rattle.body_growth.specs.Changes.{Shifts, Changes, Tells}
+use Rattle.prim_parts.specs.Limits.{is_small, TellsLimits, room_where, limits_of_update}
 use Rattle.prim_parts.specs.Does.{Does, Computes}
 use Rattle.prim_parts.specs.Edits.{Replaces, Updates}
 use Rattle.prim_parts.proofs.Does.{does_then, does_stop, does_atom, does_give, does_fail, does_nothing}
@@ -195,6 +196,26 @@ limits_by refusal held found = and_then (need refusal found) (λ new. give (is_s
 abbrev update_by : Fault → (growth name : ℕ) → Update → Contents → Option Body → Run MadeBlock (Unit {0})
 update_by refusal growth name change held found = and_then (need refusal found) (λ new.
     followed (is_within_limits held && is_within_limits (with_body new held)) growth (atom (Note name change)))
+
+-- the test by the changes is that of the update
+module _ (refusal : Fault) (change : Update) (name : ℕ) (seen : Seen) (held : Contents) (shown : Some held ≡ object_at name seen)
+    (object : Contents) (there : object_at name seen ≡ Some object) where
+  of_it : {result : Result Bool Stop} → Computes (limits_by refusal held (updated change held.body)) result
+      → Computes (limits_of_update refusal change object.body) result
+  of_it {result} = subst (λ (one : Contents). Computes (limits_of_update refusal change one.body) result) (sym (seen_twice there shown))
+
+  pub limits_updated : (nothing told : Change) (first second : Bool) → ((body : Body) → Changes nothing body body)
+      → Tells (Some told) held.body (updated change held.body) → TellsLimits nothing name seen first → TellsLimits told name seen second
+      → Computes (limits_of_update refusal change object.body) (Ok (first && second))
+  limits_updated nothing told first second same tells before after = of_it (by (updated change held.body) tells)
+    where
+      by : (found : Option Body) → Tells (Some told) held.body found → Computes (limits_by refusal held found) (Ok (first && second))
+      by None tells = absurd (false≢true (sym tells.taken))
+      by (Some new) tells =
+          let one : first ≡ is_small held.body = before held held.body (sym shown) (same held.body) in
+          let two : second ≡ is_small new = after held new (sym shown) (tells.changes told new refl refl) in
+          subst (λ (b : Bool). Computes (limits_by refusal held (Some new)) (Ok b)) (sym (ap₂ (λ (a b : Bool). a && b) one two))
+          (record { ends = λ setting state. refl })
 
 module _ (refusal : Fault) (growth name : ℕ) (change : Update) (held : Contents) {before : Seen} where
   goes_by : (found : Option Body) (small : Bool) {after : Seen} {result : Result (Unit {0}) Stop} → Computes (limits_by refusal held found) (Ok small)

@@ -1,5 +1,5 @@
 pub mod Does
 pub mod Edits
 pub mod Entering
-pub mod Changes
+pub mod Limits
 pub mod Walks

@@ -1,20 +1,23 @@
 //! Edits of objects that were written: each tests first that the object stays within the limits of
 //! objects (E17), and then takes the space by which it grows (E15). They take constant time, but
-//! for `replace_body` and `update`, and for slots that move up or down.
-ghost use Rattle.std.specs.Prelude.{◌≡◌, true, Some, None, IfOk, IsErrOf};
+//! for `replace_body`, for slots, items and keys that move up or down, and for the search of an item
+//! in a bag or a key in a sorted dictionary.
+ghost use Rattle.std.specs.Prelude.{◌≡◌, true, Some};
 ghost use Rattle.gem_object.specs.Edits.{with_slot, with_slot_more, without_slot, with_byte, with_value_at, without_value_at};
-ghost use Rattle.gem_update.specs.Update.{updated};
+ghost use Rattle.gem_image.specs.Image.{Contents};
 ghost use Rattle.object_programs.specs.Methods.{methods_fit};
 ghost use Rattle.prim_rules.specs.Dictionaries.{pair_growth};
-ghost use Rattle.prim_parts.specs.Changes.{TellsLimits, room_where, limits_of_update};
 ghost use Rattle.prim_parts.specs.Does.{Does, Computes};
 ghost use Rattle.prim_parts.specs.Edits.{Replaces, Updates};
+ghost use Rattle.prim_parts.specs.Limits.{TellsLimits, limits_of_update, room_where};
+ghost use Rattle.running_objects.specs.Seen.{object_at};
 
-use crate::change::{
-    Change, is_small, pair_put, pair_removed, slot_inserted, slot_removed, slot_replaced,
+use crate::limits::{is_small, stays_within};
+use body_growth::{
+    Change, body_updated, pair_put, pair_removed, slot_inserted, slot_removed, slot_replaced,
 };
 use gem_object::{Body, Value};
-use gem_update::{Update, UpdateFault, update_body};
+use gem_update::Update;
 use gem_value::Oid;
 use object_programs::Fault;
 use running_objects::{Objects, Stop};
@@ -146,10 +149,7 @@ pub fn update<O: Objects>(
     ensures { Updates refusal growth name change (O.seen objects.old) result
         (O.seen objects.new) }
 {
-    let Some(object) = objects.object(name) else {
-        return Ok(());
-    };
-    let small = stays_small_updated(&object.body, &change, refusal)?;
+    let small = stays_small_updated(objects, name, &change, refusal)?;
     make_room(objects, small, growth)?;
     objects.note(name, change)
 }
@@ -165,7 +165,7 @@ pub(crate) fn stays_small<O: Objects>(objects: &O, name: Oid, change: Change) ->
     let Some(bytes) = objects.stored_bytes(name) else {
         return true;
     };
-    change.stays_within(object.body.slots(), bytes)
+    stays_within(change, object.body.slots(), bytes)
 }
 
 // E17 unless the object will be small enough, and then takes the space by which it grows (E15).
@@ -188,24 +188,24 @@ pub(crate) fn pair_growth(body: &Body, key: &Value) -> u64
     }
 }
 
-// Whether a body is within the limits before the update and after it; the error where the update is
-// refused.
-fn stays_small_updated(body: &Body, change: &Update, refusal: Fault) -> Result<bool, Stop>
-    ensures { Computes (limits_of_update refusal change.now body.now) result }
+// Whether the object of this name is within the limits before the update and after it; the error
+// where the update is refused.
+fn stays_small_updated<O: Objects>(
+    objects: &O,
+    name: Oid,
+    update: &Update,
+    refusal: Fault,
+) -> Result<bool, Stop>
+    ensures { (object : Contents) → object_at name (O.seen objects.now) ≡ Some object
+        → Computes (limits_of_update refusal update.now object.body) result }
 {
-    match body_updated(body, change) {
-        Ok(after) => Ok(is_small(body) && is_small(&after)),
-        Err(UpdateFault::Refused) => Err(Stop::Fails(refusal)),
-        Err(UpdateFault::NoMemory) => Err(Stop::NoMemory),
-    }
-}
-
-// The body after the update.
-fn body_updated(body: &Body, change: &Update) -> Result<Body, UpdateFault>
-    ensures updated { IfOk result (λ after. updated change.now body.now ≡ Some after) }
-    ensures refused { IsErrOf result UpdateFault.Refused → updated change.now body.now ≡ None }
-{
-    let mut after = body.clone()?;
-    update_body(&mut after, change.clone()?)?;
-    Ok(after)
+    let Some(object) = objects.object(name) else {
+        return Ok(true);
+    };
+    let Some(change) = body_updated(&object.body, update) else {
+        return Err(Stop::Fails(refusal));
+    };
+    let before = stays_small(objects, name, Change::none());
+    let after = stays_small(objects, name, change);
+    Ok(before && after)
 }

@@ -9,8 +9,9 @@ ghost use Rattle.prim_parts.specs.Does.{Computes};
 ghost use Rattle.prim_parts.specs.Entering.{entry_room, Enters, MadeAndEntered};
 
 use crate::arguments::check;
-use crate::change::{is_small, pair_put};
 use crate::edits::{pair_growth, stays_small};
+use crate::limits::is_small;
+use body_growth::pair_put;
 use gem_object::{Object, Value};
 use gem_value::Oid;
 use object_programs::Fault;

@@ -3,11 +3,11 @@
 #![tactic(auto)]
 
 mod arguments;
-mod change;
 mod classes;
 mod edits;
 mod entering;
 mod kinds;
+mod limits;
 mod making;
 mod strings;
 

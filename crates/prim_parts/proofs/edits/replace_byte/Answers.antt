@@ -1,7 +1,7 @@
 use Rattle.std.proofs.Common.{refl, sym}
 use Rattle.std.proofs.lemmas.Result.{err_from_is_err_and}
 use Rattle.gem_object.specs.Edits.{with_byte}
-use Rattle.prim_parts.proofs.Changes.{byte_set}
+use Rattle.body_growth.proofs.Changes.{byte_set}
 use Rattle.prim_parts.proofs.Replaced.{replaced_stop, replaced_then}
 use Rattle.prim_parts.proofs.edits.replace_byte.Goals as goal
 

@@ -1,4 +1,3 @@
-use Rattle.std.proofs.Common.{sym, ap, ◌∙◌}
 use Rattle.prim_parts.proofs.Does.{does_exit, does_then, does_atom, does_give}
 use Rattle.prim_parts.proofs.Entries.{made_then}
 use Rattle.prim_parts.proofs.entering.enter.Goals as goal

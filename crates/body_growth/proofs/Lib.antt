@@ -1,0 +1,3 @@
+mod Sums
+pub mod Changes
+mod Told
