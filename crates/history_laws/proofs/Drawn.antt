@@ -63,7 +63,7 @@ module _ {X : Type 0} where
   found_one name value (e ∷ es) there = found_first name value e (find nat_cmp name es)
       (⊎_elim inl (λ more. inr (found_one name value es more)) there) (eq_by_cmp nat_cmp name e.0) refl
 
-uncommitted_one : (objects : List (ℕ × Contents)) (name : ℕ) (object : Object)
+pub uncommitted_one : (objects : List (ℕ × Contents)) (name : ℕ) (object : Object)
     → IsOneOf (name, object) (all_uncommitted objects)
     → (contents : Contents) × IsOneOf (name, contents) objects
 uncommitted_one [] name object none = absurd none
@@ -71,6 +71,23 @@ uncommitted_one (e ∷ es) name object (inl here) =
     (e.1, inl (ap (λ at. (at, e.1)) (ap (λ (pair : ℕ × Object). pair.0) here)))
 uncommitted_one (e ∷ es) name object (inr more) =
     let found = uncommitted_one es name object more in (found.0, inr found.1)
+
+-- a written object is among the changes, and wasn't made in the transaction
+pub was_changed : (setting : Setting) (world : World) (name : ℕ) (object : Contents)
+    → IsOneOf (name, object) (written_objects setting world)
+    → (is_some (get world.changes name) ≡ true) × (is_made name setting world ≡ false)
+was_changed setting world name object there = (
+  ap is_some (get-entries world.changes name)
+      ∙ found_one name object (entries world.changes)
+      (filtered_one (was_written setting world) (entries world.changes) (name, object) there),
+  not_true (is_made name setting world)
+      (and_parts (not (is_made name setting world)) _
+      (passes (was_written setting world) (entries world.changes) (name, object) there)).0,
+)
+  where
+    not_true : (b : Bool) → not b ≡ true → b ≡ false
+    not_true false is = refl
+    not_true true is = absurd (false≢true is)
 
 placed_by : (here there : Option Contents) → is_some (as_of here there) ≡ true → is_some here ≡ true
 placed_by None there some = some

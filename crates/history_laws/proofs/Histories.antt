@@ -19,8 +19,8 @@ use Rattle.history_laws.proofs.Views.{IsGrown, image_stays, image_now, is_grown,
 use Rattle.history_laws.proofs.Effects.{tied}
 use Rattle.history_laws.proofs.Stays.{stays_itself, stays_along}
 use Rattle.history_laws.proofs.Serials.{serials_differ, none_at_opening}
-use Rattle.history_laws.specs.Commits.{IsKeptBy, CommitsKeep}
-use Rattle.history_laws.proofs.Sound.{IsSoundAt, AllSound, kept_by, still_free, names_grow, sound_after}
+use Rattle.history_laws.proofs.Commits.{CommitsKeep}
+use Rattle.history_laws.proofs.Sound.{IsSoundAt, AllSound, next_is_image, next_is_sound, next_keeps, still_free, names_grow, sound_after}
 
 apart_from : (a b : ℕ) → eq_by_cmp nat_cmp a b ≡ false → a ≢ b
 apart_from a b is same = false≢true (sym is
@@ -60,8 +60,8 @@ module _ (o : Opened) (before : List Event) (author : ℕ) (e : Entry) (serves :
   grown : IsGrown o s
   grown = is_grown o before
 
-  kept : IsKeptBy s.image after.image
-  kept = kept_by o s e serves grown all placed.of_script placed.begins law placed.merges
+  kept : Stays s.image after.image
+  kept = next_keeps o s e serves grown all placed.of_script placed.begins law
 
   placed_image : (number : ℕ) → o.number ≤ number → number ≤ s.number → IsSoundAt after number
   placed_image number from to =
@@ -71,15 +71,17 @@ module _ (o : Opened) (before : List Event) (author : ℕ) (e : Entry) (serves :
         image = subst IsImage same old.image;
         sound = subst IsSoundImage same old.sound;
         stays = subst (λ image. Stays image after.image) same
-            (stays_along (image_at s number) s.image after.image old.stays kept.stays);
+            (stays_along (image_at s number) s.image after.image old.stays kept);
       }
 
   placed_now : (number : ℕ) → number ≡ s.number + 1 → IsSoundAt after number
   placed_now number is =
       let same = sym (image_now after number is) in
       record {
-        image = subst IsImage same kept.image;
-        sound = subst IsSoundImage same kept.sound;
+        image = subst IsImage same
+            (next_is_image o s e serves grown all placed.of_script placed.begins law placed.merges);
+        sound = subst IsSoundImage same
+            (next_is_sound o s e serves grown all placed.of_script placed.begins law placed.merges);
         stays = subst (λ image. Stays image after.image) same (stays_itself after.image);
       }
 

@@ -19,7 +19,7 @@ use Rattle.commit_check.proofs.Listed.{stands_listed}
 use Rattle.commit_check.proofs.Members.{contained}
 use Rattle.commit_check.proofs.Used.{from_any}
 
-same_tests : (name : ℕ) (names : List ℕ)
+pub same_tests : (name : ℕ) (names : List ℕ)
     → list_any (eq_by_cmp nat_cmp name) names ≡ list_any (nat_eq name) names
 same_tests name [] = refl
 same_tests name (first ∷ rest) = ap₂ ◌||◌ (unsigned_tied name first) (same_tests name rest)
