@@ -1,5 +1,5 @@
 -- Where the objects stand that a transaction changed: at names that were there, or that it drew.
-use Rattle.std.proofs.Common.{◌≡◌, ℕ, ◌+◌, ◌-◌, ◌≤◌, ◌<◌, Bool, true, false, not, ◌&&◌, cond, ◌⊎◌, inl, inr, ⊎_elim, List, [], ◌∷◌, map, filter, Option, Some, None, is_some, IsSome, option_map, nat_le, nat_lt, refl, sym, ap, subst, ◌∙◌, arith}
+use Rattle.std.proofs.Common.{◌≡◌, ℕ, ◌-◌, ◌≤◌, ◌<◌, Bool, true, false, not, cond, ◌⊎◌, inl, inr, ⊎_elim, List, [], ◌∷◌, filter, Option, Some, None, is_some, option_map, refl, sym, ap, ◌∙◌, arith}
 use Rattle.std.specs.Ordering.{nat_cmp, eq_by_cmp, is_eq}
 use Rattle.std.specs.Cmp.{nat_cmp_total, tied_itself}
 use Rattle.std.specs.FinMap.{get, entries, get-entries, get-empty}
@@ -7,13 +7,12 @@ use Rattle.std.specs.FinMap.Entries.{find}
 use Rattle.std.proofs.lemmas.Bool.{false≢true, and_parts, and_from, leb-true, ltb-true}
 use Rattle.gem_value.specs.Oid.{oid_number}
 use Rattle.gem_object.specs.declared.object.Object.{Object}
-use Rattle.gem_image.specs.Image.{Image, Contents, contents_of, objects_in}
+use Rattle.gem_image.specs.Image.{Contents, contents_of, objects_in}
 use Rattle.gem_record.specs.declared.record.Entry.{Entry}
-use Rattle.gem_record.specs.declared.record.TxnRecord.{TxnRecord}
-use Rattle.gem_world.specs.World.{Setting, World, untouched, as_of, before_changes, is_drawn, is_made}
+use Rattle.gem_world.specs.World.{Setting, World, untouched, as_of, is_drawn, is_made}
 use Rattle.gem_world.specs.Changes.{was_made, was_written, made_objects, written_objects}
 use Rattle.object_programs.specs.Laws.{IsInReach}
-use Rattle.run_records.specs.Record.{uncommitted, all_uncommitted, record_of}
+use Rattle.run_records.specs.Record.{all_uncommitted, record_of}
 use Rattle.commit_check.proofs.Members.{IsOneOf}
 use Rattle.history_laws.proofs.Effects.{IsChangedBy, by_write, by_make, by_update, filtered_one}
 

@@ -1,11 +1,10 @@
 -- What a transaction wrote or updated its user might write, in one of the moments of its run.
-use Rattle.std.proofs.Common.{◌≡◌, ◌≢◌, ℕ, zero, suc, ◌+◌, ◌≤◌, ◌<◌, Bool, true, false, not, ◌&&◌, ◌||◌, cond, nat_eq, nat_le, nat_lt, ◌⊎◌, inl, inr, ⊎_elim, List, [], ◌∷◌, ◌++◌, map, length, Contains, Option, Some, None, is_some, IsSome, refl, sym, ap, ap₂, subst, ◌∙◌, arith}
-use Rattle.std.specs.FinMap.{get, get-empty, entries}
+use Rattle.std.proofs.Common.{◌≡◌, ◌≢◌, ℕ, zero, suc, ◌≤◌, Bool, true, false, ◌&&◌, ◌||◌, cond, nat_eq, nat_le, nat_lt, ◌⊎◌, inl, inr, ⊎_elim, List, [], ◌∷◌, ◌++◌, map, length, Option, Some, None, is_some, refl, sym, ap, subst, ◌∙◌, arith}
+use Rattle.std.specs.FinMap.{get, get-empty}
 use Rattle.std.specs.FinSet.{from_list, contains-items, contains-from_list}
 use Rattle.std.specs.Cmp.{nat_cmp_total}
 use Rattle.std.specs.Ordering.{nat_cmp}
-use Rattle.std.specs.List.{list_any}
-use Rattle.std.proofs.lemmas.Bool.{false≢true, and_parts, and_from, cases_eq, cases_Bool, lt-ltb, ltb-true, or_cases, ne_eqb}
+use Rattle.std.proofs.lemmas.Bool.{false≢true, and_parts, and_from, cases_eq, lt-ltb, ltb-true, ne_eqb}
 use Rattle.std.proofs.lemmas.List.{map-append}
 use Rattle.std.proofs.lemmas.List.Folds.{list_any-append}
 use Rattle.texts.specs.Bytes.{Bytes as Text}
@@ -15,16 +14,15 @@ use Rattle.gem_update.specs.Update.{updated}
 use Rattle.gem_update.specs.declared.update.Update.{Update}
 use Rattle.gem_image.specs.Image.{Contents}
 use Rattle.gem_record.specs.declared.record.Entry.{Entry}
-use Rattle.gem_record.specs.Names.{under}
 use Rattle.gem_world.specs.World.{Setting, World, untouched, name_of, is_drawn, is_made, is_among, shown, touch}
-use Rattle.gem_world.specs.Changes.{with_body, in_segment, put, make, note, was_written, written_objects, updates_on, ascending}
+use Rattle.gem_world.specs.Changes.{with_body, in_segment, put, make, note, written_objects, updates_on, ascending}
 use Rattle.gem_world.specs.Access.{Access, a_read, a_write, is_allowed, touches_of, with_touches, after_allowed, accessed}
-use Rattle.object_programs.specs.Budget.{Budget, may_write}
+use Rattle.object_programs.specs.Budget.{Budget}
 use Rattle.object_programs.specs.Guard.{Parts, may_change, may_replace, may_make}
-use Rattle.object_programs.specs.Atom.{Atom, Answer, says, refuses, Done, Ask, Own, Kind, Made, Who, Put, Move, Note, Names, Make, Tick, Room, Show, done, MakeCheck, too_large, no_name, no_space, no_fault, make_check, with_new, made_where, made_by, named_where, ticked, spent_where, shown_where, touch_missing, replaced_where, edited_at, edited, updated_by, updated_at, updated_where, after_update}
-use Rattle.object_programs.specs.Run.{Run, give, fail, return_to, atom, seeing, become, and_then, ending, Ending, gives, returns, fails, State, Outcome, onward, perform, end_of}
+use Rattle.object_programs.specs.Atom.{Atom, Ask, Own, Kind, Made, Who, Put, Move, Note, Names, Make, Tick, Room, Show, done, MakeCheck, too_large, no_name, no_space, no_fault, make_check, with_new, made_where, made_by, named_where, ticked, spent_where, shown_where, touch_missing, replaced_where, edited_at, edited, updated_by, updated_at, updated_where, after_update}
+use Rattle.object_programs.specs.Run.{Run, give, fail, return_to, atom, seeing, become, and_then, ending, Ending, gives, returns, fails, State, onward, perform, end_of}
 use Rattle.object_programs.specs.Local.{nothing}
-use Rattle.object_programs.specs.Steps.{Step, reading, writing, placing, shifting, noting, making, only, step_program, steps_program}
+use Rattle.object_programs.specs.Steps.{Step, reading, writing, placing, shifting, noting, making, only, steps_program}
 use Rattle.object_programs.specs.Laws.{Falls}
 use Rattle.object_programs.proofs.Kept.{kept}
 use Rattle.object_programs.proofs.Falling as falling
@@ -154,7 +152,9 @@ module _ (name : ℕ) (setting : Setting) where
       by : (made : Bool) → is_made name setting world ≡ made → made ≡ false
       by false made = refl
       by true made =
-          let drawn = and_parts _ _ (and_parts _ _ made).0 in
+          let drawn = and_parts (nat_le (name_of setting setting.first) name)
+          (nat_lt name (name_of setting world.next))
+          (and_parts (is_drawn name setting world) (is_some (get world.changes name)) made).0 in
           let below = ltb-true name (name_of setting world.next) drawn.1 in
           let still : nat_lt name (name_of setting later.next) ≡ true
           = lt-ltb name (name_of setting later.next) (omega (arith, below, grows)) in
@@ -222,7 +222,7 @@ module _ (name : ℕ) (setting : Setting) where
 
   -- what an atom leaves as a list of one command, without its answer, or as it is
   only_atom : {A : Type 0} (one : Atom A) (world : World) (budget : Budget)
-      → (perform (and_then (only (atom one)) (λ ended. give tt)) setting (start world budget)).state.world
+      → (perform (and_then (only (atom one)) (λ ended. steps_program [])) setting (start world budget)).state.world
       ≡ (done one setting world budget).world
   only_atom one world budget =
       let first = perform (only (atom one)) setting (start world budget) in
@@ -231,7 +231,7 @@ module _ (name : ℕ) (setting : Setting) where
       (perform (atom one) setting (start world budget)).state
 
   bare_atom : (one : Atom (Unit {0})) (world : World) (budget : Budget)
-      → (perform (and_then (atom one) (λ ended. give tt)) setting (start world budget)).state.world
+      → (perform (and_then (atom one) (λ ended. steps_program [])) setting (start world budget)).state.world
       ≡ (done one setting world budget).world
   bare_atom one world budget =
       let first = perform (atom one) setting (start world budget) in

@@ -6,10 +6,10 @@ returns-clause-begins c = consistent_first
 
 pub returns-clause-placed : goal.returns-clause-placed
 returns-clause-placed c t done = placed_more t done (record {
-      sound = c.commits_keep_images_sound.ensures.sound;
-      image = c.commits_keep_images_sound.ensures.image;
-      stays = c.commits_keep_images_sound.ensures.stays;
-    })
+  sound = c.commits_keep_images_sound.ensures.sound;
+  image = c.commits_keep_images_sound.ensures.image;
+  stays = c.commits_keep_images_sound.ensures.stays;
+})
 
 pub returns-clause-held : goal.returns-clause-held
 returns-clause-held c = held_more
