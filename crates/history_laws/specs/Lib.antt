@@ -1,0 +1,3 @@
+pub mod Names
+pub mod Clean
+pub mod Accesses
