@@ -15,4 +15,7 @@ mod Sums
 mod Growths
 mod NewObjects
 mod InTurn
+mod OneStep
+pub mod Listing
+mod Grouping
 mod Costs

@@ -2,8 +2,11 @@ pub mod Classes
 pub mod Edit
 pub mod Growth
 pub mod Keys
+pub mod Lists
 pub mod Overlay
 pub mod Parts
 pub mod Puts
+pub mod Room
 pub mod State
 pub mod Updates
+pub mod Writes

@@ -4,11 +4,14 @@
 
 mod calls;
 mod classes;
+mod direct;
 mod edit;
 mod edits;
 mod entry;
+mod groups;
 mod growth;
 pub mod laws;
+mod lists;
 mod makes;
 mod many;
 mod moves;
@@ -18,5 +21,6 @@ mod parts;
 mod puts;
 mod state;
 mod updates;
+mod writes;
 
 pub use state::PlainState;

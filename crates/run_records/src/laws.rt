@@ -7,6 +7,7 @@ ghost use Rattle.gem_world.specs.World.{Setting, World};
 ghost use Rattle.run_records.specs.Record.{record_of};
 
 /// The history keeps of a run's record just who ran which commands, and on which view.
+#[tactic(auto, unfolding(crate::specs::Record::record_of))]
 pub fn entry_is_kept()
     ensures { (entry : Entry) (setting : Setting) (world : World)
         → entry_of (record_of entry setting world) ≡ entry }
