@@ -13,4 +13,7 @@ mod Notes
 pub mod Bytes
 mod NewObjects
 mod InTurn
+mod OneStep
+pub mod Listing
+mod Grouping
 mod Costs
