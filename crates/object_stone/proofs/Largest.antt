@@ -1,0 +1,78 @@
+-- The largest serial among names.
+use Rattle.std.proofs.Common.{◌≡◌, ℕ, ◌+◌, ◌*◌, ◌/◌, ◌^◌, ◌<◌, ◌≤◌, max, Bool, true, false, cond, List, [], ◌∷◌, fold, Option, Some, None, lt_of_not-le, refl, sym, ap, subst, ◌∙◌, arith}
+use Rattle.std.specs.Ordering.{nat_cmp, is_eq, eq_by_cmp}
+use Rattle.std.specs.Cmp.{tied_itself}
+use Rattle.std.specs.FinMap.{FinMap, find, get, entries, get-entries}
+use Rattle.std.proofs.lemmas.Cmp.{nat_cmp_total}
+use Rattle.std.proofs.lemmas.Map.Lookups.{exact_unsigned}
+use Rattle.std.proofs.lemmas.Option.{none-some}
+use Rattle.gem_value.specs.Oid.{serial_of}
+use Rattle.gem_object.specs.declared.object.Object.{Object}
+use Rattle.gem_image.specs.Image.{Image}
+use Rattle.radix_pages.specs.Next.{IsNext}
+use Rattle.object_meaning.specs.Opened.{largest_serial}
+
+-- the largest serial so far, and those of more names
+abbrev larger : ℕ → ℕ × Object → ℕ
+larger largest entry = max largest (serial_of entry.0)
+
+at_least_first : (most : ℕ) (entries : List (ℕ × Object)) → most ≤ fold larger most entries
+at_least_first most [] = omega arith
+at_least_first most (entry ∷ entries) =
+    let more = at_least_first (larger most entry) entries in omega (arith, more)
+
+tie : (r : Bool) (a b : ℕ) → eq_by_cmp nat_cmp a b ≡ r → r ≡ true → a ≡ b
+tie r a b is same = exact_unsigned a b (grind (arith, is, same))
+
+-- what is found has no larger serial
+at_least_found : (name : ℕ) (object : Object) (most : ℕ) (entries : List (ℕ × Object))
+    → find nat_cmp name entries ≡ Some object → serial_of name ≤ fold larger most entries
+at_least_found name object most [] found = absurd (none-some object found)
+at_least_found name object most (entry ∷ entries) found =
+    by (eq_by_cmp nat_cmp name entry.0) refl
+  where
+    by : (b : Bool) → eq_by_cmp nat_cmp name entry.0 ≡ b → serial_of name ≤ fold larger (larger most entry) entries
+    by true is =
+        let same : name ≡ entry.0 = tie true name entry.0 is refl in
+        let more = at_least_first (larger most entry) entries in
+        let serial : serial_of name ≡ serial_of entry.0 = ap serial_of same in
+        omega (arith, more, serial)
+    by false is = at_least_found name object (larger most entry) entries
+        (sym (ap (λ b. cond b (Some entry.1) (find nat_cmp name entries)) is) ∙ found)
+
+-- a bound of all that are found bounds the largest
+at_most : (bound most : ℕ) (entries : List (ℕ × Object)) → most ≤ bound
+    → ((name : ℕ) (object : Object) → find nat_cmp name entries ≡ Some object → serial_of name ≤ bound)
+    → fold larger most entries ≤ bound
+at_most bound most [] first all = first
+at_most bound most (entry ∷ entries) first all =
+    let here = all entry.0 entry.1 (ap (λ o. cond (is_eq o) (Some entry.1) (find nat_cmp entry.0 entries)) (tied_itself nat_cmp_total entry.0)) in
+    at_most bound (larger most entry) entries (omega (arith, here, first)) rest
+  where
+    on_test : (b : Bool) (name : ℕ) (object : Object) → eq_by_cmp nat_cmp name entry.0 ≡ b
+        → find nat_cmp name entries ≡ Some object → serial_of name ≤ bound
+    on_test true name object is found = all name entry.1
+        (ap (λ b. cond b (Some entry.1) (find nat_cmp name entries)) is)
+    on_test false name object is found = all name object
+        (ap (λ b. cond b (Some entry.1) (find nat_cmp name entries)) is ∙ found)
+
+    rest : (name : ℕ) (object : Object) → find nat_cmp name entries ≡ Some object → serial_of name ≤ bound
+    rest name object found = on_test (eq_by_cmp nat_cmp name entry.0) name object refl found
+
+-- the serial of a name of the image is at most the largest
+pub has_serial : (image : Image) (name : ℕ) (object : Object) → get image name ≡ Some object
+    → serial_of name ≤ largest_serial image
+has_serial image name object stands =
+    at_least_found name object 0 (entries image) (sym (get-entries image name) ∙ stands)
+
+below_next : (serial name : ℕ) → name < (serial + 1) * 2 ^ 24 → serial_of name ≤ serial
+below_next serial name below = omega (arith, below)
+
+-- no name has a serial above this one, so it bounds the largest
+pub no_more_serials : (image : Image) (serial : ℕ) → IsNext image ((serial + 1) * 2 ^ 24) None
+    → largest_serial image ≤ serial
+no_more_serials image serial none = at_most serial 0 (entries image) (omega arith) each
+  where
+    each : (name : ℕ) (object : Object) → find nat_cmp name (entries image) ≡ Some object → serial_of name ≤ serial
+    each name object found = below_next serial name (lt_of_not-le (λ reaches.
+        absurd (none-some object (sym (none name reaches) ∙ (get-entries image name ∙ found)))))

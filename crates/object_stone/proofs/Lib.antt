@@ -1,0 +1,9 @@
+mod ByName
+mod Kept
+mod Largest
+mod Spelled
+mod Wanted
+mod Events
+mod Exclusive
+mod OneMore
+mod Calls
