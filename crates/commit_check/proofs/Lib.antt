@@ -5,6 +5,6 @@ pub mod Members
 pub mod MergedObjects
 pub mod Ordered
 mod Sorted
-mod Stood
+pub mod Stood
 mod Unions
 pub mod Used

@@ -1,0 +1,13 @@
+pub mod Views
+pub mod Effects
+pub mod Unchanged
+pub mod Stays
+pub mod Serials
+pub mod Drawn
+pub mod Commits
+pub mod Sound
+pub mod Histories
+pub mod Touched
+pub mod Placed
+pub mod OneMore
+pub mod Apart
