@@ -111,13 +111,18 @@ module _ (setting : Setting) (world : World) (reach : IsInReach setting world) w
       (placed_by (objects_in setting.place name) (objects_in setting.view name) before))
       (reach.own name changed)
 
+  pub made_in_record : (e : Entry) (name : ℕ) (object : Object)
+      → IsOneOf (name, object) (record_of e setting world).made → is_drawn name setting world ≡ true
+  unfolding record_of
+  made_in_record e name object there =
+      let found = uncommitted_one (made_objects setting world) name object there in
+      made_drawn name found.0 found.1
+
   pub changed_there : (e : Entry) (name : ℕ) → IsChangedBy setting.place (record_of e setting world) name
       → (is_some (get setting.place name) ≡ true) ⊎ (is_drawn name setting world ≡ true)
   unfolding record_of
   changed_there e name (by_write object there) =
       let found = uncommitted_one (written_objects setting world) name object there in
       inl (written_there name found.0 found.1)
-  changed_there e name (by_make object there) =
-      let found = uncommitted_one (made_objects setting world) name object there in
-      inr (made_drawn name found.0 found.1)
+  changed_there e name (by_make object there) = inr (made_in_record e name object there)
   changed_there e name (by_update updated there) = inl there

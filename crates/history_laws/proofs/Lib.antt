@@ -11,3 +11,7 @@ pub mod Touched
 pub mod Placed
 pub mod OneMore
 pub mod Apart
+pub mod Locked
+pub mod Clean
+pub mod Merges
+pub mod Shown

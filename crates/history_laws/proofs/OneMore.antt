@@ -34,6 +34,11 @@ serial_from o before (e ∷ es) event serial next = (
       (subst (λ es. IsSerialEvent o es event) (sym (append_assoc before (e ∷ []) es)) next),
 )
 
+-- events that came before any, and one more
+pub serial_push : (o : Opened) (events : List Event) (event : Event) → IsSerialFrom o [] events
+    → IsSerialEvent o events event → IsSerialFrom o [] (events ++ event ∷ [])
+serial_push o events event serial next = serial_from o [] events event serial next
+
 pub serial_one_more : (t : Told) (event : Event) → IsSerial t → IsSerialEvent t.opened t.events event
     → IsSerial (told_more t (event ∷ []))
 unfolding IsSerial

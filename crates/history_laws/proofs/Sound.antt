@@ -20,12 +20,13 @@ use Rattle.object_programs.proofs.AtPlace.{sound_at}
 use Rattle.gem_language.specs.Commands.{Command}
 use Rattle.gem_language.specs.Transaction.{transaction}
 use Rattle.gem_language.proofs.Lists.{listed, next_grows}
+use Rattle.commit_check.proofs.Members.{IsOneOf}
 use Rattle.run_records.specs.Record.{record_of}
 use Rattle.object_meaning.specs.declared.event.What.TheVariants.{Placed, Held, Dropped, Left}
 use Rattle.object_meaning.specs.Commands.{object_commands}
 use Rattle.object_meaning.specs.Opened.{Opened, base_serial, session_serial, entry_commands}
 use Rattle.object_meaning.specs.Effect.{effect_at}
-use Rattle.object_meaning.specs.Events.{Event, Standing, image_at, next_counter, run_at_place, record_at_place, effect_of, after_event, before_events, after_events}
+use Rattle.object_meaning.specs.Events.{Event, Standing, image_at, next_counter, run_at_place, run_on_view, record_at_place, effect_of, after_event, before_events, after_events}
 use Rattle.object_meaning.specs.Serial.{IsTransaction, MayBeginAt, IsPlaced, IsSerialEvent, IsSerialFrom, CanServe}
 use Rattle.history_laws.specs.Names.{NamesAreFree}
 use Rattle.history_laws.proofs.Views.{IsGrown, image_stays, image_now, is_grown, after_one_more, number_stays}
@@ -33,7 +34,7 @@ use Rattle.history_laws.proofs.Effects.{IsChangedBy, tied}
 use Rattle.history_laws.proofs.Unchanged.{IsPlacedAt, after_placed}
 use Rattle.history_laws.proofs.Stays.{stays_itself, stays_along, absent_before, user_stays}
 use Rattle.history_laws.proofs.Serials.{serials_differ, none_at_opening}
-use Rattle.history_laws.proofs.Drawn.{reach_first, drawn_counter, changed_there}
+use Rattle.history_laws.proofs.Drawn.{reach_first, drawn_counter, made_in_record, changed_there}
 use Rattle.history_laws.proofs.Commits.{IsKeptBy, CommitsKeep}
 
 -- an image that was
@@ -103,6 +104,11 @@ module _ (o : Opened) (s : Standing) (e : Entry) (serves : CanServe o) (grown : 
     free = free_here;
   }
 
+  pub free_at_view : (counter : ℕ) → e.first_name ≤ counter → counter < 2 ^ 24
+      → objects_in view (oid_number serial counter) ≡ None
+  free_at_view counter from below = absent_before view s.image (oid_number serial counter)
+      at_view.stays (free_here counter from below)
+
   pub sound_for_view : IsSoundFor (objects_in view) e.user serial e.first_name
   sound_for_view = record {
     sound = at_view.sound;
@@ -110,9 +116,17 @@ module _ (o : Opened) (s : Standing) (e : Entry) (serves : CanServe o) (grown : 
     serial_bound = serial_bound;
     some_name = some_name;
     next_bound = begins.names_end;
-    free = λ counter from below. absent_before view s.image (oid_number serial counter)
-        at_view.stays (free_here counter from below);
+    free = free_at_view;
   }
+
+  -- what the transaction sees where all stands as at its view is sound
+  pub sound_on_view : AreSound (begun_at view view e.user serial e.first_name) (run_on_view o s e).world
+  unfolding run_on_view
+  sound_on_view = listed (begun_at view view e.user serial e.first_name)
+      (StaysSound (begun_at view view e.user serial e.first_name))
+      (soundness_stays (begun_at view view e.user serial e.first_name))
+      (object_commands (entry_commands o.script e)) (untouched e.first_name)
+      (admits_image view e.user serial e.first_name at_view.image sound_for_view)
 
   abbrev setting : Setting
   setting = begun_at s.image view e.user serial e.first_name
@@ -155,6 +169,21 @@ module _ (o : Opened) (s : Standing) (e : Entry) (serves : CanServe o) (grown : 
       (λ drawn. inr (drawn_counter name setting (run_at_place o s e).world drawn))
       (changed_there setting (run_at_place o s e).world reach_after e name changed)
 
+  -- what the transaction makes has a name that the image lacks
+  pub made_is_new : (name : ℕ) (object : Object)
+      → IsOneOf (name, object) (record_at_place o s e).made → get s.image name ≡ None
+  unfolding record_at_place
+  made_is_new name object made =
+      let drawn = drawn_counter name setting (run_at_place o s e).world
+      (made_in_record setting (run_at_place o s e).world reach_after e name object made) in
+      let names = begins.names in
+      let from = drawn.2 in
+      let below = drawn.3 in
+      let bound = sound_after.next_bound in
+      subst (λ at. get s.image at ≡ None) (sym drawn.1)
+      (all.free e.session of_script.session.0 drawn.0 (omega (arith, names, from))
+      (omega (arith, below, bound)))
+
   -- a name that the image lacks and the commit doesn't draw it still lacks
   pub still_free : (name : ℕ) → get s.image name ≡ None
       → ((counter : ℕ) → name ≡ oid_number serial counter → e.first_name ≤ counter
@@ -167,6 +196,6 @@ module _ (o : Opened) (s : Standing) (e : Entry) (serves : CanServe o) (grown : 
       by (inr found) = ⊎_elim
           (λ there. absurd (false≢true (sym (ap is_some none) ∙ there)))
           (λ drawn. let bound = sound_after.next_bound in
-          let below = drawn.2.2.1 in
-          absurd (apart drawn.0 drawn.1 drawn.2.1 below (omega (arith, bound, below))))
-          (changed_at name found.2.1.1)
+          let below = drawn.3 in
+          absurd (apart drawn.0 drawn.1 drawn.2 below (omega (arith, bound, below))))
+          (changed_at name found.3)

@@ -40,7 +40,7 @@ module _ (o : Opened) (s : Standing) (session : ℕ) (e : Entry) (grown : IsGrow
       same ∙ (since view name from to (subst (λ k. k ≤ view) (ap changed_of same) old)
       ∙ ap (λ image. get image name) (sym (image_stays o s (session, Placed e) view grown from to)))
   before_commit to old (inr found) =
-      let changed = found.2.1.0 in
+      let changed = found.2 in
       let last : last_change next.image name ≡ found.0.changed = ap changed_of found.1 in
       absurd (omega (arith, changed, last, old, to))
 
