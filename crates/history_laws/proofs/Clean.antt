@@ -28,7 +28,7 @@ use Rattle.history_laws.specs.Clean.{HoldsThrough, OwnIsUpTo, OwnAreUpTo, IsHeld
 use Rattle.history_laws.proofs.Views.{after_one_more, number_stays}
 use Rattle.history_laws.proofs.Effects.{IsChangedBy}
 use Rattle.history_laws.proofs.Unchanged.{IsPlacedAt, after_placed}
-use Rattle.history_laws.proofs.Commits.{CommitsKeep}
+use Rattle.history_laws.specs.Commits.{CommitsKeep}
 use Rattle.history_laws.proofs.Sound.{AllSound}
 use Rattle.history_laws.proofs.Histories.{sound_event, all_sound}
 use Rattle.history_laws.proofs.OneMore.{serial_front, serial_back, serial_push, locks_exclusive}

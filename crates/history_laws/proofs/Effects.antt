@@ -1,5 +1,5 @@
 -- Which objects a commit changes, and what the image has then.
-use Rattle.std.proofs.Common.{◌≡◌, ℕ, Bool, true, false, cond, ◌⊎◌, inl, inr, ⊎_elim, List, [], ◌∷◌, ◌++◌, map, filter, length, arith, Option, Some, None, is_some, IsSome, Contains, Ordering, Less, Equal, Greater, nat_cmp, flat_map, refl, sym, ap, subst, ◌∙◌}
+use Rattle.std.proofs.Common.{◌≡◌, ℕ, Bool, true, false, cond, if◌then◌else◌, ◌⊎◌, inl, inr, ⊎_elim, List, [], ◌∷◌, ◌++◌, map, filter, length, arith, Option, Some, None, is_some, IsSome, Contains, Ordering, Less, Equal, Greater, nat_cmp, flat_map, refl, sym, ap, subst, ◌∙◌}
 use Rattle.std.specs.Ordering.{eq_by_cmp, is_eq}
 use Rattle.std.specs.Cmp.{nat_cmp_total, tied_itself}
 use Rattle.std.specs.FinMap.{FinMap, get, insert, entries, from_entries, entries-insert, get-insert, len-entries, len-empty, empty}
@@ -130,22 +130,21 @@ module _ {A : Type 0} (test : A → Bool) where
   filtered_one (y ∷ ys) x there =
       filtered_first (test y) y ys (filter test ys) x (filtered_one ys x) there
 
+ties : (a b : ℕ) (r : Ordering) → a ≡ b → nat_cmp a b ≡ r → is_eq r ≡ true
+ties a b r same is = sym (ap is_eq is)
+    ∙ ap is_eq (ap (nat_cmp a) (sym same) ∙ tied_itself nat_cmp_total a)
+
 module _ {T : Type 0} where
   under_first : (name : ℕ) (pair : ℕ × T) (rest : List (ℕ × T)) (r : Ordering) → nat_cmp pair.0 name ≡ r
-      → (pair.0 ≡ name) ⊎ IsSome (under name rest) → IsSome (if is_eq r then Some pair.1 else under name rest)
+      → (pair.0 ≡ name) ⊎ IsSome (under name rest)
+      → IsSome (if is_eq r then Some pair.1 else under name rest)
   under_first name pair rest Equal is there = refl
   under_first name pair rest Less is (inr there) = there
   under_first name pair rest Greater is (inr there) = there
   under_first name pair rest Less is (inl same) =
-      absurd (less_not_same pair.0 name same is)
-    where
-      less_not_same : (a b : ℕ) → a ≡ b → nat_cmp a b ≡ Less → ⊥
-      less_not_same a b same is = grind arith
+      absurd (false≢true (ties pair.0 name Less same is))
   under_first name pair rest Greater is (inl same) =
-      absurd (greater_not_same pair.0 name same is)
-    where
-      greater_not_same : (a b : ℕ) → a ≡ b → nat_cmp a b ≡ Greater → ⊥
-      greater_not_same a b same is = grind arith
+      absurd (false≢true (ties pair.0 name Greater same is))
 
   -- a name in a list of pairs has something under it
   pub under_one : (name : ℕ) (value : T) (pairs : List (ℕ × T)) → IsOneOf (name, value) pairs

@@ -19,7 +19,7 @@ use Rattle.history_laws.proofs.Views.{IsGrown, image_stays, image_now, is_grown,
 use Rattle.history_laws.proofs.Effects.{tied}
 use Rattle.history_laws.proofs.Stays.{stays_itself, stays_along}
 use Rattle.history_laws.proofs.Serials.{serials_differ, none_at_opening}
-use Rattle.history_laws.proofs.Commits.{IsKeptBy, CommitsKeep}
+use Rattle.history_laws.specs.Commits.{IsKeptBy, CommitsKeep}
 use Rattle.history_laws.proofs.Sound.{IsSoundAt, AllSound, kept_by, still_free, names_grow, sound_after}
 
 apart_from : (a b : ℕ) → eq_by_cmp nat_cmp a b ≡ false → a ≢ b

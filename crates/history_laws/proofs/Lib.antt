@@ -4,7 +4,6 @@ pub mod Unchanged
 pub mod Stays
 pub mod Serials
 pub mod Drawn
-pub mod Commits
 pub mod Sound
 pub mod Histories
 pub mod Touched
@@ -15,3 +14,4 @@ pub mod Locked
 pub mod Clean
 pub mod Merges
 pub mod Shown
+pub mod Rights

@@ -173,7 +173,7 @@ counter_made [] counter small some = ([], refl, small)
 counter_made (change.Counter by ∷ rest) counter small some =
     went_on (updated (change.Counter by) (body.Counter counter)) rest some (λ after is more.
     by_made body.Counter (counter_updated by counter) after is (λ next ok same.
-    by_ok (option_map (λ v. record { value = v }) (counters.updated by counter.value)) _ next ok (λ found.
+    by_ok _ _ next ok (λ found.
     let value = small_value (counter.value +ℤ by) next found in
     let others = counter_made rest next (subst (λ v. is_small_integer v ≡ true) value.1 value.0)
     (subst (λ b. is_some (updated_by_all rest b) ≡ true) same more) in (

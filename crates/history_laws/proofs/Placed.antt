@@ -20,7 +20,7 @@ use Rattle.object_meaning.specs.Effect.{effect_at}
 use Rattle.object_meaning.specs.Events.{Event, Told, Standing, image_at, run_at_place, run_on_view, record_at_place, record_on_view, effect_of, after_events, standing, conflicts_at}
 use Rattle.object_meaning.specs.Serial.{IsPlaced, IsRecorded, IsSerial, CanServe}
 use Rattle.history_laws.proofs.Unchanged.{IsUnchangedSince, unchanged_since}
-use Rattle.history_laws.proofs.Commits.{CommitsKeep}
+use Rattle.history_laws.specs.Commits.{CommitsKeep}
 use Rattle.history_laws.proofs.Sound.{AllSound, IsSoundAt}
 use Rattle.history_laws.proofs.Histories.{all_sound}
 use Rattle.history_laws.proofs.Touched.{touched_in_record, is_contained, touched_is_old}

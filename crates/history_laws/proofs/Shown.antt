@@ -37,7 +37,7 @@ use Rattle.object_meaning.specs.Serial.{IsTransaction, MayBeginAt, IsRecorded, I
 use Rattle.history_laws.proofs.Views.{IsGrown, is_grown}
 use Rattle.history_laws.proofs.Unchanged.{IsUnchangedSince, unchanged_since}
 use Rattle.history_laws.proofs.Drawn.{drawn_counter}
-use Rattle.history_laws.proofs.Commits.{CommitsKeep}
+use Rattle.history_laws.specs.Commits.{CommitsKeep}
 use Rattle.history_laws.proofs.Sound.{AllSound, at_view, sound_on_view, free_at_view}
 use Rattle.history_laws.proofs.Histories.{all_sound}
 use Rattle.history_laws.proofs.Merges.{merged_still}

@@ -35,7 +35,7 @@ use Rattle.history_laws.proofs.Unchanged.{IsPlacedAt, after_placed}
 use Rattle.history_laws.proofs.Stays.{stays_itself, stays_along, absent_before, user_stays}
 use Rattle.history_laws.proofs.Serials.{serials_differ, none_at_opening}
 use Rattle.history_laws.proofs.Drawn.{reach_first, drawn_counter, made_in_record, changed_there}
-use Rattle.history_laws.proofs.Commits.{IsKeptBy, CommitsKeep}
+use Rattle.history_laws.specs.Commits.{IsKeptBy, CommitsKeep}
 
 -- an image that was
 pub record IsSoundAt (s : Standing) (number : ℕ) : Type 0 where
