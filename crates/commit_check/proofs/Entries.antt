@@ -9,7 +9,6 @@ use Rattle.std.proofs.lemmas.Cmp.{nat_cmp_total}
 use Rattle.gem_value.specs.Conflict.{kind_number}
 use Rattle.gem_value.specs.declared.conflict.Conflict.{Conflict}
 use Rattle.gem_value.specs.declared.conflict.ConflictKind.{ConflictKind}
-use Rattle.gem_object.specs.Kinds.{is_shared}
 use Rattle.gem_object.specs.declared.body.Body.{Body}
 use Rattle.gem_object.specs.declared.body.Body.TheVariants as body
 use Rattle.gem_object.specs.declared.object.Object.{Object}
@@ -42,23 +41,22 @@ wider oid low high least most down up conflict entry =
 
 -- ---- the parts
 
-changes : (oid shown : ℕ) (shared later written touched : Bool) → AllByRecursion (IsEntry oid 1 2)
-    (option_to_list (if shared then None else if later
+changes : (oid shown : ℕ) (later written touched : Bool) → AllByRecursion (IsEntry oid 1 2)
+    (option_to_list (if later
     then option_map (λ k. record { oid = oid; kind = k; shown = shown }) (change_kind written touched) else None))
-changes oid shown true later written touched = tt
-changes oid shown false false written touched = tt
-changes oid shown false true true touched =
+changes oid shown false written touched = tt
+changes oid shown true true touched =
     (record { named = refl; over = omega arith; under = omega arith }, tt)
-changes oid shown false true false true =
+changes oid shown true false true =
     (record { named = refl; over = omega arith; under = omega arith }, tt)
-changes oid shown false true false false = tt
+changes oid shown true false false = tt
 
 change_entries : (view oid : ℕ) (written touched : Bool) (object : Option Object)
     → AllByRecursion (IsEntry oid 1 2) (option_to_list
     (option_and_then (later_change view oid (change_kind written touched)) object))
 change_entries view oid written touched None = tt
 change_entries view oid written touched (Some object) =
-    changes oid object.changed (is_shared object.body) (nat_lt view object.changed) written touched
+    changes oid object.changed (nat_lt view object.changed) written touched
 
 lock_entries : (oid : ℕ) (changed : Bool) (holder : Option (ℕ × LockKind))
     → AllByRecursion (IsEntry oid 3 4)

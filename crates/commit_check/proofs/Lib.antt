@@ -1,10 +1,10 @@
 mod Added
 mod Entries
-mod Listed
-mod Members
-mod MergedObjects
-mod Ordered
+pub mod Listed
+pub mod Members
+pub mod MergedObjects
+pub mod Ordered
 mod Sorted
-mod Stood
+pub mod Stood
 mod Unions
-mod Used
+pub mod Used

@@ -39,7 +39,7 @@ changed_is image transaction oid kind since is =
     let later : nat_lt transaction.view since.object.changed ≡ true
     = lt-ltb transaction.view since.object.changed
     (subst (λ k. transaction.view < k) (ap changed_of since.stands) since.later) in
-    rw (since.stands, since.ordinary, later, is) refl
+    rw (since.stands, later, is) refl
 
 lock_is : (place : Place) (transaction : TxnRecord) (oid holder : ℕ) (held : LockKind)
     → (is_written transaction oid || is_updated transaction oid) ≡ true

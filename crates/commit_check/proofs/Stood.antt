@@ -6,7 +6,6 @@ use Rattle.std.proofs.lemmas.Option.{none-some, same_Some}
 use Rattle.gem_value.specs.declared.conflict.Conflict.{Conflict}
 use Rattle.gem_value.specs.declared.conflict.ConflictKind.{ConflictKind}
 use Rattle.gem_value.specs.declared.conflict.ConflictKind.TheVariants.{WriteWrite, ReadWrite, WriteReadLock, WriteWriteLock}
-use Rattle.gem_object.specs.Kinds.{is_shared}
 use Rattle.gem_object.specs.declared.body.Body.{Body}
 use Rattle.gem_object.specs.declared.object.Object.{Object}
 use Rattle.gem_image.specs.Image.{Image}
@@ -34,47 +33,43 @@ module _ (place : Place) (transaction : TxnRecord) (oid : ℕ) (c : Conflict) wh
   -- ---- changes
 
   later_found : (object : Object) → get place.image oid ≡ Some object
-      → (shared : Bool) → is_shared object.body ≡ shared
       → (later : Bool) → nat_lt transaction.view object.changed ≡ later
       → (written : Bool) → is_written transaction oid ≡ written
       → (touched : Bool) → is_touched transaction oid ≡ touched
-      → (if shared then None else if later
+      → (if later
       then option_map (λ k. record { oid = oid; kind = k; shown = object.changed }) (change_kind written touched)
       else None) ≡ Some c
       → Stands place transaction c
-  later_found object found true s later l written w touched t e = absurd (none-some c e)
-  later_found object found false s false l written w touched t e = absurd (none-some c e)
-  later_found object found false s true l true w touched t e =
+  later_found object found false l written w touched t e = absurd (none-some c e)
+  later_found object found true l true w touched t e =
       let last : object.changed ≡ last_change place.image oid = sym (ap changed_of found) in
       let since : IsChangedSince place.image transaction.view oid = record {
         object = object;
         stands = found;
-        ordinary = s;
         later = subst (λ k. transaction.view < k) last (ltb-true transaction.view object.changed l);
       } in
       subst (Stands place transaction)
       (ap (λ k. record { oid = oid; kind = WriteWrite; shown = k }) (sym last) ∙ same_Some _ _ e)
       (write_write oid w since)
-  later_found object found false s true l false w true t e =
+  later_found object found true l false w true t e =
       let last : object.changed ≡ last_change place.image oid = sym (ap changed_of found) in
       let since : IsChangedSince place.image transaction.view oid = record {
         object = object;
         stands = found;
-        ordinary = s;
         later = subst (λ k. transaction.view < k) last (ltb-true transaction.view object.changed l);
       } in
       subst (Stands place transaction)
       (ap (λ k. record { oid = oid; kind = ReadWrite; shown = k }) (sym last) ∙ same_Some _ _ e)
       (read_write oid (contained oid transaction.touched (from_any oid transaction.touched t))
       (λ h. false≢true (sym w ∙ h)) since)
-  later_found object found false s true l false w false t e = absurd (none-some c e)
+  later_found object found true l false w false t e = absurd (none-some c e)
 
   change_found : (o : Option Object) → get place.image oid ≡ o
       → option_and_then (later_change transaction.view oid
       (change_kind (is_written transaction oid) (is_touched transaction oid))) o ≡ Some c
       → Stands place transaction c
   change_found None found e = absurd (none-some c e)
-  change_found (Some object) found e = later_found object found (is_shared object.body) refl
+  change_found (Some object) found e = later_found object found
       (nat_lt transaction.view object.changed) refl (is_written transaction oid) refl
       (is_touched transaction oid) refl e
 

@@ -7,7 +7,6 @@ use Rattle.std.specs.FinMap.{get}
 use Rattle.gem_value.specs.declared.conflict.Conflict.{Conflict}
 use Rattle.gem_value.specs.declared.conflict.ConflictKind.{ConflictKind}
 use Rattle.gem_value.specs.declared.conflict.ConflictKind.TheVariants.{WriteWrite, ReadWrite, WriteReadLock, WriteWriteLock}
-use Rattle.gem_object.specs.Kinds.{is_shared}
 use Rattle.gem_object.specs.declared.body.Body.{Body}
 use Rattle.gem_object.specs.declared.object.Object.{Object}
 use Rattle.gem_image.specs.Image.{Image}
@@ -65,10 +64,9 @@ change_kind true touched = Some WriteWrite
 change_kind false true = Some ReadWrite
 change_kind false false = None
 
--- the conflict of this kind at an ordinary object that was changed after the view
+-- the conflict of this kind at an object that was changed after the view
 abbrev pub later_change : ℕ → ℕ → Option ConflictKind → Object → Option Conflict
-later_change view oid kind object = if is_shared object.body then None
-    else if nat_lt view object.changed
+later_change view oid kind object = if nat_lt view object.changed
     then option_map (λ k. record { oid = oid; kind = k; shown = object.changed }) kind
     else None
 

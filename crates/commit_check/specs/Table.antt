@@ -8,7 +8,6 @@ use Rattle.gem_value.specs.Conflict.{kind_number}
 use Rattle.gem_value.specs.declared.conflict.Conflict.{Conflict}
 use Rattle.gem_value.specs.declared.conflict.ConflictKind.{ConflictKind}
 use Rattle.gem_value.specs.declared.conflict.ConflictKind.TheVariants.{WriteWrite, ReadWrite, WriteReadLock, WriteWriteLock}
-use Rattle.gem_object.specs.Kinds.{is_shared}
 use Rattle.gem_object.specs.declared.body.Body.{Body}
 use Rattle.gem_object.specs.declared.object.Object.{Object}
 use Rattle.gem_image.specs.Image.{Image}
@@ -35,11 +34,11 @@ IsWritten transaction oid = IsSome (under oid transaction.written)
 abbrev pub IsUpdated : TxnRecord → ℕ → Type 0
 IsUpdated transaction oid = IsSome (under oid transaction.updates)
 
--- an ordinary object stands at the name, and a commit after the view has changed it
+-- An object stands at the name, and a commit after the view has changed it. Also a reduced-conflict
+-- one: its name is touched only where the view lacks it.
 pub record IsChangedSince (image : Image) (view oid : ℕ) : Type 0 where
   pub object : Object
   pub stands : get image oid ≡ Some object
-  pub ordinary : is_shared object.body ≡ false
   pub later : view < last_change image oid
 
 -- the merge of the updates of the object is refused, which is this kind of conflict by the class of

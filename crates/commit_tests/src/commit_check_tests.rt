@@ -128,7 +128,7 @@ fn are_conflicts(found: &[Conflict], want: &[(u32, ConflictKind, u64)]) -> bool 
         })
 }
 
-// The image of two plain objects, which these commits changed last.
+// The image of a plain object and a counter, which these commits changed last.
 fn boxes<L: Ledger>(
     alloc: Global,
     changed: (u64, u64),
@@ -136,7 +136,7 @@ fn boxes<L: Ledger>(
 ) -> Result<Image, AllocError> {
     let mut image = Image::empty();
     image.insert(alloc, name(BOX), object(changed.0, plain(alloc)), steps)?;
-    image.insert(alloc, name(CUP), object(changed.1, plain(alloc)), steps)?;
+    image.insert(alloc, name(CUP), object(changed.1, counter(0)), steps)?;
     Ok(image)
 }
 
@@ -172,7 +172,7 @@ fn check_writes<R: Abort, L: Ledger>(rt: &R, alloc: Global, blank: Blank) -> Res
     let mut steps = Steps::<L>::start(blank);
     let rows = writes! {
         (1, 1), true, &[] => &[];
-        // Another session has changed the box, or the cup that this one only read.
+        // Another session has changed the box, or made the cup, a counter, which the view lacked.
         (2, 1), false, &[] => &[(BOX, ConflictKind::WriteWrite, 2)];
         (1, 2), true, &[] => &[(CUP, ConflictKind::ReadWrite, 2)];
         (1, 2), false, &[] => &[];

@@ -1,9 +1,10 @@
 -- What a commit changes in the image.
-use Rattle.std.specs.Prelude.{◌≡◌, ℕ, List, [], ◌++◌, map}
+use Rattle.std.specs.Prelude.{◌≡◌, ◌<◌, ◌^◌, ℕ, List, [], ◌++◌, map, All}
 use Rattle.std.specs.Ordering.{nat_cmp}
 use Rattle.std.specs.FinMap.{FinMap, entries, from_entries}
 use Rattle.gem_object.specs.declared.object.Object.{Object}
-use Rattle.gem_image.specs.Image.{Image, with_objects}
+use Rattle.gem_image.specs.Image.{Image}
+use Rattle.gem_update.specs.Spelling.{entries_of}
 use Rattle.gem_record.specs.declared.record.TxnRecord.{TxnRecord}
 use Rattle.kept_set.specs.Kept.{kept_of, roots_of}
 use Rattle.commit_check.specs.Conflicts.{merged_objects}
@@ -11,6 +12,11 @@ use Rattle.commit_check.specs.Conflicts.{merged_objects}
 -- the made objects to which something leads that the transaction wrote, or an update of it
 abbrev pub kept_objects : TxnRecord → List (ℕ × Object)
 kept_objects done = kept_of (roots_of done.written done.updates) done.made
+
+-- The merged objects can be stored: the pairs or items of each are fewer than 2^32.
+abbrev pub MergesFit : Image → TxnRecord → Type 0
+MergesFit image done =
+    All (λ entry. entries_of entry.1.body < 2 ^ 32) (merged_objects image done)
 
 -- The objects that a commit changes where this image stands: those that the transaction wrote, the
 -- made ones that are kept, and each updated one as its merge with the one in the image leaves it.

@@ -15,7 +15,8 @@ use Rattle.shell_words.specs.declared.script.Command.{Command}
 use Rattle.shell_words.specs.declared.script.Command.TheVariants.{Commit, Abort, Logout}
 use Rattle.object_meaning.specs.declared.event.What.TheVariants.{Placed, Held, Dropped, Left}
 use Rattle.object_meaning.specs.Opened.{Opened, base_serial, commands_of, entry_commands}
-use Rattle.object_meaning.specs.Events.{Event, Told, Standing, image_at, next_counter, run_at_place, run_on_view, record_on_view, after_events, standing, conflicts_at}
+use Rattle.object_meaning.specs.Effect.{MergesFit}
+use Rattle.object_meaning.specs.Events.{Event, Told, Standing, image_at, next_counter, run_at_place, run_on_view, record_at_place, record_on_view, after_events, standing, conflicts_at}
 
 -- the command is there and may end a transaction: an abort, or a commit, which may also have been
 -- refused
@@ -58,8 +59,9 @@ EndedBefore session first (author, Placed e) = author ≡ session → e.last_com
 EndedBefore session first (author, _) = Unit {0}
 
 -- The entry is a transaction of this session, placed after these events: it may begin there, no
--- earlier entry of the session names one of its commands, it has no conflict there, and at its
--- place it says and does all that it says and does where all stands as at its view.
+-- earlier entry of the session names one of its commands, it has no conflict there, what its merges
+-- make can be stored, and at its place it says and does all that it says and does where all stands
+-- as at its view.
 pub record IsPlaced (o : Opened) (before : List Event) (session : ℕ) (e : Entry) : Type 0 where
   pub of_session : e.session ≡ session
   pub of_script : IsTransaction o.script e
@@ -67,6 +69,8 @@ pub record IsPlaced (o : Opened) (before : List Event) (session : ℕ) (e : Entr
   pub apart : AllByRecursion (EndedBefore session e.first_command) before
   pub no_conflict : conflicts_at (after_events o before)
       (record_on_view o (after_events o before) e) ≡ []
+  pub merges : MergesFit (after_events o before).image
+      (record_at_place o (after_events o before) e)
   pub same : run_at_place o (after_events o before) e ≡ run_on_view o (after_events o before) e
 
 -- A lock was free for the session, and the object was there. One that is given back was held; a

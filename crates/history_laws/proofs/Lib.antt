@@ -1,0 +1,17 @@
+pub mod Views
+pub mod Effects
+pub mod Unchanged
+pub mod Stays
+pub mod Serials
+pub mod Drawn
+pub mod Sound
+pub mod Histories
+pub mod Touched
+pub mod Placed
+pub mod OneMore
+pub mod Apart
+pub mod Locked
+pub mod Clean
+pub mod Merges
+pub mod Shown
+pub mod Rights

@@ -1,0 +1,105 @@
+-- A record without conflicts is placed as it was recorded: at its place the transaction does what it
+-- did on its view.
+use Rattle.std.proofs.Common.{◌≡◌, ℕ, ◌+◌, ◌^◌, ◌≤◌, ◌<◌, List, [], ◌∷◌, ◌++◌, Option, option_map, refl, sym, ap, subst, ◌∙◌}
+use Rattle.std.specs.FinMap.{get}
+use Rattle.gem_object.specs.declared.object.Object.{Object}
+use Rattle.gem_image.specs.Image.{Image, contents_of, objects_in}
+use Rattle.gem_record.specs.History.{entry_of}
+use Rattle.gem_record.specs.declared.record.TxnRecord.{TxnRecord}
+use Rattle.gem_record.specs.declared.record.Entry.{Entry}
+use Rattle.gem_world.specs.World.{World, untouched, is_made}
+use Rattle.gem_world.specs.Access as access
+use Rattle.object_programs.specs.Laws.{begun_at, Stays, AgreeOnTouched}
+use Rattle.gem_language.specs.Transaction.{Transaction}
+use Rattle.gem_language.proofs.Lists as lists
+use Rattle.run_records.specs.Record.{record_of}
+use Rattle.commit_check.specs.Conflicts.{last_change, is_touched}
+use Rattle.object_meaning.specs.Commands.{object_commands}
+use Rattle.object_meaning.specs.Opened.{Opened, session_serial, entry_commands, entry_setting, record_on}
+use Rattle.object_meaning.specs.Effect.{effect_at}
+use Rattle.object_meaning.specs.Events.{Event, Told, Standing, image_at, run_at_place, run_on_view, record_at_place, record_on_view, effect_of, after_events, standing, conflicts_at}
+use Rattle.object_meaning.specs.Serial.{IsPlaced, IsRecorded, IsSerial, CanServe}
+use Rattle.history_laws.proofs.Unchanged.{IsUnchangedSince, unchanged_since}
+use Rattle.history_laws.specs.Commits.{CommitsKeep}
+use Rattle.history_laws.proofs.Sound.{AllSound, IsSoundAt}
+use Rattle.history_laws.proofs.Histories.{all_sound}
+use Rattle.history_laws.proofs.Touched.{touched_in_record, is_contained, touched_is_old}
+
+module _ (o : Opened) (s : Standing) (e : Entry) where
+  abbrev view : Image
+  view = image_at s e.view
+
+  -- Where place and view agree on what was touched, the run at the place is that on the view.
+  same_by_frame : Stays view s.image → AgreeOnTouched view s.image (run_on_view o s e).world
+      → run_at_place o s e ≡ run_on_view o s e
+  unfolding run_at_place run_on_view
+  same_by_frame stays agree =
+      lists.frame (begun_at view view e.user (session_serial o e.session) e.first_name) s.image stays
+      (object_commands (entry_commands o.script e)) (untouched e.first_name) agree
+
+  -- two runs that are the same leave the same record
+  pub same_record : run_at_place o s e ≡ run_on_view o s e → record_at_place o s e ≡ record_on_view o s e
+  unfolding record_at_place record_on run_on_view record_of is_made
+  same_record same =
+      ap (λ (run : Transaction). record_of e (entry_setting o e s.image view) run.world) same
+
+module _ (o : Opened) (s : Standing) (done : TxnRecord) (since : IsUnchangedSince o s)
+    (stays : Stays (image_at s done.view) s.image) (from : o.number ≤ done.view)
+    (to : done.view ≤ s.number) (is : done ≡ record_on_view o s (entry_of done))
+    (none : conflicts_at s done ≡ []) where
+  abbrev e : Entry
+  e = entry_of done
+
+  touched_by_run : (name : ℕ) → access.IsTouched name (run_on_view o s e).world
+      → is_touched done name ≡ true
+  unfolding run_on_view record_on
+  touched_by_run name here = ap (λ d. is_touched d name) is
+      ∙ (touched_in_record e (entry_setting o e (image_at s e.view) (image_at s e.view))
+      (run_on_view o s e).world name ∙ here)
+
+  agree : AgreeOnTouched (image_at s e.view) s.image (run_on_view o s e).world
+  agree name here =
+      ap (option_map contents_of) (since done.view name from to
+      (touched_is_old (record { image = s.image; locks = s.locks }) done none name
+      (is_contained done name (touched_by_run name here))))
+
+  pub same_run : run_at_place o s e ≡ run_on_view o s e
+  same_run = same_by_frame o s e stays agree
+
+  pub recorded_here : record_at_place o s e ≡ done
+  recorded_here = same_record o s e same_run ∙ sym is
+
+  pub effect_is : effect_of o s e ≡ effect_at s.image (s.number + 1) done
+  unfolding effect_of
+  effect_is = ap (effect_at s.image (s.number + 1)) recorded_here
+
+-- what holds of a record without conflicts
+pub record IsPlacedAsRecorded (t : Told) (done : TxnRecord) : Type 0 where
+  pub placed : IsPlaced t.opened t.events done.session (entry_of done)
+  pub recorded : record_at_place t.opened (standing t) (entry_of done) ≡ done
+  pub effect : effect_of t.opened (standing t) (entry_of done)
+      ≡ effect_at (standing t).image ((standing t).number + 1) done
+
+pub placed_as_recorded : (t : Told) (done : TxnRecord) → CommitsKeep → CanServe t.opened
+    → IsSerial t → (standing t).number < 2 ^ 64 → IsRecorded t done
+    → conflicts_at (standing t) done ≡ [] → IsPlacedAsRecorded t done
+placed_as_recorded t done law serves serial room recorded none =
+    let o = t.opened in
+    let s = standing t in
+    let all = all_sound t law serves serial room in
+    let begins = recorded.begins in
+    let since = unchanged_since o t.events in
+    let stays = (all.images done.view begins.from begins.to).stays in
+    let same = same_run o s done since stays begins.from begins.to recorded.is none in
+    record {
+      placed = record {
+        of_session = refl;
+        of_script = recorded.of_script;
+        begins = begins;
+        apart = recorded.apart;
+        no_conflict = ap (conflicts_at s) (sym recorded.is) ∙ none;
+        same = same;
+      };
+      recorded = recorded_here o s done since stays begins.from begins.to recorded.is none;
+      effect = effect_is o s done since stays begins.from begins.to recorded.is none;
+    }

@@ -1,0 +1,201 @@
+-- Every image of a history is sound, what it has stays, and the further names of a session are free.
+use Rattle.std.proofs.Common.{◌≡◌, ◌≢◌, ℕ, ◌+◌, ◌-◌, ◌^◌, ◌≤◌, ◌<◌, ◌⊎◌, inl, inr, ⊎_elim, Bool, true, false, cond, List, [], ◌∷◌, ◌++◌, length, Option, Some, None, is_some, IsSome, option_map, refl, sym, ap, subst, ◌∙◌, arith, append_assoc, append-nil}
+use Rattle.std.specs.List.{fold}
+use Rattle.std.specs.Ordering.{nat_cmp, eq_by_cmp, is_eq}
+use Rattle.std.specs.Cmp.{nat_cmp_total, tied_itself}
+use Rattle.std.specs.FinMap.{get, insert, get-insert, get-empty}
+use Rattle.std.specs.Option.{unwrap_or}
+use Rattle.std.proofs.lemmas.Bool.{false≢true, cases_lt, cases_eq}
+use Rattle.gem_value.specs.Oid.{oid_number}
+use Rattle.gem_object.specs.declared.object.Object.{Object}
+use Rattle.gem_image.specs.Image.{Image, IsImage, contents_of, objects_in, with_objects}
+use Rattle.gem_record.specs.declared.record.Entry.{Entry}
+use Rattle.gem_world.specs.World.{Setting, World, untouched}
+use Rattle.gem_sound.specs.Sound.{IsSoundImage, IsSoundFor}
+use Rattle.object_programs.specs.Laws.{begun_at, Stays, AreSound, IsInReach}
+use Rattle.object_programs.proofs.Objects.{StaysSound, soundness_stays}
+use Rattle.object_programs.proofs.Reach.{StaysInReach, reach_stays}
+use Rattle.object_programs.proofs.Admits.{admits_image}
+use Rattle.object_programs.proofs.AtPlace.{sound_at}
+use Rattle.gem_language.specs.Commands.{Command}
+use Rattle.gem_language.specs.Transaction.{transaction}
+use Rattle.gem_language.proofs.Lists.{listed, next_grows}
+use Rattle.commit_check.proofs.Members.{IsOneOf}
+use Rattle.run_records.specs.Record.{record_of}
+use Rattle.object_meaning.specs.declared.event.What.TheVariants.{Placed, Held, Dropped, Left}
+use Rattle.object_meaning.specs.Commands.{object_commands}
+use Rattle.object_meaning.specs.Opened.{Opened, base_serial, session_serial, entry_commands}
+use Rattle.object_meaning.specs.Effect.{effect_at}
+use Rattle.object_meaning.specs.Events.{Event, Standing, image_at, next_counter, run_at_place, run_on_view, record_at_place, effect_of, after_event, before_events, after_events}
+use Rattle.object_meaning.specs.Serial.{IsTransaction, MayBeginAt, IsPlaced, IsSerialEvent, IsSerialFrom, CanServe}
+use Rattle.history_laws.specs.Names.{NamesAreFree}
+use Rattle.history_laws.proofs.Views.{IsGrown, image_stays, image_now, is_grown, after_one_more, number_stays}
+use Rattle.history_laws.proofs.Effects.{IsChangedBy, tied}
+use Rattle.history_laws.proofs.Unchanged.{IsPlacedAt, after_placed}
+use Rattle.history_laws.proofs.Stays.{stays_itself, stays_along, absent_before, user_stays}
+use Rattle.history_laws.proofs.Serials.{serials_differ, none_at_opening}
+use Rattle.history_laws.proofs.Drawn.{reach_first, drawn_counter, made_in_record, changed_there}
+use Rattle.history_laws.specs.Commits.{IsKeptBy, CommitsKeep}
+
+-- an image that was
+pub record IsSoundAt (s : Standing) (number : ℕ) : Type 0 where
+  pub image : IsImage (image_at s number)
+  pub sound : IsSoundImage (image_at s number)
+  pub stays : Stays (image_at s number) s.image
+
+-- What holds of what stands.
+pub record AllSound (o : Opened) (s : Standing) : Type 0 where
+  pub images : (number : ℕ) → o.number ≤ number → number ≤ s.number → IsSoundAt s number
+  pub free : (session : ℕ) → 1 ≤ session → NamesAreFree o s session
+  pub some_name : (session : ℕ) → 1 ≤ next_counter s session
+
+-- ---- where a transaction begins
+
+none_shown : (found : Option Object) → found ≡ None → option_map contents_of found ≡ None
+none_shown found none = ap (option_map contents_of) none
+
+module _ (o : Opened) (s : Standing) (e : Entry) (serves : CanServe o) (grown : IsGrown o s)
+    (all : AllSound o s) (of_script : IsTransaction o.script e) (begins : MayBeginAt o s e) where
+  abbrev view : Image
+  view = image_at s e.view
+
+  abbrev serial : ℕ
+  serial = session_serial o e.session
+
+  here : IsSoundAt s s.number
+  here = all.images s.number (omega (arith, grown)) (omega arith)
+
+  pub place_is_image : IsImage s.image
+  place_is_image = subst IsImage (image_now s s.number refl) here.image
+
+  pub place_is_sound : IsSoundImage s.image
+  place_is_sound = subst IsSoundImage (image_now s s.number refl) here.sound
+
+  pub at_view : IsSoundAt s e.view
+  at_view = all.images e.view begins.from begins.to
+
+  serial_bound : serial < 2 ^ 24
+  serial_bound =
+      let one = of_script.session.0 in
+      let last = of_script.session.1 in
+      let room = serves.serials in
+      omega (arith, one, last, room)
+
+  some_name : 0 < e.first_name
+  some_name =
+      let least = all.some_name e.session in
+      let names = begins.names in
+      omega (arith, least, names)
+
+  free_here : (counter : ℕ) → e.first_name ≤ counter → counter < 2 ^ 24
+      → objects_in s.image (oid_number serial counter) ≡ None
+  free_here counter from below =
+      let names = begins.names in
+      none_shown (get s.image (oid_number serial counter))
+      (all.free e.session of_script.session.0 counter (omega (arith, names, from)) below)
+
+  pub sound_for_place : IsSoundFor (objects_in s.image) e.user serial e.first_name
+  sound_for_place = record {
+    sound = place_is_sound;
+    user_there = user_stays view s.image e.user at_view.stays begins.user;
+    serial_bound = serial_bound;
+    some_name = some_name;
+    next_bound = begins.names_end;
+    free = free_here;
+  }
+
+  pub free_at_view : (counter : ℕ) → e.first_name ≤ counter → counter < 2 ^ 24
+      → objects_in view (oid_number serial counter) ≡ None
+  free_at_view counter from below = absent_before view s.image (oid_number serial counter)
+      at_view.stays (free_here counter from below)
+
+  pub sound_for_view : IsSoundFor (objects_in view) e.user serial e.first_name
+  sound_for_view = record {
+    sound = at_view.sound;
+    user_there = begins.user;
+    serial_bound = serial_bound;
+    some_name = some_name;
+    next_bound = begins.names_end;
+    free = free_at_view;
+  }
+
+  -- what the transaction sees where all stands as at its view is sound
+  pub sound_on_view : AreSound (begun_at view view e.user serial e.first_name) (run_on_view o s e).world
+  unfolding run_on_view
+  sound_on_view = listed (begun_at view view e.user serial e.first_name)
+      (StaysSound (begun_at view view e.user serial e.first_name))
+      (soundness_stays (begun_at view view e.user serial e.first_name))
+      (object_commands (entry_commands o.script e)) (untouched e.first_name)
+      (admits_image view e.user serial e.first_name at_view.image sound_for_view)
+
+  abbrev setting : Setting
+  setting = begun_at s.image view e.user serial e.first_name
+
+  -- what the transaction sees at its place is sound, before it runs and after
+  pub sound_before : AreSound setting (untouched e.first_name)
+  sound_before = sound_at s.image view e.user serial e.first_name at_view.stays
+      (admits_image s.image e.user serial e.first_name place_is_image sound_for_place)
+      (admits_image view e.user serial e.first_name at_view.image sound_for_view)
+
+  pub sound_after : AreSound setting (run_at_place o s e).world
+  unfolding run_at_place
+  sound_after = listed setting (StaysSound setting) (soundness_stays setting)
+      (object_commands (entry_commands o.script e)) (untouched e.first_name) sound_before
+
+  pub reach_after : IsInReach setting (run_at_place o s e).world
+  unfolding run_at_place
+  reach_after = listed setting (StaysInReach setting) (reach_stays setting)
+      (object_commands (entry_commands o.script e)) (untouched e.first_name) (reach_first setting)
+
+  pub names_grow : e.first_name ≤ (run_at_place o s e).world.next
+  unfolding run_at_place
+  names_grow = next_grows (object_commands (entry_commands o.script e)) setting (untouched e.first_name)
+
+  -- ---- what the commit changes
+
+  pub kept_by : CommitsKeep → s.number + 1 < 2 ^ 64
+      → IsKeptBy s.image (with_objects s.image (effect_of o s e))
+  unfolding effect_of record_at_place run_at_place
+  kept_by law room = law (object_commands (entry_commands o.script e)) s.image view e.user serial
+      e.first_name (s.number + 1) e place_is_image at_view.image at_view.stays sound_for_place
+      sound_for_view room
+
+  changed_at : (name : ℕ) → IsChangedBy s.image (record_at_place o s e) name
+      → (is_some (get s.image name) ≡ true)
+      ⊎ ((counter : ℕ) × (name ≡ oid_number serial counter) × (e.first_name ≤ counter)
+      × (counter < (run_at_place o s e).world.next))
+  unfolding record_at_place
+  changed_at name changed = ⊎_elim inl
+      (λ drawn. inr (drawn_counter name setting (run_at_place o s e).world drawn))
+      (changed_there setting (run_at_place o s e).world reach_after e name changed)
+
+  -- what the transaction makes has a name that the image lacks
+  pub made_is_new : (name : ℕ) (object : Object)
+      → IsOneOf (name, object) (record_at_place o s e).made → get s.image name ≡ None
+  unfolding record_at_place
+  made_is_new name object made =
+      let drawn = drawn_counter name setting (run_at_place o s e).world
+      (made_in_record setting (run_at_place o s e).world reach_after e name object made) in
+      let names = begins.names in
+      let from = drawn.2 in
+      let below = drawn.3 in
+      let bound = sound_after.next_bound in
+      subst (λ at. get s.image at ≡ None) (sym drawn.1)
+      (all.free e.session of_script.session.0 drawn.0 (omega (arith, names, from))
+      (omega (arith, below, bound)))
+
+  -- a name that the image lacks and the commit doesn't draw it still lacks
+  pub still_free : (name : ℕ) → get s.image name ≡ None
+      → ((counter : ℕ) → name ≡ oid_number serial counter → e.first_name ≤ counter
+      → counter < (run_at_place o s e).world.next → counter < 2 ^ 24 → ⊥)
+      → get (with_objects s.image (effect_of o s e)) name ≡ None
+  still_free name none apart = by (after_placed o s e name)
+    where
+      by : IsPlacedAt o s e name → get (with_objects s.image (effect_of o s e)) name ≡ None
+      by (inl same) = same ∙ none
+      by (inr found) = ⊎_elim
+          (λ there. absurd (false≢true (sym (ap is_some none) ∙ there)))
+          (λ drawn. let bound = sound_after.next_bound in
+          let below = drawn.3 in
+          absurd (apart drawn.0 drawn.1 drawn.2 below (omega (arith, bound, below))))
+          (changed_at name found.3)

@@ -1,0 +1,68 @@
+-- What a record's transaction touched, and what the absence of conflicts says of it.
+use Rattle.std.proofs.Common.{◌≡◌, ℕ, ◌≤◌, ◌<◌, Bool, true, false, ◌||◌, inl, inr, List, [], ◌∷◌, length, Contains, Option, Some, None, IsSome, nat_eq, refl, sym, ap, ap₂, subst, ◌∙◌, arith}
+use Rattle.std.specs.Ordering.{nat_cmp, eq_by_cmp}
+use Rattle.std.specs.Cmp.{nat_cmp_total, unsigned_tied}
+use Rattle.std.specs.List.{list_any}
+use Rattle.std.specs.FinMap.{get}
+use Rattle.std.specs.FinSet.{from_list, contains-items, contains-from_list}
+use Rattle.std.proofs.lemmas.Bool.{false≢true, cases_lt, cases_Bool}
+use Rattle.gem_object.specs.declared.object.Object.{Object}
+use Rattle.gem_image.specs.Image.{Image}
+use Rattle.gem_record.specs.declared.record.TxnRecord.{TxnRecord}
+use Rattle.gem_record.specs.declared.record.Entry.{Entry}
+use Rattle.gem_value.specs.declared.conflict.Conflict.{Conflict}
+use Rattle.gem_world.specs.World.{Setting, World, is_among}
+use Rattle.run_records.specs.Record.{record_of}
+use Rattle.commit_check.specs.Conflicts.{Place, changed_of, last_change, conflicts_of, is_touched, is_written}
+use Rattle.commit_check.specs.Table.{IsTouched, IsChangedSince, Stands, write_write, read_write}
+use Rattle.commit_check.proofs.Listed.{stands_listed}
+use Rattle.commit_check.proofs.Members.{contained}
+use Rattle.commit_check.proofs.Used.{from_any}
+
+same_tests : (name : ℕ) (names : List ℕ)
+    → list_any (eq_by_cmp nat_cmp name) names ≡ list_any (nat_eq name) names
+same_tests name [] = refl
+same_tests name (first ∷ rest) = ap₂ ◌||◌ (unsigned_tied name first) (same_tests name rest)
+
+-- the record has the names that the run touched
+pub touched_in_record : (e : Entry) (setting : Setting) (world : World) (name : ℕ)
+    → is_touched (record_of e setting world) name ≡ is_among name world.touched
+unfolding record_of
+touched_in_record e setting world name =
+    sym (contains-items (from_list {R = nat_cmp} world.touched) name)
+    ∙ (contains-from_list nat_cmp_total world.touched name ∙ same_tests name world.touched)
+
+pub is_contained : (done : TxnRecord) (name : ℕ) → is_touched done name ≡ true → IsTouched done name
+is_contained done name is = contained name done.touched (from_any name done.touched is)
+
+-- ---- without conflicts
+
+pub none_stands : (place : Place) (done : TxnRecord) (c : Conflict) → conflicts_of place done ≡ []
+    → Stands place done c → ⊥
+none_stands place done c none stands =
+    let listed = subst (λ cs. Contains cs c) none (stands_listed place done c stands) in
+    let below = listed.1 in
+    omega (arith, below)
+
+module _ (place : Place) (done : TxnRecord) (none : conflicts_of place done ≡ []) where
+  not_changed_by : (name : ℕ) (written : Bool) → is_written done name ≡ written → IsTouched done name
+      → IsChangedSince place.image done.view name → ⊥
+  not_changed_by name true is touched since =
+      none_stands place done _ none (write_write name is since)
+  not_changed_by name false is touched since =
+      none_stands place done _ none (read_write name touched (λ some. false≢true (sym is ∙ some)) since)
+
+  changed_by : (name : ℕ) (found : Option Object) → get place.image name ≡ found
+      → done.view < last_change place.image name → IsChangedSince place.image done.view name
+  changed_by name None is later = let last : last_change place.image name ≡ 0 = ap changed_of is in
+      absurd (omega (arith, last, later))
+  changed_by name (Some object) is later =
+      record { object = object; stands = is; later = later }
+
+  -- no commit after the view has changed what was touched
+  pub touched_is_old : (name : ℕ) → IsTouched done name → last_change place.image name ≤ done.view
+  touched_is_old name touched = elim (cases_lt done.view (last_change place.image name)) [
+    | inl later ↦ absurd (not_changed_by name (is_written done name) refl touched
+        (changed_by name (get place.image name) refl later))
+    | inr old ↦ old
+  ]

@@ -1,0 +1,17 @@
+use Rattle.history_laws.proofs.OneMore.{consistent_first, placed_more, held_more, dropped_more, left_more}
+use Rattle.history_laws.proofs.laws.one_event_more.Goals as goal
+
+pub returns-clause-begins : goal.returns-clause-begins
+returns-clause-begins c = consistent_first
+
+pub returns-clause-placed : goal.returns-clause-placed
+returns-clause-placed c = placed_more
+
+pub returns-clause-held : goal.returns-clause-held
+returns-clause-held c = held_more
+
+pub returns-clause-dropped : goal.returns-clause-dropped
+returns-clause-dropped c = dropped_more
+
+pub returns-clause-left : goal.returns-clause-left
+returns-clause-left c = left_more

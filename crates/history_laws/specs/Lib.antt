@@ -1,0 +1,4 @@
+pub mod Names
+pub mod Clean
+pub mod Commits
+pub mod Accesses

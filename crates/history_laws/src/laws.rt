@@ -1,0 +1,158 @@
+//! What follows from the definitions alone. Each law is the contract of a function that does
+//! nothing.
+ghost use Rattle.std.specs.Prelude.{◌≡◌, ◌≢◌, ◌⊎◌, ◌≤◌, ◌<◌, ◌+◌, ◌^◌, ◌++◌, ◌∷◌, [], ℕ, List, length, None, Some, IsSome, true};
+ghost use Rattle.std.specs.FinMap.{get};
+ghost use Rattle.std.specs.List.{AllByRecursion, Contains};
+ghost use Rattle.gem_image.specs.Image.{IsImage};
+ghost use Rattle.gem_value.specs.Conflict.{kind_number};
+ghost use Rattle.gem_value.specs.declared.conflict.Conflict.{Conflict};
+ghost use Rattle.gem_value.specs.declared.conflict.ConflictKind.TheVariants.{WriteReadLock, WriteWriteLock};
+ghost use Rattle.gem_record.specs.History.{entry_of};
+ghost use Rattle.gem_record.specs.declared.record.TxnRecord.{TxnRecord};
+ghost use Rattle.gem_record.specs.declared.record.Entry.{Entry};
+ghost use Rattle.gem_sound.specs.Sound.{IsSoundImage};
+ghost use Rattle.lock_table.specs.LockKind.{kind_granted};
+ghost use Rattle.lock_table.specs.Locks.{kind_held, denied_for};
+ghost use Rattle.lock_table.specs.declared.lock.LockKind.{LockKind};
+ghost use Rattle.commit_check.specs.Conflicts.{last_change};
+ghost use Rattle.commit_check.specs.Table.{IsTouched, IsWritten, IsUpdated};
+ghost use Rattle.object_programs.specs.Laws.{Stays};
+ghost use Rattle.object_meaning.specs.declared.event.What.TheVariants.{Placed, Held, Dropped, Left};
+ghost use Rattle.object_meaning.specs.Opened.{Opened, entry_setting};
+ghost use Rattle.object_meaning.specs.Effect.{effect_at};
+ghost use Rattle.object_meaning.specs.Events.{Event, Told, told_more, image_at, next_counter, record_at_place, effect_of, after_events, standing, events_of, conflicts_at};
+ghost use Rattle.object_meaning.specs.Serial.{IsPlaced, IsOfScript, IsConsistent, IsSerial, IsRecorded, HoldsSome, CanServe};
+ghost use Rattle.history_laws.specs.Names.{NamesAreFree};
+ghost use Rattle.history_laws.specs.Accesses.{IsAllowed, asked_at_place};
+ghost use Rattle.history_laws.specs.Clean.{IsHeldClean};
+ghost use Rattle.history_laws.specs.Commits.{CommitsKeep};
+
+/// What a view shows stays the same, whatever is committed later. The number of commits never
+/// falls, and grows by at most one with each event.
+pub fn views_stay()
+    ensures image { (t : Told) (more : List Event) (number : ℕ) → t.opened.number ≤ number
+        → number ≤ (standing t).number
+        → image_at (standing (told_more t more)) number ≡ image_at (standing t) number }
+    ensures number { (t : Told) (more : List Event)
+        → (standing t).number ≤ (standing (told_more t more)).number }
+    ensures most { (o : Opened) (events : List Event)
+        → (after_events o events).number ≤ o.number + length events }
+{}
+
+/// An object whose last change is at most a number of commits is the same in the image of that
+/// number; where now there is none, there was none.
+pub fn unchanged_since()
+    ensures { (o : Opened) (events : List Event) (view name : ℕ) → o.number ≤ view
+        → view ≤ (after_events o events).number
+        → last_change (after_events o events).image name ≤ view
+        → get (after_events o events).image name ≡ get (image_at (after_events o events) view) name }
+{}
+
+/// Every image of a history is sound and can be stored, and each object of it is in the image that
+/// stands, with its fixed part. The number of commits is one of 64 bits.
+pub fn images_are_sound()
+    ensures image { (t : Told) (number : ℕ) → CommitsKeep → CanServe t.opened → IsSerial t
+        → (standing t).number < 2 ^ 64 → t.opened.number ≤ number → number ≤ (standing t).number
+        → IsImage (image_at (standing t) number) }
+    ensures sound { (t : Told) (number : ℕ) → CommitsKeep → CanServe t.opened → IsSerial t
+        → (standing t).number < 2 ^ 64 → t.opened.number ≤ number → number ≤ (standing t).number
+        → IsSoundImage (image_at (standing t) number) }
+    ensures stays { (t : Told) (number : ℕ) → CommitsKeep → CanServe t.opened → IsSerial t
+        → (standing t).number < 2 ^ 64 → t.opened.number ≤ number → number ≤ (standing t).number
+        → Stays (image_at (standing t) number) (standing t).image }
+{}
+
+/// No object has a name that a session's transactions may still draw: its names of the session's
+/// serial are those that its commits drew, whose counters count from 1.
+pub fn names_are_free()
+    ensures free { (t : Told) (session : ℕ) → CommitsKeep → CanServe t.opened → IsSerial t
+        → (standing t).number < 2 ^ 64 → 1 ≤ session
+        → NamesAreFree t.opened (standing t) session }
+    ensures some { (t : Told) (session : ℕ) → CommitsKeep → CanServe t.opened → IsSerial t
+        → (standing t).number < 2 ^ 64 → 1 ≤ next_counter (standing t) session }
+{}
+
+/// A record without conflicts is placed as it was recorded: its transaction says and does at its
+/// place what it said and did on its view, so that what the commit changes is told by the record.
+pub fn placed_as_recorded()
+    ensures placed { (t : Told) (done : TxnRecord) → CommitsKeep → CanServe t.opened → IsSerial t
+        → (standing t).number < 2 ^ 64 → IsRecorded t done → conflicts_at (standing t) done ≡ []
+        → IsPlaced t.opened t.events done.session (entry_of done) }
+    ensures recorded { (t : Told) (done : TxnRecord) → CommitsKeep → CanServe t.opened
+        → IsSerial t → (standing t).number < 2 ^ 64 → IsRecorded t done
+        → conflicts_at (standing t) done ≡ []
+        → record_at_place t.opened (standing t) (entry_of done) ≡ done }
+    ensures effect { (t : Told) (done : TxnRecord) → CommitsKeep → CanServe t.opened → IsSerial t
+        → (standing t).number < 2 ^ 64 → IsRecorded t done → conflicts_at (standing t) done ≡ []
+        → effect_of t.opened (standing t) (entry_of done)
+        ≡ effect_at (standing t).image ((standing t).number + 1) done }
+{}
+
+/// What a session claims of a transaction holds whatever other sessions do, and so do the names
+/// that are next for it.
+pub fn records_stay()
+    ensures record { (t : Told) (more : List Event) (done : TxnRecord)
+        → events_of done.session more ≡ [] → IsRecorded t done
+        → IsRecorded (told_more t more) done }
+    ensures names { (t : Told) (more : List Event) (session : ℕ) → events_of session more ≡ []
+        → next_counter (standing (told_more t more)) session
+        ≡ next_counter (standing t) session }
+{}
+
+/// Events stay consistent when one more comes: a commit that has no conflicts, a lock that is
+/// denied for nobody, on an object that is there, a lock that is given back by a session that holds
+/// it, and the end of a session that holds one.
+pub fn one_event_more()
+    ensures begins { (o : Opened) → IsConsistent (record { opened = o; events = [] }) }
+    ensures placed { (t : Told) (done : TxnRecord) → CommitsKeep → CanServe t.opened
+        → IsConsistent t → (standing t).number < 2 ^ 64 → IsRecorded t done
+        → conflicts_at (standing t) done ≡ []
+        → IsConsistent (told_more t ((done.session, Placed (entry_of done)) ∷ [])) }
+    ensures held { (t : Told) (session oid : ℕ) (asked kind : LockKind) → IsConsistent t
+        → IsOfScript t.opened.script (session, Held oid kind)
+        → denied_for (standing t).locks session oid asked ≡ None
+        → kind ≡ kind_granted (kind_held (standing t).locks session oid) asked
+        → IsSome (get (standing t).image oid)
+        → IsConsistent (told_more t ((session, Held oid kind) ∷ [])) }
+    ensures dropped { (t : Told) (session oid : ℕ) → IsConsistent t
+        → IsOfScript t.opened.script (session, Dropped oid)
+        → IsSome (kind_held (standing t).locks session oid)
+        → IsConsistent (told_more t ((session, Dropped oid) ∷ [])) }
+    ensures left { (t : Told) (session : ℕ) → IsConsistent t
+        → IsOfScript t.opened.script (session, Left) → HoldsSome (standing t) session
+        → IsConsistent (told_more t ((session, Left) ∷ [])) }
+{}
+
+/// Where a session has held each object that it touched or wrote without a break since a point at
+/// which its view was up to date there, and holds each that it wrote or updated to write, and has
+/// itself placed no commit above the view since: then no change (C1, C2) and no lock (C3, C4)
+/// stands against its commit.
+pub fn clean_locks()
+    ensures { (t : Told) (done : TxnRecord) → CommitsKeep → CanServe t.opened → IsSerial t
+        → (standing t).number < 2 ^ 64
+        → ((oid : ℕ) → IsTouched done oid ⊎ IsWritten done oid
+        → IsHeldClean t.opened t.events done.session done.view oid)
+        → ((oid : ℕ) → IsWritten done oid ⊎ IsUpdated done oid
+        → kind_held (standing t).locks done.session oid ≡ Some LockKind.Write)
+        → (conflict : Conflict) → Contains (conflicts_at (standing t) done) conflict
+        → 5 ≤ kind_number conflict.kind }
+{}
+
+/// A conflict that isn't one of locks shows a commit after the view: what no commit has changed
+/// since is as the transaction saw it, and there its updates are accepted.
+pub fn shown_after_view()
+    ensures { (t : Told) (done : TxnRecord) → CommitsKeep → CanServe t.opened → IsSerial t
+        → (standing t).number < 2 ^ 64 → IsRecorded t done
+        → (conflict : Conflict) → Contains (conflicts_at (standing t) done) conflict
+        → conflict.kind ≢ WriteReadLock → conflict.kind ≢ WriteWriteLock
+        → done.view < conflict.shown }
+{}
+
+/// Every access of a transaction at its place is one that its user has the right to there, by what
+/// the transaction sees when the access comes; else it is refused (E10, E11).
+pub fn accesses_are_allowed()
+    ensures { (t : Told) (e : Entry)
+        → AllByRecursion
+        (IsAllowed (entry_setting t.opened e (standing t).image (image_at (standing t) e.view)))
+        (asked_at_place t.opened (standing t) e) }
+{}
