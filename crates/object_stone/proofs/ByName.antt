@@ -1,12 +1,29 @@
 -- Objects that are put into a list by name, the last one first.
-use Rattle.std.proofs.Common.{◌≡◌, ℕ, List, [], ◌∷◌, ◌++◌, map, refl, sym, ap, ◌∙◌}
+use Rattle.std.proofs.Common.{◌≡◌, ℕ, Bool, true, false, T, ◌&&◌, List, [], ◌∷◌, ◌++◌, map, refl, sym, ap, ◌∙◌}
+use Rattle.std.specs.List.{AllByRecursion}
+use Rattle.std.specs.List.Sorted.{IsStrictlySortedBy}
+use Rattle.std.specs.declared.cmp.Ordering.{Ordering}
 use Rattle.std.specs.declared.cmp.Ordering.TheVariants.{Less, Equal, Greater}
-use Rattle.std.specs.Ordering.{nat_cmp, match_ordering}
+use Rattle.std.specs.Ordering.{nat_cmp, is_lt, match_ordering}
 use Rattle.std.specs.BTreeMap.{insert_entry}
-use Rattle.std.specs.FinMap.{entries, from_entries, empty, entries-insert, len-empty, len-entries}
-use Rattle.std.specs.FinMap.Entries.{put, by_order}
+use Rattle.std.specs.FinMap.{entries, entries_sorted, from_entries, empty, entries-insert, len-empty, len-entries}
+use Rattle.std.specs.FinMap.Entries.{put, by_order, below_all, is_sorted}
 use Rattle.std.proofs.lemmas.Cmp.{nat_cmp_total}
+use Rattle.gem_record.specs.Names.{AscendByName}
 use Rattle.std.proofs.lemmas.List.{map-append, nil_from_length}
+
+pub first_true : (a b : Bool) → T (a && b) → T a
+first_true true b both = tt
+first_true false b both = both
+
+pub second_true : (a b : Bool) → T (a && b) → T b
+second_true true b both = both
+second_true false b both = absurd both
+
+less : (o : Ordering) → T (is_lt o) → o ≡ Less
+less Less is = refl
+less Equal is = absurd is
+less Greater is = absurd is
 
 module _ {X : Type 0} where
   -- the pairs put into a list, the last one first
@@ -49,3 +66,19 @@ module _ {X : Type 0} where
   one_put f all left pair list more was put_is = ap (put_on (map f left)) put_is
       ∙ sym (last_put (map f left) (f pair) list)
       ∙ ap (λ pairs. put_on pairs list) (sym (ap (map f) was ∙ map-append f left (pair ∷ [])))
+
+  all_above : (key : ℕ) (pairs : List (ℕ × X)) → T (below_all nat_cmp key pairs)
+      → AllByRecursion (λ other. nat_cmp key other ≡ Less) (map (λ pair. pair.0) pairs)
+  all_above key [] above = tt
+  all_above key (pair ∷ pairs) above =
+      (less _ (first_true _ _ above), all_above key pairs (second_true _ _ above))
+
+  sorted_ascend : (pairs : List (ℕ × X)) → T (is_sorted nat_cmp pairs) → AscendByName pairs
+  unfolding IsStrictlySortedBy
+  sorted_ascend [] sorted = tt
+  sorted_ascend (pair ∷ pairs) sorted =
+      (all_above pair.0 pairs (first_true _ _ sorted), sorted_ascend pairs (second_true _ _ sorted))
+
+  -- the entries of a map ascend
+  pub entries_ascend : (pairs : List (ℕ × X)) → AscendByName (entries (from_entries {R = nat_cmp} pairs))
+  entries_ascend pairs = sorted_ascend _ (entries_sorted (from_entries pairs))

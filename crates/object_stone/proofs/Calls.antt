@@ -1,5 +1,5 @@
 -- What the calls of a Stone that is alone say.
-use Rattle.std.proofs.Common.{◌≡◌, ◌≢◌, ◌↔◌, ◌==◌, ◌+◌, ◌-◌, ◌<◌, ◌≤◌, ◌^◌, ℕ, Bool, true, false, is_some, IsTrue, List, [], ◌∷◌, ◌++◌, refl, sym, ap, subst, ◌∙◌, arith, append-nil}
+use Rattle.std.proofs.Common.{◌≡◌, ◌≢◌, ◌↔◌, ◌==◌, ◌+◌, ◌-◌, ◌<◌, ◌≤◌, ◌^◌, ℕ, Bool, true, false, is_some, IsTrue, IfOk, Result, Ok, Err, List, [], ◌∷◌, ◌++◌, refl, sym, ap, subst, ◌∙◌, arith, append-nil}
 use Rattle.std.proofs.lemmas.Bool.Decides.{nat_tests}
 use Rattle.std.proofs.lemmas.List.Elements.{filter-append}
 use Rattle.gem_image.specs.Image.{Image}
@@ -16,6 +16,8 @@ use Rattle.object_stone.specs.declared.port.CommitAnswer.{CommitAnswer}
 use Rattle.object_stone.specs.declared.port.CommitAnswer.TheVariants.{ReadOnly, Conflicts, Placed as PlacedAt, NoMemory}
 use Rattle.object_stone.specs.declared.port.LockAnswer.{LockAnswer}
 use Rattle.object_stone.specs.declared.port.LockAnswer.TheVariants.{Granted, Denied, NoMemory as NoMemoryForLock}
+use Rattle.std.specs.declared.alloc.AllocError.{AllocError}
+use Rattle.object_stone.specs.declared.port.Begun.{Begun}
 use Rattle.object_stone.specs.Stone.{is_session}
 use Rattle.object_stone.specs.Port.{PortState, BeginSays, CommitSays, LockSays, UnlockSays, LogoutSays, GoesOn, AnswerFits, LockFits, event_of_answer, event_of_lock, dropping}
 use Rattle.object_stone.proofs.OneMore.{session_bounds}
@@ -103,6 +105,15 @@ module _ (before : Told) where
             omega (arith, serials, first, last);
         free = names_are_free before session opening consistent bounds.0 bounds.1;
       }
+
+  pub begun_alone : (session : ℕ) (result : Result Begun AllocError) → CanServe before.opened → IsConsistent before
+      → is_session before.opened.script session ≡ true
+      → IfOk result (λ (b : Begun). b.image ≡ (standing before).image)
+      → IfOk result (λ (b : Begun). b.number ≡ (standing before).number)
+      → IfOk result (λ (b : Begun). BeginSays before.opened session before.events before.events b.image b.number)
+  begun_alone session (Ok b) opening consistent serves image_is number_is =
+      begins_alone session b.image b.number opening consistent serves image_is number_is
+  begun_alone session (Err e) opening consistent serves image_is number_is = tt
 
   pub commit_alone : (after : Told) (done : TxnRecord) (answer : CommitAnswer) → after ≡ told_more before (event_of_answer done answer)
       → AnswerFits (standing before) done answer

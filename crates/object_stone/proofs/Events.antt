@@ -28,7 +28,7 @@ serial_one_more : (t : Told) (event : Event) → IsSerial t → IsSerialEvent t.
 unfolding IsSerial
 serial_one_more t event serial next = serial_from t.opened [] t.events event serial next
 
-all_one_more : {A : Type 0} (P : A → Type 0) (xs : List A) (x : A) → AllByRecursion P xs → P x
+pub all_one_more : {A : Type 0} (P : A → Type 0) (xs : List A) (x : A) → AllByRecursion P xs → P x
     → AllByRecursion P (xs ++ x ∷ [])
 all_one_more P [] x all one = (one, tt)
 all_one_more P (y ∷ ys) x all one = (all.0, all_one_more P ys x all.1 one)

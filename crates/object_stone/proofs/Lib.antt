@@ -2,6 +2,7 @@ mod ByName
 mod Kept
 mod Largest
 mod Spelled
+mod Fits
 mod Wanted
 mod Events
 mod Exclusive

@@ -1,5 +1,5 @@
 -- What a Stone is when it has one event more.
-use Rattle.std.proofs.Common.{◌≡◌, ℕ, ◌+◌, ◌≤◌, ◌<◌, ◌^◌, ◌&&◌, Bool, true, false, List, [], ◌∷◌, ◌++◌, length, All, None, Some, IsSome, refl, sym, ap, ap₂, subst, ◌∙◌, arith, append-nil}
+use Rattle.std.proofs.Common.{◌≡◌, ℕ, ◌+◌, ◌≤◌, ◌<◌, ◌^◌, ◌&&◌, ◌↔◌, IsTrue, is_some, Option, Bool, true, false, List, [], ◌∷◌, ◌++◌, length, All, None, Some, IsSome, refl, sym, ap, ap₂, subst, ◌∙◌, arith, append-nil}
 use Rattle.std.specs.List.{AllByRecursion}
 use Rattle.std.specs.FinMap.{len, empty, get, len-empty}
 use Rattle.std.proofs.lemmas.Bool.{leb-true, false≢true}
@@ -17,7 +17,7 @@ use Rattle.lock_table.specs.declared.lock.LockKind.{LockKind}
 use Rattle.lock_table.proofs.Counts.{held_more, dropped_fewer, left_fewer}
 use Rattle.object_meaning.specs.declared.event.What.TheVariants.{Placed, Held, Dropped, Left}
 use Rattle.object_meaning.specs.Opened.{Opened}
-use Rattle.object_meaning.specs.Effect.{effect_at, by_name}
+use Rattle.object_meaning.specs.Effect.{MergesFit, effect_at, by_name}
 use Rattle.object_meaning.specs.Events.{Event, Told, Standing, told_more, effect_of, after_event, after_events, standing, conflicts_at, placed_entry, entries_of}
 use Rattle.object_meaning.specs.Serial.{IsPlaced, IsSerialEvent, IsSerial, IsOfScript, IsConsistent, IsRecorded, HoldsSome, CanServe}
 use Rattle.object_stone.specs.Stone.{IsStone, is_session}
@@ -35,6 +35,21 @@ pub session_bounds : (o : Opened) (session : ℕ) → is_session o.script sessio
     → (1 ≤ session) × (session ≤ length o.script)
 session_bounds o session is =
     let both = both_true _ _ is in (leb-true 1 session both.0, leb-true session (length o.script) both.1)
+
+-- an object is held by nobody where a call says that it isn't
+pub none_held : {A : Type 0} (b : Bool) (o : Option A) → IsTrue b ↔ IsSome o → b ≡ false → o ≡ None
+none_held b None exactly is = refl
+none_held b (Some x) exactly is = absurd (false≢true (sym is ∙ exactly.1 refl))
+
+-- the same of all objects
+pub nothing_held : (locks : LockSet) (session : ℕ) (b : Bool)
+    → IsTrue b ↔ ((oid : ℕ) × IsSome (kind_held locks session oid)) → b ≡ false
+    → (oid : ℕ) → kind_held locks session oid ≡ None
+nothing_held locks session b exactly is oid = by (kind_held locks session oid) refl
+  where
+    by : (held : Option LockKind) → kind_held locks session oid ≡ held → held ≡ None
+    by None held_is = refl
+    by (Some kind) held_is = absurd (false≢true (sym is ∙ exactly.1 (oid, ap is_some held_is)))
 
 -- What a Stone is before its first event.
 pub first_stone : (o : Opened) (events : List Event) (image : Image) (locks : LockSet)
@@ -61,7 +76,19 @@ module _ (t : Told) (image : Image) (number : ℕ) (locks : LockSet) (history : 
     (stone : IsStone t image number locks history room) where
   -- the Stone with more room
   pub more_room : (more : ℕ) → room ≤ more → IsStone t image number locks history more
-  more_room more larger = record stone { enough = let enough = stone.enough in omega (arith, enough, larger) }
+  more_room more larger = record {
+    image_is = stone.image_is;
+    number_is = stone.number_is;
+    locks_are = stone.locks_are;
+    history_is = stone.history_is;
+    opening = stone.opening;
+    consistent = stone.consistent;
+    enough = let enough = stone.enough in omega (arith, enough, larger);
+  }
+
+  -- the Stone where nothing was given back
+  pub same_locks : (after : LockSet) → after ≡ locks → IsStone t image number after history room
+  same_locks after is = subst (λ (l : LockSet). IsStone t image number l history room) (sym is) stone
 
   -- a Stone's number has room to grow
   pub number_has_room : length t.events < 2 ^ 63 → number + 1 < 2 ^ 64
@@ -122,36 +149,36 @@ module _ (t : Told) (image : Image) (number : ℕ) (locks : LockSet) (history : 
           (sym (append-nil history)) (omega (arith, counted, room_is))
 
   -- the session gave its lock on the object back
-  pub dropped_stone : (session oid : ℕ) (after : LockSet) (events : List Event)
+  pub dropped_stone : (session oid : ℕ) (after : LockSet) (events : List Event) (more : ℕ)
       → is_session t.opened.script session ≡ true → IsSome (kind_held locks session oid)
       → after ≡ after_dropped locks session oid → events ≡ t.events ++ (session, Dropped oid) ∷ []
-      → IsStone (record t { events = events }) image number after history room
-  dropped_stone session oid after events serves held after_is events_are =
+      → room ≤ more → IsStone (record t { events = events }) image number after history more
+  dropped_stone session oid after events more serves held after_is events_are larger =
       let count = dropped_fewer locks session oid held in
       let counted : len after + 1 ≡ len locks = subst (λ (l : LockSet). len l + 1 ≡ len locks) (sym after_is) count in
       let enough = stone.enough in
-      next_stone (session, Dropped oid) image number after history events room
+      next_stone (session, Dropped oid) image number after history events more
           (session_bounds t.opened session serves)
           (subst (λ (l : LockSet). IsSome (kind_held l session oid)) stone.locks_are held)
           events_are stone.image_is stone.number_is
           (after_is ∙ ap (λ (l : LockSet). after_dropped l session oid) stone.locks_are)
-          (sym (append-nil history)) (omega (arith, counted, enough))
+          (sym (append-nil history)) (omega (arith, counted, enough, larger))
 
   -- the session left
-  pub left_stone : (session : ℕ) (after : LockSet) (events : List Event)
+  pub left_stone : (session : ℕ) (after : LockSet) (events : List Event) (more : ℕ)
       → is_session t.opened.script session ≡ true → (oid : ℕ) × IsSome (kind_held locks session oid)
       → after ≡ after_left locks session → events ≡ t.events ++ (session, Left) ∷ []
-      → IsStone (record t { events = events }) image number after history room
-  left_stone session after events serves held after_is events_are =
+      → room ≤ more → IsStone (record t { events = events }) image number after history more
+  left_stone session after events more serves held after_is events_are larger =
       let count = left_fewer locks session held.0 held.1 in
       let counted : len after + 1 ≤ len locks = subst (λ (l : LockSet). len l + 1 ≤ len locks) (sym after_is) count in
       let enough = stone.enough in
-      next_stone (session, Left) image number after history events room
+      next_stone (session, Left) image number after history events more
           (session_bounds t.opened session serves)
           (subst (λ (l : LockSet). HoldsSome (record (standing t) { locks = l }) session) stone.locks_are held)
           events_are stone.image_is stone.number_is
           (after_is ∙ ap (λ (l : LockSet). after_left l session) stone.locks_are)
-          (sym (append-nil history)) (omega (arith, counted, enough))
+          (sym (append-nil history)) (omega (arith, counted, enough, larger))
 
   -- a session that holds a lock has room for an event
   pub room_to_drop : (session oid : ℕ) → IsSome (kind_held locks session oid) → length t.events < room
@@ -160,10 +187,11 @@ module _ (t : Told) (image : Image) (number : ℕ) (locks : LockSet) (history : 
       let enough = stone.enough in
       omega (arith, count, enough)
 
-  module _ (done : TxnRecord) (recorded : IsRecorded t done) (none : conflicts_at (standing t) done ≡ []) where
+  module _ (done : TxnRecord) (recorded : IsRecorded t done) (none : conflicts_at (standing t) done ≡ [])
+      (fit : MergesFit (standing t).image done) where
     placed : IsPlaced t.opened t.events done.session (entry_of done)
         × (effect_of t.opened (standing t) (entry_of done) ≡ effect_at (standing t).image ((standing t).number + 1) done)
-    placed = placed_as_recorded t done stone.opening stone.consistent recorded none
+    placed = placed_as_recorded t done stone.opening stone.consistent recorded none fit
 
     effect_is : effect_at image (number + 1) done ≡ effect_of t.opened (standing t) (entry_of done)
     effect_is = ap₂ (λ (i : Image) (n : ℕ). effect_at i (n + 1) done) stone.image_is stone.number_is ∙ sym placed.1

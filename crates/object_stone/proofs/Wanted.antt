@@ -7,15 +7,15 @@ use Rattle.gem_sound.specs.Sound.{IsSoundImage}
 use Rattle.gem_record.specs.declared.record.TxnRecord.{TxnRecord}
 use Rattle.gem_record.specs.History.{entry_of}
 use Rattle.object_meaning.specs.Opened.{session_serial}
-use Rattle.object_meaning.specs.Effect.{effect_at}
+use Rattle.object_meaning.specs.Effect.{MergesFit, effect_at}
 use Rattle.object_meaning.specs.Events.{Told, standing, effect_of, conflicts_at, next_counter}
 use Rattle.object_meaning.specs.Serial.{IsPlaced, IsConsistent, IsRecorded, CanServe}
 
 pub placed_as_recorded : (t : Told) (done : TxnRecord) → CanServe t.opened → IsConsistent t → IsRecorded t done
-    → conflicts_at (standing t) done ≡ []
+    → conflicts_at (standing t) done ≡ [] → MergesFit (standing t).image done
     → IsPlaced t.opened t.events done.session (entry_of done)
     × (effect_of t.opened (standing t) (entry_of done) ≡ effect_at (standing t).image ((standing t).number + 1) done)
-placed_as_recorded t done opening consistent recorded none = ?
+placed_as_recorded t done opening consistent recorded none fit = ?
 
 pub images_are_sound : (t : Told) → CanServe t.opened → IsConsistent t
     → IsImage (standing t).image × IsSoundImage (standing t).image

@@ -1,12 +1,15 @@
 //! What a commit changes.
-ghost use Rattle.std.specs.Prelude.{◌≡◌, ◌++◌, ◌≤◌, ◌+◌, ◌*◌, All, length, map, option_copied, IfOk, OnOk};
+ghost use Rattle.std.specs.Prelude.{◌≡◌, ◌↔◌, ◌++◌, ◌<◌, ◌≤◌, ◌+◌, ◌*◌, ◌^◌, All, IsTrue, length, map, option_copied, IfOk, OnOk};
+ghost use Rattle.std.specs.Ordering.{nat_cmp};
+ghost use Rattle.std.specs.BTreeMap.{insert_entry};
 ghost use Rattle.gem_object.specs.Spelling.{IsSpelled};
 ghost use Rattle.gem_image.specs.Image.{with_objects};
+ghost use Rattle.gem_update.specs.Spelling.{entries_of};
 ghost use Rattle.object_meaning.specs.Effect.{kept_objects, stamped, by_name};
 ghost use Rattle.object_stone.specs.Effects.{named, found_in};
 
 use gem_image::Image;
-use gem_object::Object;
+use gem_object::{Body, Object};
 use gem_record::{ByName, Effect, TxnRecord};
 use gem_value::Oid;
 use kept_set::kept;
@@ -61,6 +64,29 @@ pub(crate) fn next_image<L: Ledger>(
     ensures nodes { steps.new ≤ steps.old + 8 * length effect.objects }
 {
     image.with_all(alloc, effect.objects.into_entries(), steps)
+}
+
+/// Whether each of the merged objects can be stored: each has fewer than 2^32 pairs or items.
+pub(crate) fn fit(merged: &[(Oid, Object)]) -> bool
+    ensures { IsTrue result ↔ All (λ entry. entries_of entry.1.body < 2 ^ 32) merged.now }
+{
+    for entry in merged {
+        if entry_count(&entry.1.body) >= 1 << 32 {
+            return false;
+        }
+    }
+    true
+}
+
+fn entry_count(body: &Body) -> u64
+    ensures { result ≡ entries_of body.now }
+{
+    match body {
+        Body::Bag(bag) => bag.pairs().len() as u64,
+        Body::RcDict(dict) => dict.pairs().len() as u64,
+        Body::Queue(queue) => queue.size(),
+        _ => 0,
+    }
 }
 
 fn push_all(changed: &mut Vec<(Oid, Object)>, objects: &[(Oid, Object)]) -> Result<(), AllocError>
@@ -147,9 +173,21 @@ fn stamp_all(
 {
     let mut objects = BTreeMap::new(alloc);
     while let Some(entry) = changed.pop() {
-        let (name, mut object) = entry;
-        object.changed = number;
-        objects.insert(name, object)?;
+        stamp(&mut objects, number, entry)?;
     }
     Ok(objects)
+}
+
+fn stamp(
+    objects: &mut BTreeMap<Oid, Object>,
+    number: u64,
+    entry: (Oid, Object),
+) -> Result<(), AllocError>
+    ensures { OnOk result (objects.new.entries
+        ≡ insert_entry nat_cmp objects.old.entries entry.0 (stamped number entry).1) }
+{
+    let (name, mut object) = entry;
+    object.changed = number;
+    objects.insert(name, object)?;
+    Ok(())
 }

@@ -4,7 +4,7 @@ ghost use Rattle.std.specs.FinMap.{get};
 ghost use Rattle.gem_record.specs.History.{entry_of};
 ghost use Rattle.commit_check.specs.Conflicts.{last_change, merged_objects};
 ghost use Rattle.object_meaning.specs.declared.event.What.TheVariants.{Placed};
-ghost use Rattle.object_meaning.specs.Effect.{IsUnchanged, effect_at};
+ghost use Rattle.object_meaning.specs.Effect.{IsUnchanged, MergesFit, effect_at};
 ghost use Rattle.object_meaning.specs.Events.{standing, entries_of, conflicts_at, told_more};
 ghost use Rattle.object_meaning.specs.Serial.{IsRecorded, IsConsistent, CanServe};
 ghost use Rattle.object_meaning.specs.Locks.{leaving};
@@ -13,7 +13,7 @@ ghost use Rattle.object_stone.specs.Port.{event_of_answer, AnswerFits, event_of_
 ghost use Rattle.lock_table.specs.Locks.{kind_held};
 ghost use Rattle.object_meaning.specs.Serial.{HoldsSome};
 
-use crate::effect::{effect_of, next_image};
+use crate::effect::{effect_of, fit, next_image};
 use crate::port::{Begun, CommitAnswer, LockAnswer, StonePort};
 use commit_check::conflicts;
 use gem_image::Image;
@@ -127,8 +127,9 @@ impl Stone {
     ///
     /// It is read only exactly where nothing was written or updated. Otherwise it is refused
     /// exactly where there are conflicts, and else placed, with the next number. Every other
-    /// answer, also that memory ran out, leaves the Stone as it was. An object of the effect builds
-    /// at most 8 nodes of the next image, however many objects the image has.
+    /// answer, also that memory ran out, leaves the Stone as it was. A merge that makes a body with
+    /// 2^32 pairs or items, which can't be stored, counts as want of memory. An object of the effect
+    /// builds at most 8 nodes of the next image, however many objects the image has.
     pub fn commit<L: Ledger>(
         &mut self,
         alloc: Global,
@@ -232,7 +233,7 @@ impl Stone {
     }
 
     // The answer to a commit of a transaction that wrote or updated something, where memory
-    // suffices.
+    // suffices and what the merges make can be stored.
     fn place_or_refuse<L: Ledger>(
         &mut self,
         alloc: Global,
@@ -253,6 +254,9 @@ impl Stone {
         if !judged.conflicts.as_slice().is_empty() {
             return Ok(CommitAnswer::Conflicts(judged.conflicts));
         }
+        if !fit(judged.merged.as_slice()) {
+            return Err(AllocError);
+        }
         let number = self.place(alloc, done, judged.merged, steps)?;
         Ok(CommitAnswer::Placed(number))
     }
@@ -269,6 +273,7 @@ impl Stone {
         requires recorded { IsRecorded self.old done.now }
         requires no_conflict { conflicts_at (standing self.old) done.now ≡ [] }
         requires merged { merged ≡ merged_objects (standing self.old).image done.now }
+        requires fit { MergesFit (standing self.old).image done.now }
         ensures number { IfOk result (λ number. number ≡ (standing self.old).number + 1) }
         ensures placed { OnOk result (self.new
             ≡ told_more self.old ((done.now.session, Placed (entry_of done.now)) ∷ [])) }
