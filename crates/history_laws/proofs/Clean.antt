@@ -25,7 +25,7 @@ use Rattle.object_meaning.specs.Opened.{Opened}
 use Rattle.object_meaning.specs.Events.{Event, Told, Standing, record_at_place, after_event, after_events, standing, conflicts_at}
 use Rattle.object_meaning.specs.Serial.{IsPlaced, IsSerialEvent, IsSerialFrom, IsSerial, CanServe}
 use Rattle.history_laws.specs.Clean.{HoldsThrough, OwnIsUpTo, OwnAreUpTo, IsHeldClean}
-use Rattle.history_laws.proofs.Views.{after_one_more, number_stays}
+use Rattle.history_laws.proofs.Views.{after_one_more}
 use Rattle.history_laws.proofs.Effects.{IsChangedBy}
 use Rattle.history_laws.proofs.Unchanged.{IsPlacedAt, after_placed}
 use Rattle.history_laws.specs.Commits.{CommitsKeep}
@@ -83,26 +83,19 @@ held_first o s (event ∷ events) session oid held = held.0
 -- A lock that is held through events keeps the object clean.
 clean_from : (o : Opened) (before more : List Event) (session view oid : ℕ) → CanServe o → CommitsKeep
     → IsSerialFrom o [] before → IsSerialFrom o before more → AllSound o (after_events o before)
-    → (after_events o (before ++ more)).number < 2 ^ 64
     → HoldsThrough o (after_events o before) more session oid
     → OwnAreUpTo o (after_events o before) more session view
     → IsCleanAt (after_events o before) view oid
     → IsCleanAt (after_events o (before ++ more)) view oid
-clean_from o before [] session view oid serves law front serial all room held own clean =
+clean_from o before [] session view oid serves law front serial all held own clean =
     subst (λ es. IsCleanAt (after_events o es) view oid) (sym (append-nil before)) clean
-clean_from o before (event ∷ more) session view oid serves law front serial all room held own clean =
+clean_from o before (event ∷ more) session view oid serves law front serial all held own clean =
     let joined = append_assoc before (event ∷ []) more in
     let one = after_one_more o before event in
-    let bound : (after_events o ((before ++ event ∷ []) ++ more)).number < 2 ^ 64
-    = subst (λ es. (after_events o es).number < 2 ^ 64) (sym joined) room in
-    let grows = number_stays o (before ++ event ∷ []) more in
-    let now : (after_event o (after_events o before) event).number < 2 ^ 64
-    = subst (λ (s : Standing). s.number < 2 ^ 64) one (omega (arith, bound, grows)) in
     let front_now = serial_push o before event front serial.0 in
     subst (λ es. IsCleanAt (after_events o es) view oid) joined
     (clean_from o (before ++ event ∷ []) more session view oid serves law front_now serial.1
-    (subst (λ s. AllSound o s) (sym one) (sound_event o before event serves law serial.0 all now))
-    bound
+    (subst (λ s. AllSound o s) (sym one) (sound_event o before event serves law serial.0 all))
     (subst (λ s. HoldsThrough o s more session oid) (sym one) held.1)
     (subst (λ s. OwnAreUpTo o s more session view) (sym one) own.1)
     (subst (λ s. IsCleanAt s view oid) (sym one)
@@ -112,7 +105,7 @@ clean_from o before (event ∷ more) session view oid serves law front serial al
 -- ---- what stands then
 
 module _ (t : Told) (law : CommitsKeep) (serves : CanServe t.opened) (serial : IsSerial t)
-    (room : (standing t).number < 2 ^ 64) (session view : ℕ) where
+    (session view : ℕ) where
   pub still_clean : (oid : ℕ) → IsHeldClean t.opened t.events session view oid
       → IsCleanAt (standing t) view oid
   unfolding IsSerial
@@ -121,13 +114,10 @@ module _ (t : Told) (law : CommitsKeep) (serves : CanServe t.opened) (serial : I
       let split = held.split in
       let front = serial_front o [] held.before held.more (subst (IsSerialFrom o []) split serial) in
       let back = serial_back o [] held.before held.more (subst (IsSerialFrom o []) split serial) in
-      let most : (after_events o (held.before ++ held.more)).number < 2 ^ 64
-      = subst (λ es. (after_events o es).number < 2 ^ 64) split room in
-      let grows = number_stays o held.before held.more in
       subst (λ es. IsCleanAt (after_events o es) view oid) (sym split)
       (clean_from o held.before held.more session view oid serves law front back
-      (all_sound (record { opened = o; events = held.before }) law serves front (omega (arith, most, grows)))
-      most held.held held.own held.clean)
+      (all_sound (record { opened = o; events = held.before }) law serves front)
+      held.held held.own held.clean)
 
 merge_kinds : (b : Body) (kind : ConflictKind) → merge_kind b ≡ Some kind → 5 ≤ kind_number kind
 merge_kinds b kind is = by b (merge_kind b) refl is
@@ -175,14 +165,13 @@ module _ (place : Place) (done : TxnRecord) (exclusive : IsExclusive place.locks
   of_merges c (merge_refused oid kind refused) = merge_kinds refused.place.body kind refused.class
 
 pub clean_locks : (t : Told) (done : TxnRecord) → CommitsKeep → CanServe t.opened → IsSerial t
-    → (standing t).number < 2 ^ 64
     → ((oid : ℕ) → IsTouched done oid ⊎ IsWritten done oid
     → IsHeldClean t.opened t.events done.session done.view oid)
     → ((oid : ℕ) → IsWritten done oid ⊎ IsUpdated done oid
     → kind_held (standing t).locks done.session oid ≡ Some Write)
     → (c : Conflict) → Contains (conflicts_at (standing t) done) c → 5 ≤ kind_number c.kind
-clean_locks t done law serves serial room clean held c listed =
+clean_locks t done law serves serial clean held c listed =
     let place : Place = record { image = (standing t).image; locks = (standing t).locks } in
     of_merges place done (locks_exclusive t serial)
-    (λ oid used. still_clean t law serves serial room done.session done.view oid (clean oid used))
+    (λ oid used. still_clean t law serves serial done.session done.view oid (clean oid used))
     held c (listed_stands place done c listed)

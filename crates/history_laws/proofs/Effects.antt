@@ -19,7 +19,7 @@ use Rattle.object_meaning.specs.Effect.{kept_objects, changed_objects, stamped, 
 
 -- ---- lists of pairs
 
-tied : (a b : ℕ) → eq_by_cmp nat_cmp a b ≡ true → a ≡ b
+pub tied : (a b : ℕ) → eq_by_cmp nat_cmp a b ≡ true → a ≡ b
 tied a b is = exact_unsigned a b (equal (nat_cmp a b) is)
   where
     equal : (r : Ordering) → is_eq r ≡ true → r ≡ Equal

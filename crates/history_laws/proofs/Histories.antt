@@ -13,9 +13,9 @@ use Rattle.object_programs.specs.Laws.{Stays}
 use Rattle.object_meaning.specs.declared.event.What.TheVariants.{Placed, Held, Dropped, Left}
 use Rattle.object_meaning.specs.Opened.{Opened, base_serial, session_serial}
 use Rattle.object_meaning.specs.Events.{Event, Told, Standing, image_at, next_counter, run_at_place, effect_of, after_event, before_events, after_events, standing}
-use Rattle.object_meaning.specs.Serial.{IsPlaced, IsSerialEvent, IsSerialFrom, IsSerial, CanServe}
+use Rattle.object_meaning.specs.Serial.{IsPlaced, IsSerialEvent, IsSerialFrom, IsSerial, IsConsistent, CanServe}
 use Rattle.history_laws.specs.Names.{NamesAreFree}
-use Rattle.history_laws.proofs.Views.{IsGrown, image_stays, image_now, is_grown, after_one_more, number_stays}
+use Rattle.history_laws.proofs.Views.{IsGrown, image_stays, image_now, is_grown, after_one_more, number_at_least}
 use Rattle.history_laws.proofs.Effects.{tied}
 use Rattle.history_laws.proofs.Stays.{stays_itself, stays_along}
 use Rattle.history_laws.proofs.Serials.{serials_differ, none_at_opening}
@@ -50,8 +50,7 @@ counter_after o s author e session =
 
 module _ (o : Opened) (before : List Event) (author : ℕ) (e : Entry) (serves : CanServe o)
     (law : CommitsKeep) (placed : IsPlaced o before author e)
-    (all : AllSound o (after_events o before))
-    (room : (after_events o before).number + 1 < 2 ^ 64) where
+    (all : AllSound o (after_events o before)) where
   abbrev s : Standing
   s = after_events o before
 
@@ -62,7 +61,7 @@ module _ (o : Opened) (before : List Event) (author : ℕ) (e : Entry) (serves :
   grown = is_grown o before
 
   kept : IsKeptBy s.image after.image
-  kept = kept_by o s e serves grown all placed.of_script placed.begins law room
+  kept = kept_by o s e serves grown all placed.of_script placed.begins law placed.merges
 
   placed_image : (number : ℕ) → o.number ≤ number → number ≤ s.number → IsSoundAt after number
   placed_image number from to =
@@ -146,23 +145,22 @@ module _ (o : Opened) (before : List Event) (author : ℕ) (e : Entry) (serves :
 
 pub sound_event : (o : Opened) (before : List Event) (event : Event) → CanServe o → CommitsKeep
     → IsSerialEvent o before event → AllSound o (after_events o before)
-    → (after_event o (after_events o before) event).number < 2 ^ 64
     → AllSound o (after_event o (after_events o before) event)
-sound_event o before (session, Placed e) serves law placed all room =
-    placed_sound o before session e serves law placed all room
-sound_event o before (session, Held oid kind) serves law free all room = record {
+sound_event o before (session, Placed e) serves law placed all =
+    placed_sound o before session e serves law placed all
+sound_event o before (session, Held oid kind) serves law free all = record {
   images = λ number from to. let old = all.images number from to in
       record { image = old.image; sound = old.sound; stays = old.stays };
   free = all.free;
   some_name = all.some_name;
 }
-sound_event o before (session, Dropped oid) serves law held all room = record {
+sound_event o before (session, Dropped oid) serves law held all = record {
   images = λ number from to. let old = all.images number from to in
       record { image = old.image; sound = old.sound; stays = old.stays };
   free = all.free;
   some_name = all.some_name;
 }
-sound_event o before (session, Left) serves law held all room = record {
+sound_event o before (session, Left) serves law held all = record {
   images = λ number from to. let old = all.images number from to in
       record { image = old.image; sound = old.sound; stays = old.stays };
   free = all.free;
@@ -187,25 +185,40 @@ sound_first o serves = record {
 
 sound_from : (o : Opened) (before events : List Event) → CanServe o → CommitsKeep
     → IsSerialFrom o before events → AllSound o (after_events o before)
-    → (after_events o (before ++ events)).number < 2 ^ 64
     → AllSound o (after_events o (before ++ events))
-sound_from o before [] serves law serial all room =
+sound_from o before [] serves law serial all =
     subst (λ es. AllSound o (after_events o es)) (sym (append-nil before)) all
-sound_from o before (event ∷ events) serves law serial all room =
+sound_from o before (event ∷ events) serves law serial all =
     let joined = append_assoc before (event ∷ []) events in
     let one = after_one_more o before event in
-    let bound : (after_events o ((before ++ event ∷ []) ++ events)).number < 2 ^ 64
-    = subst (λ es. (after_events o es).number < 2 ^ 64) (sym joined) room in
-    let grows = number_stays o (before ++ event ∷ []) events in
-    let now : (after_event o (after_events o before) event).number < 2 ^ 64
-    = subst (λ (s : Standing). s.number < 2 ^ 64) one (omega (arith, bound, grows)) in
     subst (λ es. AllSound o (after_events o es)) joined
     (sound_from o (before ++ event ∷ []) events serves law serial.1
     (subst (λ s. AllSound o s) (sym one)
-    (sound_event o before event serves law serial.0 all now)) bound)
+    (sound_event o before event serves law serial.0 all)))
 
 pub all_sound : (t : Told) → CommitsKeep → CanServe t.opened → IsSerial t
-    → (standing t).number < 2 ^ 64 → AllSound t.opened (standing t)
+    → AllSound t.opened (standing t)
 unfolding IsSerial after_events
-all_sound t law serves serial room =
-    sound_from t.opened [] t.events serves law serial (sound_first t.opened serves) room
+all_sound t law serves serial =
+    sound_from t.opened [] t.events serves law serial (sound_first t.opened serves)
+
+-- ---- what a Stone and its sessions ask
+
+pub stays_since : (t : Told) (view : ℕ) → CommitsKeep → CanServe t.opened → IsConsistent t
+    → t.opened.number ≤ view → view ≤ (standing t).number
+    → Stays (image_at (standing t) view) (standing t).image
+stays_since t view law serves consistent from to =
+    ((all_sound t law serves consistent.serial).images view from to).stays
+
+pub images_are_sound : (t : Told) → CommitsKeep → CanServe t.opened → IsConsistent t
+    → IsImage (standing t).image × IsSoundImage (standing t).image
+images_are_sound t law serves consistent =
+    let now = (all_sound t law serves consistent.serial).images (standing t).number
+    (number_at_least t.opened t.events) (omega arith) in
+    let same = image_now (standing t) (standing t).number refl in
+    (subst IsImage same now.image, subst IsSoundImage same now.sound)
+
+pub names_are_free : (t : Told) (session : ℕ) → CommitsKeep → CanServe t.opened → IsConsistent t
+    → 1 ≤ session → NamesAreFree t.opened (standing t) session
+names_are_free t session law serves consistent one =
+    (all_sound t law serves consistent.serial).free session one

@@ -63,7 +63,7 @@ unchanged pairs at (update ∷ rest) =
 abbrev pub AreMade : {C : Type 0} → Option (List C) → (List C → Bool) → Type 0
 AreMade {C} all makes = (changes : List C) × (all ≡ Some changes) × (makes changes ≡ true)
 
-pub is_ok : {X F : Type 0} → Result X F → Bool
+abbrev pub is_ok : {X F : Type 0} → Result X F → Bool
 is_ok (Ok x) = true
 is_ok (Err f) = false
 

@@ -18,6 +18,7 @@ use Rattle.lock_table.proofs.Denied.{free_from_none, none_from_free}
 use Rattle.lock_table.proofs.Exclusive.{exclusive_event}
 use Rattle.object_meaning.specs.declared.event.What.TheVariants.{Placed, Held, Dropped, Left}
 use Rattle.object_meaning.specs.Opened.{Opened}
+use Rattle.object_meaning.specs.Effect.{MergesFit}
 use Rattle.object_meaning.specs.Events.{Event, Told, told_more, after_event, before_events, after_events, standing, conflicts_at, placed_entry, entries_of}
 use Rattle.object_meaning.specs.Serial.{IsSerialEvent, IsSerialFrom, IsSerial, IsOfScript, IsConsistent, IsRecorded, HoldsSome, CanServe}
 use Rattle.history_laws.proofs.Views.{after_one_more}
@@ -59,6 +60,12 @@ serial_back o before [] more serial =
 serial_back o before (e ∷ es) more serial =
     subst (λ es. IsSerialFrom o es more) (append_assoc before (e ∷ []) es)
     (serial_back o (before ++ e ∷ []) es more serial.1)
+
+-- the last of serial events is serial after those before it
+pub last_is_serial : (o : Opened) (before : List Event) (event : Event)
+    → IsSerial (record { opened = o; events = before ++ event ∷ [] }) → IsSerialEvent o before event
+unfolding IsSerial
+last_is_serial o before event serial = (serial_back o [] before (event ∷ []) serial).0
 
 pub all_one_more : {A : Type 0} (P : A → Type 0) (xs : List A) (x : A) → AllByRecursion P xs → P x
     → AllByRecursion P (xs ++ x ∷ [])
@@ -142,11 +149,11 @@ free_as_granted t session oid asked serial free = free_by (standing t).locks ses
 
 -- a commit without conflicts is placed
 pub placed_more : (t : Told) (done : TxnRecord) → CommitsKeep → CanServe t.opened → IsConsistent t
-    → (standing t).number < 2 ^ 64 → IsRecorded t done → conflicts_at (standing t) done ≡ []
+    → IsRecorded t done → conflicts_at (standing t) done ≡ [] → MergesFit (standing t).image done
     → IsConsistent (told_more t ((done.session, Placed (entry_of done)) ∷ []))
-placed_more t done law serves consistent room recorded none =
+placed_more t done law serves consistent recorded none fit =
     consistent_more t (done.session, Placed (entry_of done)) consistent recorded.of_script.session
-    (placed_as_recorded t done law serves consistent.serial room recorded none).placed
+    (placed_as_recorded t done law serves consistent.serial recorded none fit)
 
 -- a lock that is denied for nobody, on an object that is there, is granted
 pub held_more : (t : Told) (session oid : ℕ) (asked kind : LockKind) → IsConsistent t

@@ -1,6 +1,6 @@
 -- A record without conflicts is placed as it was recorded: at its place the transaction does what it
 -- did on its view.
-use Rattle.std.proofs.Common.{◌≡◌, ℕ, ◌+◌, ◌^◌, ◌≤◌, ◌<◌, List, [], ◌∷◌, ◌++◌, Option, option_map, refl, sym, ap, subst, ◌∙◌}
+use Rattle.std.proofs.Common.{◌≡◌, ℕ, ◌+◌, ◌≤◌, true, List, [], ◌∷◌, ◌++◌, Option, option_map, refl, sym, ap, subst, ◌∙◌}
 use Rattle.std.specs.FinMap.{get}
 use Rattle.gem_object.specs.declared.object.Object.{Object}
 use Rattle.gem_image.specs.Image.{Image, contents_of, objects_in}
@@ -16,7 +16,7 @@ use Rattle.run_records.specs.Record.{record_of}
 use Rattle.commit_check.specs.Conflicts.{last_change, is_touched}
 use Rattle.object_meaning.specs.Commands.{object_commands}
 use Rattle.object_meaning.specs.Opened.{Opened, session_serial, entry_commands, entry_setting, record_on}
-use Rattle.object_meaning.specs.Effect.{effect_at}
+use Rattle.object_meaning.specs.Effect.{MergesFit, effect_at}
 use Rattle.object_meaning.specs.Events.{Event, Told, Standing, image_at, run_at_place, run_on_view, record_at_place, record_on_view, effect_of, after_events, standing, conflicts_at}
 use Rattle.object_meaning.specs.Serial.{IsPlaced, IsRecorded, IsSerial, CanServe}
 use Rattle.history_laws.proofs.Unchanged.{IsUnchangedSince, unchanged_since}
@@ -73,33 +73,42 @@ module _ (o : Opened) (s : Standing) (done : TxnRecord) (since : IsUnchangedSinc
   unfolding effect_of
   effect_is = ap (effect_at s.image (s.number + 1)) recorded_here
 
--- what holds of a record without conflicts
-pub record IsPlacedAsRecorded (t : Told) (done : TxnRecord) : Type 0 where
-  pub placed : IsPlaced t.opened t.events done.session (entry_of done)
+-- What holds of a record without conflicts: its run at the place is the one on its view, and leaves
+-- the same record and the same effect.
+pub record IsSameAtPlace (t : Told) (done : TxnRecord) : Type 0 where
+  pub run : run_at_place t.opened (standing t) (entry_of done)
+      ≡ run_on_view t.opened (standing t) (entry_of done)
   pub recorded : record_at_place t.opened (standing t) (entry_of done) ≡ done
   pub effect : effect_of t.opened (standing t) (entry_of done)
       ≡ effect_at (standing t).image ((standing t).number + 1) done
 
-pub placed_as_recorded : (t : Told) (done : TxnRecord) → CommitsKeep → CanServe t.opened
-    → IsSerial t → (standing t).number < 2 ^ 64 → IsRecorded t done
-    → conflicts_at (standing t) done ≡ [] → IsPlacedAsRecorded t done
-placed_as_recorded t done law serves serial room recorded none =
+pub same_at_place : (t : Told) (done : TxnRecord) → CommitsKeep → CanServe t.opened → IsSerial t
+    → IsRecorded t done → conflicts_at (standing t) done ≡ [] → IsSameAtPlace t done
+same_at_place t done law serves serial recorded none =
     let o = t.opened in
     let s = standing t in
-    let all = all_sound t law serves serial room in
     let begins = recorded.begins in
     let since = unchanged_since o t.events in
-    let stays = (all.images done.view begins.from begins.to).stays in
-    let same = same_run o s done since stays begins.from begins.to recorded.is none in
+    let stays = ((all_sound t law serves serial).images done.view begins.from begins.to).stays in
     record {
-      placed = record {
-        of_session = refl;
-        of_script = recorded.of_script;
-        begins = begins;
-        apart = recorded.apart;
-        no_conflict = ap (conflicts_at s) (sym recorded.is) ∙ none;
-        same = same;
-      };
+      run = same_run o s done since stays begins.from begins.to recorded.is none;
       recorded = recorded_here o s done since stays begins.from begins.to recorded.is none;
       effect = effect_is o s done since stays begins.from begins.to recorded.is none;
+    }
+
+-- so it can be placed, where what its merges make can be stored
+pub placed_as_recorded : (t : Told) (done : TxnRecord) → CommitsKeep → CanServe t.opened
+    → IsSerial t → IsRecorded t done → conflicts_at (standing t) done ≡ []
+    → MergesFit (standing t).image done
+    → IsPlaced t.opened t.events done.session (entry_of done)
+placed_as_recorded t done law serves serial recorded none fit =
+    let same = same_at_place t done law serves serial recorded none in
+    record {
+      of_session = refl;
+      of_script = recorded.of_script;
+      begins = recorded.begins;
+      apart = recorded.apart;
+      no_conflict = ap (conflicts_at (standing t)) (sym recorded.is) ∙ none;
+      merges = subst (MergesFit (standing t).image) (sym same.recorded) fit;
+      same = same.run;
     }

@@ -195,12 +195,12 @@ module _ (o : Opened) (s : Standing) (done : TxnRecord) (serves : CanServe o) (g
   shown_later c (merge_refused oid kind refused) no_read no_write = refused_later oid kind refused
 
 pub shown_after_view : (t : Told) (done : TxnRecord) → CommitsKeep → CanServe t.opened → IsSerial t
-    → (standing t).number < 2 ^ 64 → IsRecorded t done → (c : Conflict)
+    → IsRecorded t done → (c : Conflict)
     → Contains (conflicts_at (standing t) done) c → c.kind ≢ WriteReadLock → c.kind ≢ WriteWriteLock
     → done.view < c.shown
-shown_after_view t done law serves serial room recorded c listed no_read no_write =
+shown_after_view t done law serves serial recorded c listed no_read no_write =
     let s = standing t in
     shown_later t.opened s done serves (is_grown t.opened t.events)
-    (all_sound t law serves serial room) (unchanged_since t.opened t.events) recorded.of_script
+    (all_sound t law serves serial) (unchanged_since t.opened t.events) recorded.of_script
     recorded.begins recorded.is c
     (listed_stands (record { image = s.image; locks = s.locks }) done c listed) no_read no_write

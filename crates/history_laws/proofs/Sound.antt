@@ -25,7 +25,7 @@ use Rattle.run_records.specs.Record.{record_of}
 use Rattle.object_meaning.specs.declared.event.What.TheVariants.{Placed, Held, Dropped, Left}
 use Rattle.object_meaning.specs.Commands.{object_commands}
 use Rattle.object_meaning.specs.Opened.{Opened, base_serial, session_serial, entry_commands}
-use Rattle.object_meaning.specs.Effect.{effect_at}
+use Rattle.object_meaning.specs.Effect.{MergesFit, effect_at}
 use Rattle.object_meaning.specs.Events.{Event, Standing, image_at, next_counter, run_at_place, run_on_view, record_at_place, effect_of, after_event, before_events, after_events}
 use Rattle.object_meaning.specs.Serial.{IsTransaction, MayBeginAt, IsPlaced, IsSerialEvent, IsSerialFrom, CanServe}
 use Rattle.history_laws.specs.Names.{NamesAreFree}
@@ -153,12 +153,12 @@ module _ (o : Opened) (s : Standing) (e : Entry) (serves : CanServe o) (grown : 
 
   -- ---- what the commit changes
 
-  pub kept_by : CommitsKeep → s.number + 1 < 2 ^ 64
+  pub kept_by : CommitsKeep → MergesFit s.image (record_at_place o s e)
       → IsKeptBy s.image (with_objects s.image (effect_of o s e))
   unfolding effect_of record_at_place run_at_place
-  kept_by law room = law (object_commands (entry_commands o.script e)) s.image view e.user serial
+  kept_by law merges = law (object_commands (entry_commands o.script e)) s.image view e.user serial
       e.first_name (s.number + 1) e place_is_image at_view.image at_view.stays sound_for_place
-      sound_for_view room
+      sound_for_view merges
 
   changed_at : (name : ℕ) → IsChangedBy s.image (record_at_place o s e) name
       → (is_some (get s.image name) ≡ true)

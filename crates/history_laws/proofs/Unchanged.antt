@@ -55,9 +55,12 @@ since_event : (o : Opened) (s : Standing) (event : Event) → IsGrown o s → Is
     → IsUnchangedSince o (after_event o s event)
 since_event o s (session, Placed e) grown since view name from to old =
     since_placed o s session e grown since view name from to old
-since_event o s (session, Held oid kind) grown since = since
-since_event o s (session, Dropped oid) grown since = since
-since_event o s (session, Left) grown since = since
+since_event o s (session, Held oid kind) grown since view name from to old =
+    since view name from to old
+since_event o s (session, Dropped oid) grown since view name from to old =
+    since view name from to old
+since_event o s (session, Left) grown since view name from to old =
+    since view name from to old
 
 since_from : (o : Opened) (s : Standing) (events : List Event) → IsGrown o s → IsUnchangedSince o s
     → IsUnchangedSince o (fold (after_event o) s events)
@@ -68,4 +71,5 @@ since_from o s (e ∷ es) grown since =
 pub unchanged_since : (o : Opened) (events : List Event) → IsUnchangedSince o (after_events o events)
 unfolding after_events
 unchanged_since o events = since_from o (before_events o) events (omega arith)
-    (λ view name from to old. refl)
+    (λ view name from to old. ap (λ image. get image name)
+    (sym (image_now (before_events o) view (omega (arith, from, to)))))

@@ -19,7 +19,7 @@ ghost use Rattle.commit_check.specs.Table.{IsTouched, IsWritten, IsUpdated};
 ghost use Rattle.object_programs.specs.Laws.{Stays};
 ghost use Rattle.object_meaning.specs.declared.event.What.TheVariants.{Placed, Held, Dropped, Left};
 ghost use Rattle.object_meaning.specs.Opened.{Opened, entry_setting};
-ghost use Rattle.object_meaning.specs.Effect.{effect_at};
+ghost use Rattle.object_meaning.specs.Effect.{MergesFit, effect_at};
 ghost use Rattle.object_meaning.specs.Events.{Event, Told, told_more, image_at, next_counter, record_at_place, effect_of, after_events, standing, events_of, conflicts_at};
 ghost use Rattle.object_meaning.specs.Serial.{IsPlaced, IsOfScript, IsConsistent, IsSerial, IsRecorded, HoldsSome, CanServe};
 ghost use Rattle.history_laws.specs.Names.{NamesAreFree};
@@ -49,16 +49,16 @@ pub fn unchanged_since()
 {}
 
 /// Every image of a history is sound and can be stored, and each object of it is in the image that
-/// stands, with its fixed part. The number of commits is one of 64 bits.
+/// stands, with its fixed part.
 pub fn images_are_sound()
     ensures image { (t : Told) (number : ℕ) → CommitsKeep → CanServe t.opened → IsSerial t
-        → (standing t).number < 2 ^ 64 → t.opened.number ≤ number → number ≤ (standing t).number
+        → t.opened.number ≤ number → number ≤ (standing t).number
         → IsImage (image_at (standing t) number) }
     ensures sound { (t : Told) (number : ℕ) → CommitsKeep → CanServe t.opened → IsSerial t
-        → (standing t).number < 2 ^ 64 → t.opened.number ≤ number → number ≤ (standing t).number
+        → t.opened.number ≤ number → number ≤ (standing t).number
         → IsSoundImage (image_at (standing t) number) }
     ensures stays { (t : Told) (number : ℕ) → CommitsKeep → CanServe t.opened → IsSerial t
-        → (standing t).number < 2 ^ 64 → t.opened.number ≤ number → number ≤ (standing t).number
+        → t.opened.number ≤ number → number ≤ (standing t).number
         → Stays (image_at (standing t) number) (standing t).image }
 {}
 
@@ -66,24 +66,25 @@ pub fn images_are_sound()
 /// serial are those that its commits drew, whose counters count from 1.
 pub fn names_are_free()
     ensures free { (t : Told) (session : ℕ) → CommitsKeep → CanServe t.opened → IsSerial t
-        → (standing t).number < 2 ^ 64 → 1 ≤ session
+        → 1 ≤ session
         → NamesAreFree t.opened (standing t) session }
     ensures some { (t : Told) (session : ℕ) → CommitsKeep → CanServe t.opened → IsSerial t
-        → (standing t).number < 2 ^ 64 → 1 ≤ next_counter (standing t) session }
+        → 1 ≤ next_counter (standing t) session }
 {}
 
-/// A record without conflicts is placed as it was recorded: its transaction says and does at its
-/// place what it said and did on its view, so that what the commit changes is told by the record.
+/// A record without conflicts is placed as it was recorded, if what its merges make can be stored:
+/// its transaction says and does at its place what it said and did on its view, so that what the
+/// commit changes is told by the record.
 pub fn placed_as_recorded()
     ensures placed { (t : Told) (done : TxnRecord) → CommitsKeep → CanServe t.opened → IsSerial t
-        → (standing t).number < 2 ^ 64 → IsRecorded t done → conflicts_at (standing t) done ≡ []
+        → IsRecorded t done → conflicts_at (standing t) done ≡ []
+        → MergesFit (standing t).image done
         → IsPlaced t.opened t.events done.session (entry_of done) }
     ensures recorded { (t : Told) (done : TxnRecord) → CommitsKeep → CanServe t.opened
-        → IsSerial t → (standing t).number < 2 ^ 64 → IsRecorded t done
-        → conflicts_at (standing t) done ≡ []
+        → IsSerial t → IsRecorded t done → conflicts_at (standing t) done ≡ []
         → record_at_place t.opened (standing t) (entry_of done) ≡ done }
     ensures effect { (t : Told) (done : TxnRecord) → CommitsKeep → CanServe t.opened → IsSerial t
-        → (standing t).number < 2 ^ 64 → IsRecorded t done → conflicts_at (standing t) done ≡ []
+        → IsRecorded t done → conflicts_at (standing t) done ≡ []
         → effect_of t.opened (standing t) (entry_of done)
         ≡ effect_at (standing t).image ((standing t).number + 1) done }
 {}
@@ -99,14 +100,15 @@ pub fn records_stay()
         ≡ next_counter (standing t) session }
 {}
 
-/// Events stay consistent when one more comes: a commit that has no conflicts, a lock that is
+/// Events stay consistent when one more comes: a commit that has no conflicts and whose merged
+/// objects can be stored, a lock that is
 /// denied for nobody, on an object that is there, a lock that is given back by a session that holds
 /// it, and the end of a session that holds one.
 pub fn one_event_more()
     ensures begins { (o : Opened) → IsConsistent (record { opened = o; events = [] }) }
     ensures placed { (t : Told) (done : TxnRecord) → CommitsKeep → CanServe t.opened
-        → IsConsistent t → (standing t).number < 2 ^ 64 → IsRecorded t done
-        → conflicts_at (standing t) done ≡ []
+        → IsConsistent t → IsRecorded t done → conflicts_at (standing t) done ≡ []
+        → MergesFit (standing t).image done
         → IsConsistent (told_more t ((done.session, Placed (entry_of done)) ∷ [])) }
     ensures held { (t : Told) (session oid : ℕ) (asked kind : LockKind) → IsConsistent t
         → IsOfScript t.opened.script (session, Held oid kind)
@@ -129,7 +131,6 @@ pub fn one_event_more()
 /// stands against its commit.
 pub fn clean_locks()
     ensures { (t : Told) (done : TxnRecord) → CommitsKeep → CanServe t.opened → IsSerial t
-        → (standing t).number < 2 ^ 64
         → ((oid : ℕ) → IsTouched done oid ⊎ IsWritten done oid
         → IsHeldClean t.opened t.events done.session done.view oid)
         → ((oid : ℕ) → IsWritten done oid ⊎ IsUpdated done oid
@@ -142,7 +143,7 @@ pub fn clean_locks()
 /// since is as the transaction saw it, and there its updates are accepted.
 pub fn shown_after_view()
     ensures { (t : Told) (done : TxnRecord) → CommitsKeep → CanServe t.opened → IsSerial t
-        → (standing t).number < 2 ^ 64 → IsRecorded t done
+        → IsRecorded t done
         → (conflict : Conflict) → Contains (conflicts_at (standing t) done) conflict
         → conflict.kind ≢ WriteReadLock → conflict.kind ≢ WriteWriteLock
         → done.view < conflict.shown }

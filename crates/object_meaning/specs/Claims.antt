@@ -1,5 +1,5 @@
 -- What a reader of a transcript knows of its session's events: what its replies claim.
-use Rattle.std.specs.Prelude.{ℕ, ◌+◌, ◌==◌, ◌||◌, not, ◌&&◌, Bool, true, false, cond, nat_eq, List, [], ◌∷◌, ◌++◌, map}
+use Rattle.std.specs.Prelude.{ℕ, ◌==◌, ◌+◌, not, nat_eq, List, [], ◌∷◌, ◌++◌, map}
 use Rattle.std.specs.List.{filter, list_any}
 use Rattle.lock_table.specs.declared.lock.LockKind.{LockKind}
 use Rattle.gem_replies.specs.declared.reply.Line.{Line}

@@ -1,0 +1,14 @@
+mod Lists
+mod Values
+mod Likes
+mod References
+mod Entries
+mod Seen
+mod Bases
+mod Updates
+mod Records
+mod Effects
+mod Images
+mod Lines
+mod Sound
+mod Runs

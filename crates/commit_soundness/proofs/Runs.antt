@@ -1,0 +1,114 @@
+-- A run at its place, from what is known of place and view; and the names and numbers of its effect.
+use Rattle.std.proofs.Common.{◌≡◌, ◌∙◌, ◌⊎◌, inl, inr, refl, sym, ap, subst, ℕ, ◌+◌, ◌-◌, ◌*◌, ◌≤◌, ◌<◌, ◌^◌, true, false, ◌&&◌, nat_le, nat_lt, Option, Some, None, is_some, option_map, arith}
+use Rattle.std.specs.List.{All, AllByRecursion, Contains}
+use Rattle.std.specs.FinMap.{get}
+use Rattle.std.proofs.lemmas.Bool.{false≢true, and_parts, leb-true, ltb-true}
+use Rattle.std.proofs.lemmas.List.Elements.{All-from_recursion, All-contains}
+use Rattle.std.proofs.lemmas.Option.{none-some}
+use Rattle.gem_object.specs.declared.object.Object.{Object}
+use Rattle.gem_image.specs.Image.{Image, Contents, contents_of, objects_in}
+use Rattle.gem_world.specs.World.{Setting, World, untouched, name_of, is_drawn, is_made}
+use Rattle.gem_record.specs.declared.record.TxnRecord.{TxnRecord}
+use Rattle.commit_check.specs.Conflicts.{merged_objects}
+use Rattle.commit_check.specs.Table.{IsMerged}
+use Rattle.object_programs.specs.Fixed.{fixed_of, fixed_by}
+use Rattle.object_programs.specs.Laws.{Stays, KeepsParts, IsInReach, AreSound, begun_at}
+use Rattle.object_programs.proofs.Admits.{admits_image}
+use Rattle.object_programs.proofs.AtPlace.{sound_at}
+use Rattle.object_programs.proofs.Objects.{StaysFixed, StaysSound, parts_stay, soundness_stays}
+use Rattle.object_programs.proofs.Reach.{StaysInReach, reach_stays}
+use Rattle.gem_language.proofs.Lists.{listed}
+use Rattle.commit_soundness.specs.Placing.{Placing, setting_of, left_by, record_placed, effect_placed, image_made, CanRun, IsDrawnIn}
+use Rattle.commit_soundness.proofs.Bases.{changed_from, begun_in_reach}
+use Rattle.commit_soundness.proofs.Updates.{brought}
+use Rattle.commit_soundness.proofs.Effects.{IsPut, IsMergedHere, IsChanged, effect_is}
+use Rattle.commit_soundness.proofs.Images.{Ran, known, Agrees, place_agrees}
+
+-- what the law of merges says
+abbrev pub MergesAre : Type 0
+MergesAre = (image : Image) (transaction : TxnRecord) (name : ℕ) (object : Object)
+    → Contains (merged_objects image transaction) (name, object) → IsMerged image transaction name object
+
+abbrev Anything : Object → Type 0
+Anything object = Unit {0}
+
+module _ (merges : MergesAre) (p : Placing) where
+  abbrev at : Setting
+  at = setting_of p
+
+  abbrev begun : World
+  begun = untouched p.first
+
+  module _ (can : CanRun p) where
+    placed_sound : AreSound (begun_at p.place p.place p.user p.serial p.first) begun
+    placed_sound = admits_image p.place p.user p.serial p.first can.place can.sound
+
+    begun_sound : AreSound at begun
+    begun_sound = sound_at p.place p.view p.user p.serial p.first can.stays placed_sound
+        (admits_image p.view p.user p.serial p.first can.view can.sound_view)
+
+    reached : IsInReach at (left_by p)
+    reached = listed at (StaysInReach at) (reach_stays at) p.commands begun (begun_in_reach at)
+
+    pub ran_of : (fits : Object → Type 0) → All (λ e. fits e.1) (merged_objects p.place (record_placed p))
+        → Ran p.entry at (left_by p) fits
+    ran_of fits fit = record {
+      stays = can.stays;
+      placed = placed_sound;
+      sound = listed at (StaysSound at) (soundness_stays at) p.commands begun begun_sound;
+      keeps = (listed at (StaysFixed at) (parts_stay at) p.commands begun begun_sound.free).1;
+      reach = reached;
+      brings = brought at p.commands begun begun_sound tt;
+      merged = merges p.place (record_placed p);
+      fit = fit;
+    }
+
+    -- objects stay, with their fixed parts
+    pub all_stay : Stays p.place (image_made p)
+    all_stay name object here =
+        let ran = ran_of Anything (λ k d below. tt) in
+        (place_agrees p.entry at (left_by p) p.number Anything ran name (ap is_some here)).same
+        ∙ known p.entry at (left_by p) p.number Anything ran name object here
+
+  -- ---- the effect
+
+  abbrev IsOfEffect : ℕ × Object → Type 0
+  IsOfEffect e = (e.1.changed ≡ p.number)
+      × IsChanged p.entry at (left_by p) p.place Anything e.0 (contents_of e.1)
+
+  of_effect : (name : ℕ) (object : Object) → Contains (effect_placed p) (name, object) → IsOfEffect (name, object)
+  of_effect name object among = All-contains IsOfEffect (effect_placed p) (name, object)
+      (All-from_recursion IsOfEffect (effect_placed p)
+      (effect_is p.entry at (left_by p) p.place Anything p.number (merges p.place (record_placed p)) (λ k d below. tt)))
+      among
+
+  pub has_number : (name : ℕ) (object : Object) → Contains (effect_placed p) (name, object)
+      → object.changed ≡ p.number
+  has_number name object among = (of_effect name object among).0
+
+  made_drawn : (name : ℕ) → is_made name at (left_by p) ≡ true → IsDrawnIn p name
+  unfolding is_made
+  made_drawn name made =
+      let drawn = (and_parts (is_drawn name at (left_by p)) _ made).0 in
+      let both = and_parts (nat_le (name_of at p.first) name) (nat_lt name (name_of at (left_by p).next)) drawn in
+      let from = leb-true (name_of at p.first) name both.0 in
+      let below = ltb-true name (name_of at (left_by p).next) both.1 in
+      record {
+        counter = name - p.serial * 2 ^ 24;
+        from = omega (arith, from);
+        before = omega (arith, from, below);
+        is = omega (arith, from);
+      }
+
+  not_placed : (name : ℕ) → get p.place name ≡ None → is_some (objects_in p.place name) ≡ true → ⊥
+  not_placed name none some = false≢true (sym (ap (λ found. is_some (option_map contents_of found)) none) ∙ some)
+
+  pub new_drawn : CanRun p → (name : ℕ) (object : Object) → Contains (effect_placed p) (name, object)
+      → get p.place name ≡ None → IsDrawnIn p name
+  new_drawn can name object among none = elim ((of_effect name object among).1) [
+    | inl put ↦ elim (changed_from at (left_by p) (reached can) name (ap is_some put.seen)) [
+      | inl there ↦ absurd (not_placed name none there)
+      | inr made ↦ made_drawn name made
+    ]
+    | inr merge ↦ absurd (none-some merge.merged.place (sym none ∙ merge.merged.at_place))
+  ]

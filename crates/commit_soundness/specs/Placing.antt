@@ -1,0 +1,62 @@
+-- A transaction that runs at its place, and what its commit makes there.
+use Rattle.std.specs.Prelude.{◌≡◌, ◌≤◌, ◌<◌, ℕ, List}
+use Rattle.gem_value.specs.Oid.{oid_number}
+use Rattle.gem_object.specs.declared.object.Object.{Object}
+use Rattle.gem_image.specs.Image.{Image, IsImage, objects_in, with_objects}
+use Rattle.gem_record.specs.declared.record.Entry.{Entry}
+use Rattle.gem_record.specs.declared.record.TxnRecord.{TxnRecord}
+use Rattle.gem_sound.specs.Sound.{IsSoundFor}
+use Rattle.gem_world.specs.World.{Setting, World, untouched}
+use Rattle.object_programs.specs.Laws.{Stays, begun_at}
+use Rattle.gem_language.specs.Commands.{Command}
+use Rattle.gem_language.specs.Transaction.{transaction}
+use Rattle.run_records.specs.Record.{record_of}
+use Rattle.object_meaning.specs.Effect.{effect_at}
+
+-- Commands that are run at a place, and the number of the commit there.
+pub record Placing : Type 0 where
+  -- the image at the place: ordinary objects are those of it
+  pub place : Image
+  -- the image of the view: reduced-conflict objects are those of it
+  pub view : Image
+  -- the name of the user, the serial in the names that are drawn, and the counter of the first one
+  pub user : ℕ
+  pub serial : ℕ
+  pub first : ℕ
+  pub commands : List Command
+  -- who commits what, as the history has it
+  pub entry : Entry
+  pub number : ℕ
+
+abbrev pub setting_of : Placing → Setting
+setting_of p = begun_at p.place p.view p.user p.serial p.first
+
+-- what the commands leave of the objects
+abbrev pub left_by : Placing → World
+left_by p = (transaction p.commands (setting_of p) (untouched p.first)).world
+
+abbrev pub record_placed : Placing → TxnRecord
+record_placed p = record_of p.entry (setting_of p) (left_by p)
+
+-- what the commit changes, and the image that it makes
+abbrev pub effect_placed : Placing → List (ℕ × Object)
+effect_placed p = effect_at p.place p.number (record_placed p)
+
+abbrev pub image_made : Placing → Image
+image_made p = with_objects p.place (effect_placed p)
+
+-- The transaction can run there: place and view are images that are sound for its user and its
+-- names, and every object of the view is at the place, with its fixed part.
+pub record CanRun (p : Placing) : Type 0 where
+  pub place : IsImage p.place
+  pub view : IsImage p.view
+  pub stays : Stays p.view p.place
+  pub sound : IsSoundFor (objects_in p.place) p.user p.serial p.first
+  pub sound_view : IsSoundFor (objects_in p.view) p.user p.serial p.first
+
+-- the name is one that the commands drew
+pub record IsDrawnIn (p : Placing) (name : ℕ) : Type 0 where
+  pub counter : ℕ
+  pub from : p.first ≤ counter
+  pub before : counter < (left_by p).next
+  pub is : name ≡ oid_number p.serial counter
