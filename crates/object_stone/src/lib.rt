@@ -2,6 +2,13 @@
 //! nothing of tokens and of trees.
 #![tactic(auto)]
 
+mod effect;
 mod port;
+mod serial;
+mod stone;
+#[cfg(test)]
+mod tests;
 
 pub use port::{Begun, CommitAnswer, LockAnswer, StonePort};
+pub use serial::largest_serial;
+pub use stone::{Closed, Stone};

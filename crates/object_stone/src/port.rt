@@ -29,7 +29,7 @@ pub enum CommitAnswer {
     Conflicts(Conflicts),
     /// The commit was placed, and this is its number.
     Placed(u64),
-    /// Memory ran out, and nothing has changed.
+    /// Memory ran out, or a merge made what can't be stored, and nothing has changed.
     NoMemory,
 }
 

@@ -1,0 +1,10 @@
+mod ByName
+mod Kept
+mod Largest
+mod Spelled
+mod Fits
+mod Wanted
+mod Events
+mod Exclusive
+mod OneMore
+mod Calls

@@ -1,0 +1,18 @@
+use Rattle.std.proofs.Common.{◌≡◌, ◌<◌, ◌+◌, ◌^◌, ℕ, length, take, true, refl, sym, ap, subst, ◌∙◌, arith}
+use Rattle.gem_object.specs.declared.object.Object.{Object}
+use Rattle.gem_update.specs.Spelling.{entries_of}
+use Rattle.object_stone.proofs.Fits.{fits_one_more, all_fit}
+use Rattle.object_stone.proofs.effect.fit.Goals as goal
+
+pub loop-entry-preserved : goal.loop-entry-preserved
+loop-entry-preserved c =
+    let below : c.loop-entry.entry-index < length c.args.merged.now = omega arith in
+    let counted = c.entry_count.ensures in
+    let small = c.if-entry_count.false in
+    fits_one_more c.args.merged.now c.loop-entry.entry-index c.entry-item.result below c.entry-item.is
+        c.loop-entry.invariant (omega (arith, counted, small))
+
+pub returns : goal.returns
+returns c =
+    let over : c.loop-entry.entry-index ≡ length c.args.merged.now = omega arith in
+    (λ is. all_fit c.args.merged.now c.loop-entry.entry-index over c.loop-entry.invariant, λ all. refl)

@@ -1,0 +1,17 @@
+use Rattle.std.proofs.Common.{◌≡◌, ◌+◌, ◌*◌, ◌^◌, None, subst, ap, sym, ◌∙◌, arith}
+use Rattle.radix_pages.specs.Next.{IsNext}
+use Rattle.object_stone.proofs.Largest.{has_serial, no_more_serials}
+use Rattle.object_stone.proofs.serial.largest_serial.Goals as goal
+
+pub loop-entry-preserved : goal.loop-entry-preserved
+loop-entry-preserved c =
+    let serial = c.serial-largest.ensures.serial in
+    let bound = c.serial-largest.ensures.bound in
+    let most = has_serial c.args.image.now c.in-Some.entry.0 c.in-Some.entry.1.now c.in-Some.ensures.next.1.0 in
+    (bound, omega (arith, serial, most))
+
+pub returns-clause-serial : goal.returns-clause-serial
+returns-clause-serial c =
+    let most = no_more_serials c.args.image.now c.loop-entry.largest c.in_default.ensures.next in
+    let least = c.loop-entry.invariant.1 in
+    omega (arith, most, least)

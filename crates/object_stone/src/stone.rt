@@ -1,0 +1,365 @@
+//! The Stone.
+ghost use Rattle.std.specs.Prelude.{◌≡◌, ◌≤◌, ◌<◌, ◌↔◌, [], ◌∷◌, ◌+◌, ◌*◌, ◌^◌, length, true, IfOk, OnOk, OnErr, IsTrue, IsSome, is_some};
+ghost use Rattle.std.specs.FinMap.{get};
+ghost use Rattle.gem_record.specs.History.{entry_of};
+ghost use Rattle.commit_check.specs.Conflicts.{last_change, merged_objects};
+ghost use Rattle.object_meaning.specs.declared.event.What.TheVariants.{Placed};
+ghost use Rattle.object_meaning.specs.Effect.{IsUnchanged, MergesFit, effect_at};
+ghost use Rattle.object_meaning.specs.Events.{standing, entries_of, conflicts_at, told_more};
+ghost use Rattle.object_meaning.specs.Serial.{IsRecorded, IsConsistent, CanServe};
+ghost use Rattle.object_meaning.specs.Locks.{leaving};
+ghost use Rattle.object_stone.specs.Stone.{is_session};
+ghost use Rattle.object_stone.specs.Port.{event_of_answer, AnswerFits, event_of_lock, LockFits, dropping};
+ghost use Rattle.lock_table.specs.Locks.{kind_held};
+ghost use Rattle.object_meaning.specs.Serial.{HoldsSome};
+
+use crate::effect::{effect_of, fit, next_image};
+use crate::port::{Begun, CommitAnswer, LockAnswer, StonePort};
+use commit_check::conflicts;
+use gem_image::Image;
+use gem_object::Object;
+use gem_record::{ByName, Entry, TxnRecord};
+use gem_value::Oid;
+use lock_table::{Asked, LockKind, Locks};
+use object_meaning::What;
+use radix_pages::Steps;
+use shell_words::Script;
+use std::alloc::{AllocError, Global};
+use std::marker::{Brand, Model};
+use std::sync::Arc;
+use std::sync::ledger::{Blank, Ledger};
+
+/// The one place where transactions of a script are committed, one after the other, and where
+/// objects are locked. Each commit is judged by what has been committed since its view, and by the
+/// locks that other sessions hold.
+///
+/// A contract sees it as a `Told`: what it was opened with, and its events since. The image, the
+/// number of commits, the locks and the history are those that stand after the events, which are
+/// consistent: each is of a session of the script, and the commits have a serial order. There is
+/// room for an event that ends each lock, so that no lock is held for want of memory.
+#[derive(Drop)]
+pub struct Stone {
+    opened_image: Image,
+    opened_number: u64,
+    script: Arc<Script>,
+    image: Image,
+    number: u64,
+    locks: Locks,
+    history: Vec<Entry>,
+    events: Vec<(u32, What)>,
+}
+
+/// What is left of a Stone that was closed.
+#[derive(Debug, Drop)]
+pub struct Closed {
+    /// The entries of the commits, in order.
+    pub history: Vec<Entry>,
+    /// The events, in order, each with the number of the session that made it.
+    pub events: Vec<(u32, What)>,
+}
+
+impl Model for Stone {
+    ghost use Rattle.std.specs.Coded.{codes, coded_ℕ};
+    ghost use Rattle.std.specs.Ordering.{nat_cmp};
+    ghost use Rattle.std.specs.FinMap as map;
+    ghost use Rattle.gem_object.specs.contracts.object.Object as object;
+    ghost use Rattle.object_meaning.specs.Events.{Told};
+    ghost use Rattle.object_stone.specs.Inside.{told_by, IsWholeStone};
+
+    ghost Value = { Told };
+
+    ghost coded = { Prim.hlevel (codes, map.code {R = nat_cmp} coded_ℕ object.the_row.coded) };
+
+    ghost view = { told_by };
+
+    ghost invariant = { IsWholeStone };
+}
+
+impl Stone {
+    /// A Stone that is opened with this image, which has so many commits, for the sessions of this
+    /// script. Each session draws names of a serial of its own, from the one after the image's
+    /// largest on: `largest_serial` gives that one.
+    ///
+    /// # Errors
+    ///
+    /// `AllocError` where memory ran out.
+    pub fn start(
+        alloc: Global,
+        image: Image,
+        number: u64,
+        script: Arc<Script>,
+    ) -> Result<Stone, AllocError>
+        requires serves { CanServe (record { image = image; number = number; script = script.value }) }
+        ensures { IfOk result (λ stone. stone ≡ record {
+          opened = record { image = image; number = number; script = script.value };
+          events = [];
+        }) }
+    {
+        Ok(Stone {
+            opened_image: image.share()?,
+            opened_number: number,
+            script,
+            image,
+            number,
+            locks: Locks::new(alloc),
+            history: Vec::new(alloc),
+            events: Vec::new(alloc),
+        })
+    }
+
+    /// The image and the number of this moment.
+    ///
+    /// # Errors
+    ///
+    /// `AllocError` where memory ran out.
+    pub fn begin(&self) -> Result<Begun, AllocError>
+        ensures image { IfOk result (λ begun. begun.image ≡ (standing self.now).image) }
+        ensures number { IfOk result (λ begun. begun.number ≡ (standing self.now).number) }
+    {
+        Ok(Begun {
+            image: self.image.share()?,
+            number: self.number,
+        })
+    }
+
+    /// Commits what a transaction did. The record has to be what running its commands gives where
+    /// all stands as at its view.
+    ///
+    /// It is read only exactly where nothing was written or updated. Otherwise it is refused
+    /// exactly where there are conflicts, and else placed, with the next number. Every other
+    /// answer, also that memory ran out, leaves the Stone as it was. A merge that makes a body with
+    /// 2^32 pairs or items, which can't be stored, counts as want of memory. An object of the effect
+    /// builds at most 8 nodes of the next image, however many objects the image has.
+    pub fn commit<L: Ledger>(
+        &mut self,
+        alloc: Global,
+        done: &TxnRecord,
+        steps: &mut Steps<L>,
+    ) -> CommitAnswer
+        requires recorded { IsRecorded self.old done.now }
+        ensures events { self.new ≡ told_more self.old (event_of_answer done.now result) }
+        ensures answer { AnswerFits (standing self.old) done.now result }
+        ensures nodes { steps.new ≤ steps.old + 8 * length
+            (effect_at (standing self.old).image ((standing self.old).number + 1) done.now) }
+    {
+        if done.written.as_slice().is_empty() && done.updates.as_slice().is_empty() {
+            return CommitAnswer::ReadOnly(done.view);
+        }
+        match self.place_or_refuse(alloc, done, steps) {
+            Ok(answer) => answer,
+            Err(AllocError) => CommitAnswer::NoMemory,
+        }
+    }
+
+    /// Locks an object for the session, which has to be there. Where another session's lock is in
+    /// the way the lowest such session is named. A session that asks again keeps the greater kind.
+    /// Only a grant changes something.
+    pub fn lock(&mut self, session: u32, oid: Oid, kind: LockKind) -> LockAnswer
+        requires serves { is_session self.old.opened.script session ≡ true }
+        requires there { IsSome (get (standing self.old).image oid) }
+        ensures events { self.new ≡ told_more self.old (event_of_lock session oid result) }
+        ensures answer { LockFits (standing self.old) session oid kind result }
+    {
+        if let Some((holder, held)) = self.locks.denies(session, oid.number(), kind) {
+            return LockAnswer::Denied(holder, held);
+        }
+        let room = self.locks.count() + 2;
+        let Ok(()) = self.events.reserve(room) else {
+            return LockAnswer::NoMemory;
+        };
+        let last = last_change(&self.image, oid);
+        match self.locks.request(session, oid.number(), kind) {
+            Asked::Granted(now) => {
+                let Ok(()) = self.events.push((session, What::Held(oid, now))) else {
+                    unreachable!()
+                };
+                LockAnswer::Granted(now, last)
+            }
+            Asked::Denied { holder, kind } => LockAnswer::Denied(holder, kind),
+            Asked::NoMemory => LockAnswer::NoMemory,
+        }
+    }
+
+    /// Gives the session's lock on an object back; whether it held one. It takes no memory.
+    pub fn unlock(&mut self, session: u32, oid: Oid) -> bool
+        requires serves { is_session self.old.opened.script session ≡ true }
+        ensures events { self.new ≡ told_more self.old (dropping result session oid) }
+        ensures held { result ≡ is_some (kind_held (standing self.old).locks session oid) }
+    {
+        if !self.locks.release(session, oid.number()) {
+            return false;
+        }
+        let Ok(()) = self.events.push((session, What::Dropped(oid))) else {
+            unreachable!()
+        };
+        true
+    }
+
+    /// Ends the session: all its locks are gone. Whether it held one. It takes no memory.
+    pub fn logout(&mut self, session: u32) -> bool
+        requires serves { is_session self.old.opened.script session ≡ true }
+        ensures events { self.new ≡ told_more self.old (leaving result session) }
+        ensures held { IsTrue result ↔ HoldsSome (standing self.old) session }
+    {
+        if !self.locks.release_all(session) {
+            return false;
+        }
+        let Ok(()) = self.events.push((session, What::Left)) else {
+            unreachable!()
+        };
+        true
+    }
+
+    /// Closes the Stone. It takes no memory.
+    pub fn close(self) -> Closed
+        ensures events { result.events.items ≡ self.events }
+        ensures history { result.history.items ≡ entries_of self.events }
+        ensures consistent { IsConsistent self }
+    {
+        Closed {
+            history: self.history,
+            events: self.events,
+        }
+    }
+
+    // Whether the number hasn't fallen since the opening, which is always so. What else the type
+    // says of every Stone is told with it.
+    fn keeps_order(&self) -> bool
+        ensures opening { CanServe self.now.opened }
+        ensures consistent { IsConsistent self.now }
+        ensures room { (standing self.now).number < 2 ^ 64 }
+    {
+        self.opened_number <= self.number
+    }
+
+    // The answer to a commit of a transaction that wrote or updated something, where memory
+    // suffices and what the merges make can be stored.
+    fn place_or_refuse<L: Ledger>(
+        &mut self,
+        alloc: Global,
+        done: &TxnRecord,
+        steps: &mut Steps<L>,
+    ) -> Result<CommitAnswer, AllocError>
+        requires recorded { IsRecorded self.old done.now }
+        requires changed { IsUnchanged done.now → ⊥ }
+        ensures events { IfOk result (λ answer.
+            self.new ≡ told_more self.old (event_of_answer done.now answer)) }
+        ensures answer { IfOk result (λ answer.
+            AnswerFits (standing self.old) done.now answer) }
+        ensures starved { OnErr result (self.new ≡ self.old) }
+        ensures nodes { steps.new ≤ steps.old + 8 * length
+            (effect_at (standing self.old).image ((standing self.old).number + 1) done.now) }
+    {
+        let judged = conflicts(alloc, &self.image, done, &self.locks)?;
+        if !judged.conflicts.as_slice().is_empty() {
+            return Ok(CommitAnswer::Conflicts(judged.conflicts));
+        }
+        if !fit(judged.merged.as_slice()) {
+            return Err(AllocError);
+        }
+        let number = self.place(alloc, done, judged.merged, steps)?;
+        Ok(CommitAnswer::Placed(number))
+    }
+
+    // Places the commit of a transaction that has no conflict, and gives its number. All memory is
+    // taken before anything changes.
+    fn place<L: Ledger>(
+        &mut self,
+        alloc: Global,
+        done: &TxnRecord,
+        merged: ByName<Object>,
+        steps: &mut Steps<L>,
+    ) -> Result<u64, AllocError>
+        requires recorded { IsRecorded self.old done.now }
+        requires no_conflict { conflicts_at (standing self.old) done.now ≡ [] }
+        requires merged { merged ≡ merged_objects (standing self.old).image done.now }
+        requires fit { MergesFit (standing self.old).image done.now }
+        ensures number { IfOk result (λ number. number ≡ (standing self.old).number + 1) }
+        ensures placed { OnOk result (self.new
+            ≡ told_more self.old ((done.now.session, Placed (entry_of done.now)) ∷ [])) }
+        ensures starved { OnErr result (self.new ≡ self.old) }
+        ensures nodes { steps.new ≤ steps.old + 8 * length
+            (effect_at (standing self.old).image ((standing self.old).number + 1) done.now) }
+    {
+        let number = self.number + 1;
+        let effect = effect_of(alloc, number, done, merged)?;
+        let image = next_image(alloc, &self.image, effect, steps)?;
+        self.history.reserve(1)?;
+        self.events.reserve(self.locks.count() + 1)?;
+        let placed = What::Placed(done.entry());
+        let Ok(()) = self.events.push((done.session, placed)) else {
+            unreachable!()
+        };
+        let Ok(()) = self.history.push(done.entry()) else {
+            unreachable!()
+        };
+        self.image = image;
+        self.number = number;
+        Ok(number)
+    }
+}
+
+/// A Stone alone: no event of others ever comes between. It serves the sessions of its script.
+impl StonePort for Stone {
+    ghost use Rattle.std.specs.Prelude.{true};
+    ghost use Rattle.object_stone.specs.Stone.{is_session};
+
+    ghost state = { λ stone. record { told = stone; serves = is_session stone.opened.script; alone = true } };
+
+    fn begin(&mut self, _session: u32) -> Result<Begun, AllocError> {
+        let begun = Stone::begin(self);
+        self.keeps_order();
+        begun
+    }
+
+    fn commit(&mut self, alloc: Global, done: &TxnRecord) -> CommitAnswer {
+        let answer = commit_uncounted::<Brand>(self, alloc, done, Blank::new(1));
+        self.keeps_order();
+        answer
+    }
+
+    fn lock(&mut self, session: u32, oid: Oid, kind: LockKind) -> LockAnswer {
+        let answer = Stone::lock(self, session, oid, kind);
+        self.keeps_order();
+        answer
+    }
+
+    fn unlock(&mut self, session: u32, oid: Oid) -> bool {
+        let held = Stone::unlock(self, session, oid);
+        self.keeps_order();
+        held
+    }
+
+    fn logout(&mut self, session: u32) {
+        Stone::logout(self, session);
+        self.keeps_order();
+    }
+}
+
+// A commit whose nodes nobody counts.
+fn commit_uncounted<L: Ledger>(
+    stone: &mut Stone,
+    alloc: Global,
+    done: &TxnRecord,
+    blank: Blank,
+) -> CommitAnswer
+    requires name { blank.name ≡ L.name }
+    requires parts { blank.parts ≡ L.parts }
+    requires some_parts { 0 < L.parts }
+    requires recorded { IsRecorded stone.old done.now }
+    ensures events { stone.new ≡ told_more stone.old (event_of_answer done.now result) }
+    ensures answer { AnswerFits (standing stone.old) done.now result }
+{
+    let mut steps = Steps::<L>::start(blank);
+    stone.commit(alloc, done, &mut steps)
+}
+
+// The number of the commit that last changed the object, or 0 where there is none.
+fn last_change(image: &Image, oid: Oid) -> u64
+    ensures { result ≡ last_change image.now oid }
+{
+    match image.look(oid) {
+        Some(object) => object.changed,
+        None => 0,
+    }
+}
