@@ -11,6 +11,7 @@ mod Shared
 mod Rooms
 mod Notes
 pub mod Bytes
+mod Updated
 mod NewObjects
 mod InTurn
 mod OneStep
