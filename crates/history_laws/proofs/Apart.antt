@@ -1,5 +1,5 @@
 -- What holds of a record whatever other sessions do.
-use Rattle.std.proofs.Common.{◌≡◌, ◌≢◌, ℕ, ◌+◌, ◌≤◌, ◌<◌, Bool, true, false, true≢false, cond, ◌⊎◌, inl, inr, List, [], ◌∷◌, ◌++◌, length, IsSome, refl, sym, ap, subst, ◌∙◌, arith, ◌==◌}
+use Rattle.std.proofs.Common.{◌≡◌, ℕ, ◌≤◌, Bool, true, false, true≢false, cond, inl, inr, List, [], ◌∷◌, ◌++◌, length, IsSome, refl, sym, ap, subst, ◌∙◌, arith, ◌==◌}
 use Rattle.std.specs.List.{AllByRecursion, fold}
 use Rattle.std.specs.FinMap.{get}
 use Rattle.std.proofs.lemmas.Bool.{eq-eqb}
@@ -10,7 +10,7 @@ use Rattle.gem_record.specs.declared.record.TxnRecord.{TxnRecord}
 use Rattle.gem_record.specs.declared.record.Entry.{Entry}
 use Rattle.object_meaning.specs.declared.event.What.TheVariants.{Placed, Held, Dropped, Left}
 use Rattle.object_meaning.specs.Opened.{Opened, run_at, record_on}
-use Rattle.object_meaning.specs.Events.{Event, Told, Standing, told_more, image_at, next_counter, run_at_place, run_on_view, record_on_view, after_event, after_events, standing, events_of}
+use Rattle.object_meaning.specs.Events.{Event, Told, Standing, told_more, next_counter, run_at_place, run_on_view, record_on_view, after_event, after_events, events_of}
 use Rattle.object_meaning.specs.Serial.{EndedBefore, MayBeginAt, IsRecorded}
 use Rattle.history_laws.proofs.Views.{after_more, views_stay, number_stays}
 use Rattle.history_laws.proofs.Histories.{IsCounterNow, counter_after}
@@ -29,12 +29,21 @@ apart_of_others session first ((author, Placed e) ∷ es) none =
       λ is. absurd (true≢false (sym (eq-eqb author session is) ∙ both.0)),
       apart_of_others session first es both.1,
     )
-apart_of_others session first ((author, Held oid kind) ∷ es) none = (tt, apart_of_others session first es
-    (not_taken (author == session) (author, Held oid kind) (events_of session es) none).1)
-apart_of_others session first ((author, Dropped oid) ∷ es) none = (tt, apart_of_others session first es
-    (not_taken (author == session) (author, Dropped oid) (events_of session es) none).1)
-apart_of_others session first ((author, Left) ∷ es) none = (tt, apart_of_others session first es
-    (not_taken (author == session) (author, Left) (events_of session es) none).1)
+apart_of_others session first ((author, Held oid kind) ∷ es) none = (
+  tt,
+  apart_of_others session first es
+      (not_taken (author == session) (author, Held oid kind) (events_of session es) none).1,
+)
+apart_of_others session first ((author, Dropped oid) ∷ es) none = (
+  tt,
+  apart_of_others session first es
+      (not_taken (author == session) (author, Dropped oid) (events_of session es) none).1,
+)
+apart_of_others session first ((author, Left) ∷ es) none = (
+  tt,
+  apart_of_others session first es
+      (not_taken (author == session) (author, Left) (events_of session es) none).1,
+)
 
 pub apart_both : (session first : ℕ) (es fs : List Event)
     → AllByRecursion (EndedBefore session first) es → AllByRecursion (EndedBefore session first) fs

@@ -1,9 +1,7 @@
 -- Where a session holds locks from a moment on at which its view was up to date, no change and no
 -- lock stands against its commit.
-use Rattle.std.proofs.Common.{◌≡◌, ◌≢◌, ℕ, ◌+◌, ◌^◌, ◌≤◌, ◌<◌, ◌⊎◌, inl, inr, ⊎_elim, List, [], ◌∷◌, ◌++◌, Contains, Option, Some, None, is_some, IsSome, refl, sym, ap, subst, ◌∙◌, arith, append_assoc, append-nil}
-use Rattle.std.specs.FinMap.{get}
+use Rattle.std.proofs.Common.{◌≡◌, ℕ, ◌+◌, ◌≤◌, ◌⊎◌, inl, inr, List, [], ◌∷◌, ◌++◌, Contains, Option, Some, None, IsSome, refl, sym, ap, subst, ◌∙◌, arith, append_assoc, append-nil}
 use Rattle.std.proofs.lemmas.Bool.{false≢true, cases_eq}
-use Rattle.gem_object.specs.declared.object.Object.{Object}
 use Rattle.gem_object.specs.declared.body.Body.{Body}
 use Rattle.gem_object.specs.declared.body.Body.TheVariants as body
 use Rattle.gem_record.specs.declared.record.TxnRecord.{TxnRecord}
@@ -17,22 +15,21 @@ use Rattle.lock_table.specs.LockKind.{is_write}
 use Rattle.lock_table.specs.Granted.{IsExclusive}
 use Rattle.lock_table.specs.declared.lock.LockKind.{LockKind}
 use Rattle.lock_table.specs.declared.lock.LockKind.TheVariants.{Read, Write}
-use Rattle.commit_check.specs.Conflicts.{Place, changed_of, last_change, conflicts_of}
+use Rattle.commit_check.specs.Conflicts.{Place, changed_of, last_change}
 use Rattle.commit_check.specs.Table.{IsTouched, IsWritten, IsUpdated, Stands, write_write, read_write, write_read_lock, write_write_lock, merge_refused}
 use Rattle.commit_check.proofs.Stood.{listed_stands}
 use Rattle.object_meaning.specs.declared.event.What.TheVariants.{Placed, Held, Dropped, Left}
 use Rattle.object_meaning.specs.Opened.{Opened}
-use Rattle.object_meaning.specs.Events.{Event, Told, Standing, record_at_place, after_event, after_events, standing, conflicts_at}
+use Rattle.object_meaning.specs.Events.{Event, Told, Standing, after_event, after_events, standing, conflicts_at}
 use Rattle.object_meaning.specs.Serial.{IsPlaced, IsSerialEvent, IsSerialFrom, IsSerial, CanServe}
 use Rattle.history_laws.specs.Clean.{HoldsThrough, OwnIsUpTo, OwnAreUpTo, IsHeldClean}
 use Rattle.history_laws.proofs.Views.{after_one_more}
-use Rattle.history_laws.proofs.Effects.{IsChangedBy}
 use Rattle.history_laws.proofs.Unchanged.{IsPlacedAt, after_placed}
-use Rattle.history_laws.specs.Commits.{CommitsKeep}
+use Rattle.history_laws.proofs.Commits.{CommitsKeep}
 use Rattle.history_laws.proofs.Sound.{AllSound}
 use Rattle.history_laws.proofs.Histories.{sound_event, all_sound}
 use Rattle.history_laws.proofs.OneMore.{serial_front, serial_back, serial_push, locks_exclusive}
-use Rattle.history_laws.proofs.Locked.{LockedAreThere, still_there, locked_are_there, not_changed}
+use Rattle.history_laws.proofs.Locked.{LockedAreThere, locked_are_there, not_changed}
 
 -- the object's last change is at most the view
 abbrev pub IsCleanAt : Standing → (view oid : ℕ) → Type 0

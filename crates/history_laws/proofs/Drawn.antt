@@ -1,5 +1,5 @@
 -- Where the objects stand that a transaction changed: at names that were there, or that it drew.
-use Rattle.std.proofs.Common.{◌≡◌, ℕ, ◌+◌, ◌-◌, ◌≤◌, ◌<◌, Bool, true, false, not, ◌&&◌, cond, ◌⊎◌, inl, inr, ⊎_elim, List, [], ◌∷◌, map, filter, Option, Some, None, is_some, IsSome, option_map, nat_le, nat_lt, refl, sym, ap, subst, ◌∙◌, arith}
+use Rattle.std.proofs.Common.{◌≡◌, ℕ, ◌-◌, ◌≤◌, ◌<◌, Bool, true, false, not, cond, ◌⊎◌, inl, inr, ⊎_elim, List, [], ◌∷◌, filter, Option, Some, None, is_some, option_map, refl, sym, ap, ◌∙◌, arith}
 use Rattle.std.specs.Ordering.{nat_cmp, eq_by_cmp, is_eq}
 use Rattle.std.specs.Cmp.{nat_cmp_total, tied_itself}
 use Rattle.std.specs.FinMap.{get, entries, get-entries, get-empty}
@@ -7,13 +7,12 @@ use Rattle.std.specs.FinMap.Entries.{find}
 use Rattle.std.proofs.lemmas.Bool.{false≢true, and_parts, and_from, leb-true, ltb-true}
 use Rattle.gem_value.specs.Oid.{oid_number}
 use Rattle.gem_object.specs.declared.object.Object.{Object}
-use Rattle.gem_image.specs.Image.{Image, Contents, contents_of, objects_in}
+use Rattle.gem_image.specs.Image.{Contents, contents_of, objects_in}
 use Rattle.gem_record.specs.declared.record.Entry.{Entry}
-use Rattle.gem_record.specs.declared.record.TxnRecord.{TxnRecord}
-use Rattle.gem_world.specs.World.{Setting, World, untouched, as_of, before_changes, is_drawn, is_made}
+use Rattle.gem_world.specs.World.{Setting, World, untouched, as_of, is_drawn, is_made}
 use Rattle.gem_world.specs.Changes.{was_made, was_written, made_objects, written_objects}
 use Rattle.object_programs.specs.Laws.{IsInReach}
-use Rattle.run_records.specs.Record.{uncommitted, all_uncommitted, record_of}
+use Rattle.run_records.specs.Record.{all_uncommitted, record_of}
 use Rattle.commit_check.proofs.Members.{IsOneOf}
 use Rattle.history_laws.proofs.Effects.{IsChangedBy, by_write, by_make, by_update, filtered_one}
 
@@ -63,7 +62,7 @@ module _ {X : Type 0} where
   found_one name value (e ∷ es) there = found_first name value e (find nat_cmp name es)
       (⊎_elim inl (λ more. inr (found_one name value es more)) there) (eq_by_cmp nat_cmp name e.0) refl
 
-uncommitted_one : (objects : List (ℕ × Contents)) (name : ℕ) (object : Object)
+pub uncommitted_one : (objects : List (ℕ × Contents)) (name : ℕ) (object : Object)
     → IsOneOf (name, object) (all_uncommitted objects)
     → (contents : Contents) × IsOneOf (name, contents) objects
 uncommitted_one [] name object none = absurd none
@@ -71,6 +70,23 @@ uncommitted_one (e ∷ es) name object (inl here) =
     (e.1, inl (ap (λ at. (at, e.1)) (ap (λ (pair : ℕ × Object). pair.0) here)))
 uncommitted_one (e ∷ es) name object (inr more) =
     let found = uncommitted_one es name object more in (found.0, inr found.1)
+
+-- a written object is among the changes, and wasn't made in the transaction
+pub was_changed : (setting : Setting) (world : World) (name : ℕ) (object : Contents)
+    → IsOneOf (name, object) (written_objects setting world)
+    → (is_some (get world.changes name) ≡ true) × (is_made name setting world ≡ false)
+was_changed setting world name object there = (
+  ap is_some (get-entries world.changes name)
+      ∙ found_one name object (entries world.changes)
+      (filtered_one (was_written setting world) (entries world.changes) (name, object) there),
+  not_true (is_made name setting world)
+      (and_parts (not (is_made name setting world)) _
+      (passes (was_written setting world) (entries world.changes) (name, object) there)).0,
+)
+  where
+    not_true : (b : Bool) → not b ≡ true → b ≡ false
+    not_true false is = refl
+    not_true true is = absurd (false≢true is)
 
 placed_by : (here there : Option Contents) → is_some (as_of here there) ≡ true → is_some here ≡ true
 placed_by None there some = some

@@ -1,8 +1,8 @@
 -- Which objects a commit changes, and what the image has then.
-use Rattle.std.proofs.Common.{◌≡◌, ℕ, Bool, true, false, cond, if◌then◌else◌, ◌⊎◌, inl, inr, ⊎_elim, List, [], ◌∷◌, ◌++◌, map, filter, length, arith, Option, Some, None, is_some, IsSome, Contains, Ordering, Less, Equal, Greater, nat_cmp, flat_map, refl, sym, ap, subst, ◌∙◌}
+use Rattle.std.proofs.Common.{◌≡◌, ℕ, Bool, true, false, cond, if◌then◌else◌, ◌⊎◌, inl, inr, ⊎_elim, List, [], ◌∷◌, ◌++◌, map, filter, length, arith, Some, is_some, IsSome, Ordering, Less, Equal, Greater, nat_cmp, refl, sym, ap, subst, ◌∙◌}
 use Rattle.std.specs.Ordering.{eq_by_cmp, is_eq}
 use Rattle.std.specs.Cmp.{nat_cmp_total, tied_itself}
-use Rattle.std.specs.FinMap.{FinMap, get, insert, entries, from_entries, entries-insert, get-insert, len-entries, len-empty, empty}
+use Rattle.std.specs.FinMap.{get, insert, entries, from_entries, entries-insert, get-insert, len-entries, len-empty, empty}
 use Rattle.std.specs.FinMap.Entries.{put, by_order}
 use Rattle.std.proofs.lemmas.Bool.{false≢true}
 use Rattle.std.proofs.lemmas.Map.Lookups.{exact_unsigned}
@@ -10,12 +10,12 @@ use Rattle.gem_object.specs.declared.object.Object.{Object}
 use Rattle.gem_image.specs.Image.{Image, with_objects}
 use Rattle.gem_record.specs.Names.{under}
 use Rattle.gem_record.specs.declared.record.TxnRecord.{TxnRecord}
-use Rattle.kept_set.specs.Kept.{kept_of, roots_of}
-use Rattle.commit_check.specs.Conflicts.{names_of, merged_objects}
-use Rattle.commit_check.specs.Table.{IsWritten, IsUpdated}
+use Rattle.kept_set.specs.Kept.{kept_of}
+use Rattle.commit_check.specs.Conflicts.{merged_objects}
+use Rattle.commit_check.specs.Table.{IsUpdated}
 use Rattle.commit_check.proofs.Members.{IsOneOf, contained, in_either}
 use Rattle.commit_check.proofs.MergedObjects.{listed_merged}
-use Rattle.object_meaning.specs.Effect.{kept_objects, changed_objects, stamped, by_name, effect_at}
+use Rattle.object_meaning.specs.Effect.{kept_objects, changed_objects, stamped, effect_at}
 
 -- ---- lists of pairs
 
@@ -87,14 +87,14 @@ set_first image e es name true is same none = inr (
   e.1,
   inl (ap (λ at. (at, e.1)) (sym (tied name e.0 is))),
   same ∙ (get-insert nat_cmp_total image e.0 e.1 name
-  ∙ ap (λ b. cond b (Some e.1) (get image name)) is),
+      ∙ ap (λ b. cond b (Some e.1) (get image name)) is),
 )
 set_first image e es name false is same none = inl (
   same ∙ (get-insert nat_cmp_total image e.0 e.1 name
-  ∙ ap (λ b. cond b (Some e.1) (get image name)) is),
+      ∙ ap (λ b. cond b (Some e.1) (get image name)) is),
   λ named. ⊎_elim
-  (λ here. false≢true (sym is ∙ itself (ap (λ (pair : ℕ × Object). pair.0) here)))
-  (λ more. none (named.0, more)) named.1,
+      (λ here. false≢true (sym is ∙ itself (ap (λ (pair : ℕ × Object). pair.0) here)))
+      (λ more. none (named.0, more)) named.1,
 )
   where
     itself : e.0 ≡ name → eq_by_cmp nat_cmp name e.0 ≡ true

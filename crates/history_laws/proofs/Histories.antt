@@ -1,26 +1,26 @@
 -- Along a history every image is sound, what it has stays, and a session's further names are free.
-use Rattle.std.proofs.Common.{◌≡◌, ◌≢◌, ℕ, ◌+◌, ◌-◌, ◌^◌, ◌≤◌, ◌<◌, ◌⊎◌, inl, inr, Bool, true, false, cond, List, [], ◌∷◌, ◌++◌, Option, Some, None, refl, sym, ap, subst, ◌∙◌, arith, append_assoc, append-nil}
+use Rattle.std.proofs.Common.{◌≡◌, ◌≢◌, ℕ, ◌+◌, ◌≤◌, ◌⊎◌, inl, inr, Bool, true, false, cond, List, [], ◌∷◌, ◌++◌, Option, Some, None, refl, sym, ap, subst, ◌∙◌, arith, append_assoc, append-nil}
 use Rattle.std.specs.Ordering.{nat_cmp, eq_by_cmp, is_eq}
 use Rattle.std.specs.Cmp.{nat_cmp_total, tied_itself}
-use Rattle.std.specs.FinMap.{get, insert, get-insert, get-empty}
+use Rattle.std.specs.FinMap.{get, get-insert, get-empty}
 use Rattle.std.specs.Option.{unwrap_or}
 use Rattle.std.proofs.lemmas.Bool.{false≢true, cases_lt}
 use Rattle.gem_value.specs.Oid.{oid_number}
-use Rattle.gem_image.specs.Image.{Image, IsImage, with_objects}
+use Rattle.gem_image.specs.Image.{IsImage}
 use Rattle.gem_record.specs.declared.record.Entry.{Entry}
 use Rattle.gem_sound.specs.Sound.{IsSoundImage}
 use Rattle.object_programs.specs.Laws.{Stays}
 use Rattle.object_meaning.specs.declared.event.What.TheVariants.{Placed, Held, Dropped, Left}
 use Rattle.object_meaning.specs.Opened.{Opened, base_serial, session_serial}
-use Rattle.object_meaning.specs.Events.{Event, Told, Standing, image_at, next_counter, run_at_place, effect_of, after_event, before_events, after_events, standing}
+use Rattle.object_meaning.specs.Events.{Event, Told, Standing, image_at, next_counter, run_at_place, after_event, before_events, after_events, standing}
 use Rattle.object_meaning.specs.Serial.{IsPlaced, IsSerialEvent, IsSerialFrom, IsSerial, IsConsistent, CanServe}
 use Rattle.history_laws.specs.Names.{NamesAreFree}
 use Rattle.history_laws.proofs.Views.{IsGrown, image_stays, image_now, is_grown, after_one_more, number_at_least}
 use Rattle.history_laws.proofs.Effects.{tied}
 use Rattle.history_laws.proofs.Stays.{stays_itself, stays_along}
 use Rattle.history_laws.proofs.Serials.{serials_differ, none_at_opening}
-use Rattle.history_laws.specs.Commits.{IsKeptBy, CommitsKeep}
-use Rattle.history_laws.proofs.Sound.{IsSoundAt, AllSound, kept_by, still_free, names_grow, sound_after}
+use Rattle.history_laws.proofs.Commits.{CommitsKeep}
+use Rattle.history_laws.proofs.Sound.{IsSoundAt, AllSound, next_is_image, next_is_sound, next_keeps, still_free, names_grow}
 
 apart_from : (a b : ℕ) → eq_by_cmp nat_cmp a b ≡ false → a ≢ b
 apart_from a b is same = false≢true (sym is
@@ -60,8 +60,8 @@ module _ (o : Opened) (before : List Event) (author : ℕ) (e : Entry) (serves :
   grown : IsGrown o s
   grown = is_grown o before
 
-  kept : IsKeptBy s.image after.image
-  kept = kept_by o s e serves grown all placed.of_script placed.begins law placed.merges
+  kept : Stays s.image after.image
+  kept = next_keeps o s e serves grown all placed.of_script placed.begins law
 
   placed_image : (number : ℕ) → o.number ≤ number → number ≤ s.number → IsSoundAt after number
   placed_image number from to =
@@ -71,15 +71,17 @@ module _ (o : Opened) (before : List Event) (author : ℕ) (e : Entry) (serves :
         image = subst IsImage same old.image;
         sound = subst IsSoundImage same old.sound;
         stays = subst (λ image. Stays image after.image) same
-            (stays_along (image_at s number) s.image after.image old.stays kept.stays);
+            (stays_along (image_at s number) s.image after.image old.stays kept);
       }
 
   placed_now : (number : ℕ) → number ≡ s.number + 1 → IsSoundAt after number
   placed_now number is =
       let same = sym (image_now after number is) in
       record {
-        image = subst IsImage same kept.image;
-        sound = subst IsSoundImage same kept.sound;
+        image = subst IsImage same
+            (next_is_image o s e serves grown all placed.of_script placed.begins law placed.merges);
+        sound = subst IsSoundImage same
+            (next_is_sound o s e serves grown all placed.of_script placed.begins law placed.merges);
         stays = subst (λ image. Stays image after.image) same (stays_itself after.image);
       }
 

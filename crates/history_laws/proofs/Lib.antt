@@ -4,6 +4,7 @@ pub mod Unchanged
 pub mod Stays
 pub mod Serials
 pub mod Drawn
+pub mod Commits
 pub mod Sound
 pub mod Histories
 pub mod Touched
@@ -15,3 +16,4 @@ pub mod Clean
 pub mod Merges
 pub mod Shown
 pub mod Rights
+pub mod Writes

@@ -1,29 +1,26 @@
 -- What locks keep others from: a commit changes no object that another session holds.
-use Rattle.std.proofs.Common.{◌≡◌, ◌≢◌, ℕ, ◌+◌, ◌^◌, ◌≤◌, ◌<◌, ◌⊎◌, inl, inr, ⊎_elim, List, [], ◌∷◌, ◌++◌, Option, Some, None, is_some, IsSome, refl, sym, ap, subst, ◌∙◌, arith, append_assoc, append-nil}
+use Rattle.std.proofs.Common.{◌≡◌, ◌≢◌, ℕ, ◌⊎◌, inl, inr, ⊎_elim, List, [], ◌∷◌, ◌++◌, Option, Some, None, is_some, IsSome, refl, sym, ap, subst, ◌∙◌, append_assoc, append-nil}
 use Rattle.std.specs.FinMap.{get, get-empty}
 use Rattle.std.proofs.lemmas.Bool.{false≢true}
 use Rattle.std.proofs.lemmas.Bool.Decides.{eqb_tells}
-use Rattle.std.proofs.lemmas.Option.{none-some}
-use Rattle.gem_value.specs.Oid.{oid_number}
 use Rattle.gem_image.specs.Image.{with_objects}
 use Rattle.gem_record.specs.declared.record.TxnRecord.{TxnRecord}
 use Rattle.gem_record.specs.declared.record.Entry.{Entry}
-use Rattle.lock_table.specs.Locks.{LockSet, holding_cmp, holding, kind_held, after_held, after_dropped, after_left, denied_for, IsInTheWay}
+use Rattle.lock_table.specs.Locks.{LockSet, holding_cmp, holding, kind_held, after_held, after_dropped, after_left, denied_for}
 use Rattle.lock_table.specs.declared.lock.LockKind.{LockKind}
 use Rattle.lock_table.specs.declared.lock.LockKind.TheVariants.{Read, Write}
 use Rattle.lock_table.proofs.Changes.{held_others, dropped_this, dropped_others, left_this, left_others}
 use Rattle.lock_table.proofs.Denied.{free_from_none, lowest_is_value}
 use Rattle.commit_check.specs.Conflicts.{Place, conflicts_of}
-use Rattle.commit_check.specs.Table.{IsWritten, IsUpdated, Stands, write_read_lock, write_write_lock}
+use Rattle.commit_check.specs.Table.{IsWritten, IsUpdated, write_read_lock, write_write_lock}
 use Rattle.run_records.specs.Record.{record_of}
 use Rattle.object_meaning.specs.declared.event.What.TheVariants.{Placed, Held, Dropped, Left}
-use Rattle.object_meaning.specs.Opened.{Opened, session_serial}
-use Rattle.object_meaning.specs.Events.{Event, Told, Standing, record_at_place, record_on_view, run_at_place, effect_of, after_event, before_events, after_events, standing, conflicts_at}
-use Rattle.object_meaning.specs.Serial.{IsPlaced, IsSerialEvent, IsSerialFrom, IsSerial, CanServe}
+use Rattle.object_meaning.specs.Opened.{Opened}
+use Rattle.object_meaning.specs.Events.{Event, Standing, record_at_place, effect_of, after_event, before_events, after_events}
+use Rattle.object_meaning.specs.Serial.{IsPlaced, IsSerialEvent, IsSerialFrom, CanServe}
 use Rattle.history_laws.proofs.Views.{is_grown, after_one_more}
 use Rattle.history_laws.proofs.Effects.{IsChangedBy, by_write, by_make, by_update, under_one}
 use Rattle.history_laws.proofs.Unchanged.{IsPlacedAt, after_placed}
-use Rattle.history_laws.proofs.Drawn.{drawn_counter}
 use Rattle.history_laws.proofs.Sound.{AllSound, made_is_new}
 use Rattle.history_laws.proofs.Touched.{none_stands}
 use Rattle.history_laws.proofs.Placed.{same_record}

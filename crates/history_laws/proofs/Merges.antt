@@ -1,11 +1,11 @@
 -- Updates that are accepted one after the other by a body are merged where that body still stands.
-use Rattle.std.proofs.Common.{◌≡◌, ◌≢◌, ℕ, ℤ, pos, ◌+◌, ◌+ℤ◌, ◌==◌, Bool, true, false, cond, if◌then◌else◌, List, [], ◌∷◌, Option, Some, None, Result, Ok, Err, is_some, option_map, option_and_then, Equal, nat_cmp, refl, sym, ap, ap₂, subst, ◌∙◌, arith}
+use Rattle.std.proofs.Common.{◌≡◌, ℕ, ℤ, pos, ◌+◌, ◌+ℤ◌, Bool, true, false, if◌then◌else◌, List, [], ◌∷◌, Option, Some, None, Result, Ok, Err, is_some, option_map, option_and_then, nat_cmp, refl, sym, ap, subst, ◌∙◌, arith}
 use Rattle.std.specs.List.{fold}
-use Rattle.std.specs.Ordering.{int_cmp, ordering_then, is_eq}
+use Rattle.std.specs.Ordering.{ordering_then, is_eq}
 use Rattle.std.specs.Option.{ok_or}
 use Rattle.std.specs.Result.{result_ok}
 use Rattle.std.specs.Cmp.{nat_cmp_total, int_cmp_total, tied_itself}
-use Rattle.std.specs.Cmp.Lexicographic.{slice_cmp, nat_list_cmp_total}
+use Rattle.std.specs.Cmp.Lexicographic.{nat_list_cmp_total}
 use Rattle.std.proofs.lemmas.Bool.{false≢true, eq-eqb}
 use Rattle.std.proofs.lemmas.Int.{ints}
 use Rattle.std.proofs.lemmas.Option.{same_Some}
@@ -19,12 +19,10 @@ use Rattle.gem_object.specs.declared.body.Body.TheVariants as body
 use Rattle.rc_counter_bag.specs.Counter as counters
 use Rattle.rc_counter_bag.specs.Bag as bags
 use Rattle.rc_counter_bag.specs.declared.counter.Counter.{Counter}
-use Rattle.rc_counter_bag.specs.declared.update.BagUpdate.{BagUpdate}
 use Rattle.rc_dict.specs.Dict as dicts
 use Rattle.rc_dict.specs.declared.update.DictUpdate.{DictUpdate}
 use Rattle.rc_queue.specs.Contents.{Contents}
 use Rattle.rc_queue.specs.Update as queues
-use Rattle.rc_queue.specs.declared.update.QueueUpdate.{QueueUpdate}
 use Rattle.gem_update.specs.Outcomes.{by_fault, counter_or_range, counter_updated, counter_merged, bag_updated, bag_merged, dict_updated, dict_merged, queue_updated, queue_merged}
 use Rattle.gem_update.specs.Update.{updated, all_changes, counter_change, bag_change, dict_change, queue_change, merged, merge_kind}
 use Rattle.gem_update.specs.declared.update.Update.{Update}

@@ -1,5 +1,5 @@
 -- Events stay consistent when one more comes.
-use Rattle.std.proofs.Common.{◌≡◌, ◌≢◌, ℕ, ◌+◌, ◌≤◌, ◌<◌, ◌^◌, List, [], ◌∷◌, ◌++◌, Option, Some, None, IsSome, refl, sym, ap, subst, ◌∙◌, append_assoc, append-nil}
+use Rattle.std.proofs.Common.{◌≡◌, ℕ, List, [], ◌∷◌, ◌++◌, Option, Some, None, IsSome, refl, sym, ap, subst, ◌∙◌, append_assoc, append-nil}
 use Rattle.std.specs.List.{AllByRecursion}
 use Rattle.std.specs.FinMap.{get, get-empty}
 use Rattle.std.proofs.lemmas.Bool.{false≢true}
@@ -22,7 +22,7 @@ use Rattle.object_meaning.specs.Effect.{MergesFit}
 use Rattle.object_meaning.specs.Events.{Event, Told, told_more, after_event, before_events, after_events, standing, conflicts_at, placed_entry, entries_of}
 use Rattle.object_meaning.specs.Serial.{IsSerialEvent, IsSerialFrom, IsSerial, IsOfScript, IsConsistent, IsRecorded, HoldsSome, CanServe}
 use Rattle.history_laws.proofs.Views.{after_one_more}
-use Rattle.history_laws.specs.Commits.{CommitsKeep}
+use Rattle.history_laws.proofs.Commits.{CommitsKeep}
 use Rattle.history_laws.proofs.Placed.{placed_as_recorded}
 
 serial_from : (o : Opened) (before events : List Event) (event : Event) → IsSerialFrom o before events

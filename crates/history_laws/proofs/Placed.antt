@@ -1,27 +1,24 @@
 -- A record without conflicts is placed as it was recorded: at its place the transaction does what it
 -- did on its view.
-use Rattle.std.proofs.Common.{◌≡◌, ℕ, ◌+◌, ◌≤◌, true, List, [], ◌∷◌, ◌++◌, Option, option_map, refl, sym, ap, subst, ◌∙◌}
-use Rattle.std.specs.FinMap.{get}
-use Rattle.gem_object.specs.declared.object.Object.{Object}
-use Rattle.gem_image.specs.Image.{Image, contents_of, objects_in}
+use Rattle.std.proofs.Common.{◌≡◌, ℕ, ◌+◌, ◌≤◌, true, [], option_map, refl, sym, ap, subst, ◌∙◌}
+use Rattle.gem_image.specs.Image.{Image, contents_of}
 use Rattle.gem_record.specs.History.{entry_of}
 use Rattle.gem_record.specs.declared.record.TxnRecord.{TxnRecord}
 use Rattle.gem_record.specs.declared.record.Entry.{Entry}
-use Rattle.gem_world.specs.World.{World, untouched, is_made}
+use Rattle.gem_world.specs.World.{untouched, is_made}
 use Rattle.gem_world.specs.Access as access
 use Rattle.object_programs.specs.Laws.{begun_at, Stays, AgreeOnTouched}
 use Rattle.gem_language.specs.Transaction.{Transaction}
 use Rattle.gem_language.proofs.Lists as lists
 use Rattle.run_records.specs.Record.{record_of}
-use Rattle.commit_check.specs.Conflicts.{last_change, is_touched}
+use Rattle.commit_check.specs.Conflicts.{is_touched}
 use Rattle.object_meaning.specs.Commands.{object_commands}
 use Rattle.object_meaning.specs.Opened.{Opened, session_serial, entry_commands, entry_setting, record_on}
 use Rattle.object_meaning.specs.Effect.{MergesFit, effect_at}
-use Rattle.object_meaning.specs.Events.{Event, Told, Standing, image_at, run_at_place, run_on_view, record_at_place, record_on_view, effect_of, after_events, standing, conflicts_at}
+use Rattle.object_meaning.specs.Events.{Told, Standing, image_at, run_at_place, run_on_view, record_at_place, record_on_view, effect_of, standing, conflicts_at}
 use Rattle.object_meaning.specs.Serial.{IsPlaced, IsRecorded, IsSerial, CanServe}
 use Rattle.history_laws.proofs.Unchanged.{IsUnchangedSince, unchanged_since}
-use Rattle.history_laws.specs.Commits.{CommitsKeep}
-use Rattle.history_laws.proofs.Sound.{AllSound, IsSoundAt}
+use Rattle.history_laws.proofs.Commits.{CommitsKeep}
 use Rattle.history_laws.proofs.Histories.{all_sound}
 use Rattle.history_laws.proofs.Touched.{touched_in_record, is_contained, touched_is_old}
 

@@ -1,21 +1,27 @@
 -- Each access is allowed by what is seen when it comes, or refused.
-use Rattle.std.proofs.Common.{◌≡◌, Bool, true, false, ◌⊎◌, inl, inr, List, [], ◌∷◌, refl, ap}
+use Rattle.std.proofs.Common.{◌≡◌, ℕ, true, false, ◌⊎◌, inl, inr, List, [], ◌∷◌, Option, Some, None, ap}
 use Rattle.std.specs.List.{AllByRecursion}
 use Rattle.std.proofs.lemmas.Bool.{cases_Bool}
-use Rattle.gem_world.specs.World.{Setting, shown}
-use Rattle.gem_world.specs.Access.{is_allowed}
+use Rattle.gem_world.specs.World.{Setting, World, shown}
+use Rattle.gem_world.specs.Access.{Access, is_allowed}
+use Rattle.object_programs.specs.Budget.{Budget}
 use Rattle.object_programs.specs.Atom.{access_answer}
-use Rattle.history_laws.specs.Accesses.{Asked, IsAllowed}
+use Rattle.history_laws.specs.Accesses.{Moment, IsJudged, IsAllowed}
 
-pub is_judged : (setting : Setting) (one : Asked) → IsAllowed setting one
-is_judged setting one = by (cases_Bool (is_allowed one.access one.name setting one.world))
-  where
-    by : (is_allowed one.access one.name setting one.world ≡ true)
-        ⊎ (is_allowed one.access one.name setting one.world ≡ false) → IsAllowed setting one
-    by (inl allowed) = inl allowed
-    by (inr refused) = inr (ap (λ b. access_answer b one.access one.name
-        (shown one.name setting one.world)) refused)
+access_judged : (setting : Setting) (world : World) (budget : Budget) (access : Access) (name : ℕ)
+    → (is_allowed access name setting world ≡ true) ⊎ (is_allowed access name setting world ≡ false)
+    → IsJudged setting world budget (Some (access, name))
+access_judged setting world budget access name (inl allowed) = inl allowed
+access_judged setting world budget access name (inr refused) =
+    inr (ap (λ b. access_answer b access name (shown name setting world)) refused)
 
-pub all_judged : (setting : Setting) (asked : List Asked) → AllByRecursion (IsAllowed setting) asked
+is_judged : (setting : Setting) (world : World) (budget : Budget) (asked : Option (Access × ℕ))
+    → IsJudged setting world budget asked
+is_judged setting world budget None = tt
+is_judged setting world budget (Some (access, name)) =
+    access_judged setting world budget access name (cases_Bool (is_allowed access name setting world))
+
+pub all_judged : (setting : Setting) (passed : List Moment) → AllByRecursion (IsAllowed setting) passed
 all_judged setting [] = tt
-all_judged setting (one ∷ rest) = (is_judged setting one, all_judged setting rest)
+all_judged setting (one ∷ rest) =
+    (is_judged setting one.world one.budget one.asked, all_judged setting rest)

@@ -1,12 +1,11 @@
 -- What a conflict shows that isn't of a lock is a commit after the view.
-use Rattle.std.proofs.Common.{◌≡◌, ◌≢◌, ℕ, ◌^◌, ◌≤◌, ◌<◌, inl, inr, Bool, true, false, cond, ◌&&◌, if◌then◌else◌, List, [], ◌∷◌, map, Contains, Option, Some, None, is_some, IsSome, option_map, Ordering, Less, Equal, Greater, nat_cmp, refl, sym, ap, ap₂, subst, ◌∙◌, arith}
+use Rattle.std.proofs.Common.{◌≡◌, ◌≢◌, ℕ, ◌<◌, inl, inr, Bool, true, false, cond, if◌then◌else◌, List, [], ◌∷◌, map, Contains, Option, Some, None, is_some, option_map, Ordering, Less, Equal, Greater, nat_cmp, refl, sym, ap, ◌∙◌, arith}
 use Rattle.std.specs.Ordering.{is_eq}
 use Rattle.std.specs.Option.{option_or}
 use Rattle.std.specs.FinMap.{get}
 use Rattle.std.proofs.lemmas.Bool.{false≢true, and_parts, cases_lt}
 use Rattle.std.proofs.lemmas.Option.{same_Some}
 use Rattle.std.proofs.lemmas.Map.Lookups.{exact_unsigned}
-use Rattle.gem_value.specs.Oid.{oid_number}
 use Rattle.gem_value.specs.declared.conflict.Conflict.{Conflict}
 use Rattle.gem_value.specs.declared.conflict.ConflictKind.{ConflictKind}
 use Rattle.gem_value.specs.declared.conflict.ConflictKind.TheVariants.{WriteReadLock, WriteWriteLock}
@@ -21,23 +20,23 @@ use Rattle.gem_record.specs.declared.record.TxnRecord.{TxnRecord}
 use Rattle.gem_record.specs.declared.record.Entry.{Entry}
 use Rattle.gem_update.specs.Update.{merged, merge_kind}
 use Rattle.gem_update.specs.declared.update.Update.{Update}
-use Rattle.gem_world.specs.World.{Setting, World, untouched, as_of, before_changes, shown, is_made}
-use Rattle.gem_world.specs.Changes.{with_body, updates_on, updates_by_name}
-use Rattle.object_programs.specs.Laws.{begun_at, Stays, AreSound, updated_by_all, UpdatesTell}
+use Rattle.gem_world.specs.World.{Setting, World, untouched, as_of, before_changes, is_made}
+use Rattle.gem_world.specs.Changes.{with_body, updates_on}
+use Rattle.object_programs.specs.Laws.{updated_by_all, UpdatesTell}
 use Rattle.object_programs.proofs.Told.{StaysTold, told_stays, told_first}
 use Rattle.gem_language.proofs.Lists as lists
 use Rattle.run_records.specs.Record.{record_of}
-use Rattle.commit_check.specs.Conflicts.{Place, changed_of, last_change, conflicts_of}
+use Rattle.commit_check.specs.Conflicts.{last_change}
 use Rattle.commit_check.specs.Table.{IsRefused, Stands, write_write, read_write, write_read_lock, write_write_lock, merge_refused}
 use Rattle.commit_check.proofs.Stood.{listed_stands}
 use Rattle.object_meaning.specs.Commands.{object_commands}
-use Rattle.object_meaning.specs.Opened.{Opened, session_serial, entry_commands, entry_setting, record_on}
-use Rattle.object_meaning.specs.Events.{Event, Told, Standing, image_at, run_on_view, record_on_view, after_events, standing, conflicts_at}
+use Rattle.object_meaning.specs.Opened.{Opened, entry_commands, entry_setting, record_on}
+use Rattle.object_meaning.specs.Events.{Told, Standing, image_at, run_on_view, record_on_view, standing, conflicts_at}
 use Rattle.object_meaning.specs.Serial.{IsTransaction, MayBeginAt, IsRecorded, IsSerial, CanServe}
 use Rattle.history_laws.proofs.Views.{IsGrown, is_grown}
 use Rattle.history_laws.proofs.Unchanged.{IsUnchangedSince, unchanged_since}
 use Rattle.history_laws.proofs.Drawn.{drawn_counter}
-use Rattle.history_laws.specs.Commits.{CommitsKeep}
+use Rattle.history_laws.proofs.Commits.{CommitsKeep}
 use Rattle.history_laws.proofs.Sound.{AllSound, at_view, sound_on_view, free_at_view}
 use Rattle.history_laws.proofs.Histories.{all_sound}
 use Rattle.history_laws.proofs.Merges.{merged_still}

@@ -1,41 +1,33 @@
 -- Every image of a history is sound, what it has stays, and the further names of a session are free.
-use Rattle.std.proofs.Common.{◌≡◌, ◌≢◌, ℕ, ◌+◌, ◌-◌, ◌^◌, ◌≤◌, ◌<◌, ◌⊎◌, inl, inr, ⊎_elim, Bool, true, false, cond, List, [], ◌∷◌, ◌++◌, length, Option, Some, None, is_some, IsSome, option_map, refl, sym, ap, subst, ◌∙◌, arith, append_assoc, append-nil}
-use Rattle.std.specs.List.{fold}
-use Rattle.std.specs.Ordering.{nat_cmp, eq_by_cmp, is_eq}
-use Rattle.std.specs.Cmp.{nat_cmp_total, tied_itself}
-use Rattle.std.specs.FinMap.{get, insert, get-insert, get-empty}
-use Rattle.std.specs.Option.{unwrap_or}
-use Rattle.std.proofs.lemmas.Bool.{false≢true, cases_lt, cases_eq}
+use Rattle.std.proofs.Common.{◌≡◌, ℕ, ◌+◌, ◌^◌, ◌≤◌, ◌<◌, ◌⊎◌, inl, inr, ⊎_elim, true, Option, None, is_some, option_map, refl, sym, ap, subst, ◌∙◌, arith}
+use Rattle.std.specs.FinMap.{get}
+use Rattle.std.proofs.lemmas.Bool.{false≢true}
 use Rattle.gem_value.specs.Oid.{oid_number}
 use Rattle.gem_object.specs.declared.object.Object.{Object}
 use Rattle.gem_image.specs.Image.{Image, IsImage, contents_of, objects_in, with_objects}
 use Rattle.gem_record.specs.declared.record.Entry.{Entry}
-use Rattle.gem_world.specs.World.{Setting, World, untouched}
+use Rattle.gem_world.specs.World.{Setting, untouched}
 use Rattle.gem_sound.specs.Sound.{IsSoundImage, IsSoundFor}
 use Rattle.object_programs.specs.Laws.{begun_at, Stays, AreSound, IsInReach}
 use Rattle.object_programs.proofs.Objects.{StaysSound, soundness_stays}
 use Rattle.object_programs.proofs.Reach.{StaysInReach, reach_stays}
 use Rattle.object_programs.proofs.Admits.{admits_image}
 use Rattle.object_programs.proofs.AtPlace.{sound_at}
-use Rattle.gem_language.specs.Commands.{Command}
-use Rattle.gem_language.specs.Transaction.{transaction}
 use Rattle.gem_language.proofs.Lists.{listed, next_grows}
 use Rattle.commit_check.proofs.Members.{IsOneOf}
-use Rattle.run_records.specs.Record.{record_of}
-use Rattle.object_meaning.specs.declared.event.What.TheVariants.{Placed, Held, Dropped, Left}
 use Rattle.object_meaning.specs.Commands.{object_commands}
-use Rattle.object_meaning.specs.Opened.{Opened, base_serial, session_serial, entry_commands}
-use Rattle.object_meaning.specs.Effect.{MergesFit, effect_at}
-use Rattle.object_meaning.specs.Events.{Event, Standing, image_at, next_counter, run_at_place, run_on_view, record_at_place, effect_of, after_event, before_events, after_events}
-use Rattle.object_meaning.specs.Serial.{IsTransaction, MayBeginAt, IsPlaced, IsSerialEvent, IsSerialFrom, CanServe}
+use Rattle.object_meaning.specs.Opened.{Opened, session_serial, entry_commands}
+use Rattle.object_meaning.specs.Effect.{MergesFit}
+use Rattle.object_meaning.specs.Events.{Standing, image_at, next_counter, run_at_place, run_on_view, record_at_place, effect_of}
+use Rattle.object_meaning.specs.Serial.{IsTransaction, MayBeginAt, CanServe}
+use Rattle.commit_soundness.specs.Placing.{Placing, record_placed, CanRun}
 use Rattle.history_laws.specs.Names.{NamesAreFree}
-use Rattle.history_laws.proofs.Views.{IsGrown, image_stays, image_now, is_grown, after_one_more, number_stays}
-use Rattle.history_laws.proofs.Effects.{IsChangedBy, tied}
+use Rattle.history_laws.proofs.Views.{IsGrown, image_now}
+use Rattle.history_laws.proofs.Effects.{IsChangedBy}
 use Rattle.history_laws.proofs.Unchanged.{IsPlacedAt, after_placed}
-use Rattle.history_laws.proofs.Stays.{stays_itself, stays_along, absent_before, user_stays}
-use Rattle.history_laws.proofs.Serials.{serials_differ, none_at_opening}
+use Rattle.history_laws.proofs.Stays.{absent_before, user_stays}
 use Rattle.history_laws.proofs.Drawn.{reach_first, drawn_counter, made_in_record, changed_there}
-use Rattle.history_laws.specs.Commits.{IsKeptBy, CommitsKeep}
+use Rattle.history_laws.proofs.Commits.{CommitsKeep}
 
 -- an image that was
 pub record IsSoundAt (s : Standing) (number : ℕ) : Type 0 where
@@ -153,12 +145,44 @@ module _ (o : Opened) (s : Standing) (e : Entry) (serves : CanServe o) (grown : 
 
   -- ---- what the commit changes
 
-  pub kept_by : CommitsKeep → MergesFit s.image (record_at_place o s e)
-      → IsKeptBy s.image (with_objects s.image (effect_of o s e))
+  abbrev placing : Placing
+  placing = record {
+    place = s.image;
+    view = view;
+    user = e.user;
+    serial = serial;
+    first = e.first_name;
+    commands = object_commands (entry_commands o.script e);
+    entry = e;
+    number = s.number + 1;
+  }
+
+  can_run : CanRun placing
+  can_run = record {
+    place = place_is_image;
+    view = at_view.image;
+    stays = at_view.stays;
+    sound = sound_for_place;
+    sound_view = sound_for_view;
+  }
+
+  fit_there : MergesFit s.image (record_at_place o s e) → MergesFit s.image (record_placed placing)
+  unfolding record_at_place run_at_place
+  fit_there merges = merges
+
+  pub next_is_image : CommitsKeep → MergesFit s.image (record_at_place o s e)
+      → IsImage (with_objects s.image (effect_of o s e))
   unfolding effect_of record_at_place run_at_place
-  kept_by law merges = law (object_commands (entry_commands o.script e)) s.image view e.user serial
-      e.first_name (s.number + 1) e place_is_image at_view.image at_view.stays sound_for_place
-      sound_for_view merges
+  next_is_image law merges = law.image placing can_run (fit_there merges)
+
+  pub next_is_sound : CommitsKeep → MergesFit s.image (record_at_place o s e)
+      → IsSoundImage (with_objects s.image (effect_of o s e))
+  unfolding effect_of record_at_place run_at_place
+  next_is_sound law merges = law.sound placing can_run (fit_there merges)
+
+  pub next_keeps : CommitsKeep → Stays s.image (with_objects s.image (effect_of o s e))
+  unfolding effect_of record_at_place run_at_place
+  next_keeps law = law.stays placing can_run
 
   changed_at : (name : ℕ) → IsChangedBy s.image (record_at_place o s e) name
       → (is_some (get s.image name) ≡ true)

@@ -1,13 +1,12 @@
 -- What stays in an image and in those after it: fixed parts, and users.
-use Rattle.std.proofs.Common.{◌≡◌, ℕ, Bool, true, false, Option, Some, None, is_some, IsSome, option_map, refl, sym, ap, subst, ◌∙◌}
+use Rattle.std.proofs.Common.{◌≡◌, ℕ, Option, Some, None, is_some, IsSome, option_map, refl, sym, ap, ◌∙◌}
 use Rattle.std.specs.Option.{option_and_then}
 use Rattle.std.proofs.lemmas.Bool.{false≢true}
-use Rattle.std.proofs.lemmas.Option.{same_Some}
 use Rattle.gem_object.specs.declared.body.Body.{Body}
 use Rattle.gem_object.specs.declared.body.Body.TheVariants.{Plain, Bytes, Dict, Class, Segment, User, Counter, Bag, RcDict, Queue}
-use Rattle.gem_image.specs.Image.{Image, Contents, Objects, objects_in}
+use Rattle.gem_image.specs.Image.{Image, Contents, objects_in}
 use Rattle.gem_sound.specs.Parts.{user_of, user_at}
-use Rattle.object_programs.specs.Fixed.{BodyKind, UserKind, body_kind, Fixed, fixed_of}
+use Rattle.object_programs.specs.Fixed.{body_kind, Fixed, fixed_of}
 use Rattle.object_programs.specs.Guard.{is_user}
 use Rattle.object_programs.specs.Laws.{Stays}
 use Rattle.object_programs.proofs.Bases.{some_there}

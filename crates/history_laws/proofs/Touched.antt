@@ -1,13 +1,12 @@
 -- What a record's transaction touched, and what the absence of conflicts says of it.
-use Rattle.std.proofs.Common.{◌≡◌, ℕ, ◌≤◌, ◌<◌, Bool, true, false, ◌||◌, inl, inr, List, [], ◌∷◌, length, Contains, Option, Some, None, IsSome, nat_eq, refl, sym, ap, ap₂, subst, ◌∙◌, arith}
+use Rattle.std.proofs.Common.{◌≡◌, ℕ, ◌≤◌, ◌<◌, Bool, true, false, ◌||◌, inl, inr, List, [], ◌∷◌, Contains, Option, Some, None, nat_eq, refl, sym, ap, ap₂, subst, ◌∙◌, arith}
 use Rattle.std.specs.Ordering.{nat_cmp, eq_by_cmp}
 use Rattle.std.specs.Cmp.{nat_cmp_total, unsigned_tied}
 use Rattle.std.specs.List.{list_any}
 use Rattle.std.specs.FinMap.{get}
 use Rattle.std.specs.FinSet.{from_list, contains-items, contains-from_list}
-use Rattle.std.proofs.lemmas.Bool.{false≢true, cases_lt, cases_Bool}
+use Rattle.std.proofs.lemmas.Bool.{false≢true, cases_lt}
 use Rattle.gem_object.specs.declared.object.Object.{Object}
-use Rattle.gem_image.specs.Image.{Image}
 use Rattle.gem_record.specs.declared.record.TxnRecord.{TxnRecord}
 use Rattle.gem_record.specs.declared.record.Entry.{Entry}
 use Rattle.gem_value.specs.declared.conflict.Conflict.{Conflict}
@@ -19,7 +18,7 @@ use Rattle.commit_check.proofs.Listed.{stands_listed}
 use Rattle.commit_check.proofs.Members.{contained}
 use Rattle.commit_check.proofs.Used.{from_any}
 
-same_tests : (name : ℕ) (names : List ℕ)
+pub same_tests : (name : ℕ) (names : List ℕ)
     → list_any (eq_by_cmp nat_cmp name) names ≡ list_any (nat_eq name) names
 same_tests name [] = refl
 same_tests name (first ∷ rest) = ap₂ ◌||◌ (unsigned_tied name first) (same_tests name rest)

@@ -1,16 +1,16 @@
 -- What no commit has changed since a view is as it was there.
-use Rattle.std.proofs.Common.{◌≡◌, ℕ, ◌+◌, ◌-◌, ◌≤◌, ◌<◌, ◌⊎◌, inl, inr, ⊎_elim, List, [], ◌∷◌, ◌++◌, Option, Some, None, refl, sym, ap, subst, ◌∙◌, arith}
+use Rattle.std.proofs.Common.{◌≡◌, ℕ, ◌+◌, ◌≤◌, ◌⊎◌, inl, inr, List, [], ◌∷◌, Some, sym, ap, subst, ◌∙◌, arith}
 use Rattle.std.specs.List.{fold}
 use Rattle.std.specs.FinMap.{get}
 use Rattle.std.proofs.lemmas.Bool.{cases_lt}
 use Rattle.gem_object.specs.declared.object.Object.{Object}
-use Rattle.gem_image.specs.Image.{with_objects, objects_in, contents_of}
+use Rattle.gem_image.specs.Image.{with_objects}
 use Rattle.gem_record.specs.declared.record.Entry.{Entry}
 use Rattle.commit_check.specs.Conflicts.{changed_of, last_change}
 use Rattle.object_meaning.specs.declared.event.What.TheVariants.{Placed, Held, Dropped, Left}
 use Rattle.object_meaning.specs.Opened.{Opened}
 use Rattle.object_meaning.specs.Events.{Event, Standing, image_at, effect_of, record_at_place, after_event, before_events, after_events}
-use Rattle.history_laws.proofs.Views.{IsGrown, grown_by, image_stays, image_now, after_more, is_grown}
+use Rattle.history_laws.proofs.Views.{IsGrown, grown_by, image_stays, image_now}
 use Rattle.history_laws.proofs.Effects.{IsChangedBy, after_commit}
 
 -- what stands at a name after a commit: what stood there, or an object that the commit changed

@@ -1,8 +1,9 @@
--- The accesses that commands make, each with what is seen when it comes.
-use Rattle.std.specs.Prelude.{◌≡◌, ◌⊎◌, ℕ, true, List, [], ◌∷◌, ◌++◌}
+-- The moments of a run: what is there whenever it looks at objects or changes them, and which access
+-- it makes then.
+use Rattle.std.specs.Prelude.{◌≡◌, ◌⊎◌, ℕ, true, List, [], ◌∷◌, ◌++◌, Contains, Option, Some, None}
 use Rattle.gem_record.specs.declared.record.Entry.{Entry}
 use Rattle.gem_world.specs.World.{Setting, World, untouched}
-use Rattle.gem_world.specs.Access.{Access, is_allowed}
+use Rattle.gem_world.specs.Access.{Access, a_write, is_allowed}
 use Rattle.object_programs.specs.Budget.{Budget}
 use Rattle.object_programs.specs.Atom.{Atom, Ask, Own, Kind, Made, Who, Put, Move, Note, Names, Make, Tick, Room, Show, refuses, access_fault, done}
 use Rattle.object_programs.specs.Run.{Run, give, fail, return_to, atom, seeing, become, and_then, ending, Ending, gives, returns, fails, State, perform}
@@ -12,66 +13,75 @@ use Rattle.object_meaning.specs.Commands.{object_commands}
 use Rattle.object_meaning.specs.Opened.{Opened, entry_commands, entry_setting}
 use Rattle.object_meaning.specs.Events.{Standing, image_at}
 
--- An access to an object, and what is there when it comes.
-pub record Asked : Type 0 where
-  pub access : Access
-  pub name : ℕ
+-- A moment of a run: what is there before one of its atoms, and its access, where it is one.
+pub record Moment : Type 0 where
   pub world : World
   pub budget : Budget
+  pub asked : Option (Access × ℕ)
 
-abbrev pub asked_by : {A : Type 0} → Atom A → World → Budget → List Asked
-asked_by (Ask access name) world budget =
-    record { access = access; name = name; world = world; budget = budget } ∷ []
-asked_by Own world budget = []
-asked_by (Kind name) world budget = []
-asked_by (Made name) world budget = []
-asked_by Who world budget = []
-asked_by (Put name body) world budget = []
-asked_by (Move name segment) world budget = []
-asked_by (Note name update) world budget = []
-asked_by (Names count) world budget = []
-asked_by (Make objects_at) world budget = []
-asked_by Tick world budget = []
-asked_by (Room slots) world budget = []
-asked_by (Show text) world budget = []
+abbrev pub asked_by : {A : Type 0} → Atom A → Option (Access × ℕ)
+asked_by (Ask access name) = Some (access, name)
+asked_by Own = None
+asked_by (Kind name) = None
+asked_by (Made name) = None
+asked_by Who = None
+asked_by (Put name body) = None
+asked_by (Move name segment) = None
+asked_by (Note name update) = None
+asked_by (Names count) = None
+asked_by (Make objects_at) = None
+asked_by Tick = None
+asked_by (Room slots) = None
+asked_by (Show text) = None
 
 module _ {B : Type 0} where
   -- those of a second program, where the first one gave an answer
-  abbrev pub asked_onward : {C : Type 0} → Ending C → State B → (C → State B → List Asked) → List Asked
-  asked_onward (gives answer) state second = second answer state
-  asked_onward (returns value home) state second = []
-  asked_onward (fails fault) state second = []
+  abbrev pub moments_onward : {C : Type 0} → Ending C → State B → (C → State B → List Moment)
+      → List Moment
+  moments_onward (gives answer) state second = second answer state
+  moments_onward (returns value home) state second = []
+  moments_onward (fails fault) state second = []
 
-  -- the accesses that performing a program makes, in their order
-  abbrev pub asked : {A : Type 0} → Run B A → Setting → State B → List Asked
-  asked (give answer) setting state = []
-  asked (fail fault) setting state = []
-  asked (return_to value home) setting state = []
-  asked (atom one) setting state = asked_by one state.world state.budget
-  asked (seeing see) setting state = asked (see state.budget state.local) setting state
-  asked (become local) setting state = []
-  asked (and_then first second) setting state =
+  -- the moments of a program that is performed, in their order
+  abbrev pub moments : {A : Type 0} → Run B A → Setting → State B → List Moment
+  moments (give answer) setting state = []
+  moments (fail fault) setting state = []
+  moments (return_to value home) setting state = []
+  moments (atom one) setting state =
+      record { world = state.world; budget = state.budget; asked = asked_by one } ∷ []
+  moments (seeing see) setting state = moments (see state.budget state.local) setting state
+  moments (become local) setting state = []
+  moments (and_then first second) setting state =
       let before = perform first setting state in
-      asked first setting state ++ asked_onward before.end before.state
-      (λ answer after. asked (second answer) setting after)
-  asked (ending first second) setting state =
+      moments first setting state ++ moments_onward before.end before.state
+      (λ answer after. moments (second answer) setting after)
+  moments (ending first second) setting state =
       let before = perform first setting state in
-      asked first setting state ++ asked (second before.end) setting before.state
+      moments first setting state ++ moments (second before.end) setting before.state
 
--- the accesses of commands, one after the other
-abbrev pub commands_asked : List Command → Setting → World → List Asked
-commands_asked [] setting world = []
-commands_asked (command ∷ rest) setting world =
-    asked (command_reply command) setting (begin_command world)
-    ++ commands_asked rest setting (command_outcome command setting world).state.world
+-- the moments of commands, one after the other
+abbrev pub command_moments : List Command → Setting → World → List Moment
+command_moments [] setting world = []
+command_moments (command ∷ rest) setting world =
+    moments (command_reply command) setting (begin_command world)
+    ++ command_moments rest setting (command_outcome command setting world).state.world
 
--- the accesses of a transaction at its place
-abbrev pub asked_at_place : Opened → Standing → Entry → List Asked
-asked_at_place o s e = commands_asked (object_commands (entry_commands o.script e))
+-- the moments of a transaction at its place
+abbrev pub moments_at_place : Opened → Standing → Entry → List Moment
+moments_at_place o s e = command_moments (object_commands (entry_commands o.script e))
     (entry_setting o e s.image (image_at s e.view)) (untouched e.first_name)
 
--- the user has the right, by what is seen then, or the access ends in E10 or E11
-abbrev pub IsAllowed : Setting → Asked → Type 0
-IsAllowed setting one = (is_allowed one.access one.name setting one.world ≡ true)
-    ⊎ ((done (Ask one.access one.name) setting one.world one.budget).answer
-    ≡ refuses (access_fault one.access one.name))
+-- The user has the right to an access, by what is seen when it comes, or it ends in E10 or E11.
+abbrev pub IsJudged : Setting → World → Budget → Option (Access × ℕ) → Type 0
+IsJudged setting world budget None = Unit {0}
+IsJudged setting world budget (Some (access, name)) = (is_allowed access name setting world ≡ true)
+    ⊎ ((done (Ask access name) setting world budget).answer ≡ refuses (access_fault access name))
+
+abbrev pub IsAllowed : Setting → Moment → Type 0
+IsAllowed setting moment = IsJudged setting moment.world moment.budget moment.asked
+
+-- in one of the moments the user might write the object of this name, by what is seen then
+pub record MightWrite (name : ℕ) (setting : Setting) (passed : List Moment) : Type 0 where
+  pub moment : Moment
+  pub passes : Contains passed moment
+  pub allowed : is_allowed a_write name setting moment.world ≡ true

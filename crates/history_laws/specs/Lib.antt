@@ -1,4 +1,3 @@
 pub mod Names
 pub mod Clean
-pub mod Commits
 pub mod Accesses

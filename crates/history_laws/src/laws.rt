@@ -20,12 +20,13 @@ ghost use Rattle.object_programs.specs.Laws.{Stays};
 ghost use Rattle.object_meaning.specs.declared.event.What.TheVariants.{Placed, Held, Dropped, Left};
 ghost use Rattle.object_meaning.specs.Opened.{Opened, entry_setting};
 ghost use Rattle.object_meaning.specs.Effect.{MergesFit, effect_at};
-ghost use Rattle.object_meaning.specs.Events.{Event, Told, told_more, image_at, next_counter, record_at_place, effect_of, after_events, standing, events_of, conflicts_at};
+ghost use Rattle.object_meaning.specs.Events.{Event, Told, Standing, told_more, image_at, next_counter, record_at_place, effect_of, after_events, standing, events_of, conflicts_at};
 ghost use Rattle.object_meaning.specs.Serial.{IsPlaced, IsOfScript, IsConsistent, IsSerial, IsRecorded, HoldsSome, CanServe};
 ghost use Rattle.history_laws.specs.Names.{NamesAreFree};
-ghost use Rattle.history_laws.specs.Accesses.{IsAllowed, asked_at_place};
+ghost use Rattle.history_laws.specs.Accesses.{IsAllowed, MightWrite, moments_at_place};
 ghost use Rattle.history_laws.specs.Clean.{IsHeldClean};
-ghost use Rattle.history_laws.specs.Commits.{CommitsKeep};
+
+use commit_soundness::laws::commits_keep_images_sound;
 
 /// What a view shows stays the same, whatever is committed later. The number of commits never
 /// falls, and grows by at most one with each event.
@@ -51,43 +52,49 @@ pub fn unchanged_since()
 /// Every image of a history is sound and can be stored, and each object of it is in the image that
 /// stands, with its fixed part.
 pub fn images_are_sound()
-    ensures image { (t : Told) (number : ℕ) → CommitsKeep → CanServe t.opened → IsSerial t
+    ensures image { (t : Told) (number : ℕ) → CanServe t.opened → IsSerial t
         → t.opened.number ≤ number → number ≤ (standing t).number
         → IsImage (image_at (standing t) number) }
-    ensures sound { (t : Told) (number : ℕ) → CommitsKeep → CanServe t.opened → IsSerial t
+    ensures sound { (t : Told) (number : ℕ) → CanServe t.opened → IsSerial t
         → t.opened.number ≤ number → number ≤ (standing t).number
         → IsSoundImage (image_at (standing t) number) }
-    ensures stays { (t : Told) (number : ℕ) → CommitsKeep → CanServe t.opened → IsSerial t
+    ensures stays { (t : Told) (number : ℕ) → CanServe t.opened → IsSerial t
         → t.opened.number ≤ number → number ≤ (standing t).number
         → Stays (image_at (standing t) number) (standing t).image }
-{}
+{
+    commits_keep_images_sound();
+}
 
 /// No object has a name that a session's transactions may still draw: its names of the session's
 /// serial are those that its commits drew, whose counters count from 1.
 pub fn names_are_free()
-    ensures free { (t : Told) (session : ℕ) → CommitsKeep → CanServe t.opened → IsSerial t
+    ensures free { (t : Told) (session : ℕ) → CanServe t.opened → IsSerial t
         → 1 ≤ session
         → NamesAreFree t.opened (standing t) session }
-    ensures some { (t : Told) (session : ℕ) → CommitsKeep → CanServe t.opened → IsSerial t
+    ensures some { (t : Told) (session : ℕ) → CanServe t.opened → IsSerial t
         → 1 ≤ next_counter (standing t) session }
-{}
+{
+    commits_keep_images_sound();
+}
 
 /// A record without conflicts is placed as it was recorded, if what its merges make can be stored:
 /// its transaction says and does at its place what it said and did on its view, so that what the
 /// commit changes is told by the record.
 pub fn placed_as_recorded()
-    ensures placed { (t : Told) (done : TxnRecord) → CommitsKeep → CanServe t.opened → IsSerial t
+    ensures placed { (t : Told) (done : TxnRecord) → CanServe t.opened → IsSerial t
         → IsRecorded t done → conflicts_at (standing t) done ≡ []
         → MergesFit (standing t).image done
         → IsPlaced t.opened t.events done.session (entry_of done) }
-    ensures recorded { (t : Told) (done : TxnRecord) → CommitsKeep → CanServe t.opened
+    ensures recorded { (t : Told) (done : TxnRecord) → CanServe t.opened
         → IsSerial t → IsRecorded t done → conflicts_at (standing t) done ≡ []
         → record_at_place t.opened (standing t) (entry_of done) ≡ done }
-    ensures effect { (t : Told) (done : TxnRecord) → CommitsKeep → CanServe t.opened → IsSerial t
+    ensures effect { (t : Told) (done : TxnRecord) → CanServe t.opened → IsSerial t
         → IsRecorded t done → conflicts_at (standing t) done ≡ []
         → effect_of t.opened (standing t) (entry_of done)
         ≡ effect_at (standing t).image ((standing t).number + 1) done }
-{}
+{
+    commits_keep_images_sound();
+}
 
 /// What a session claims of a transaction holds whatever other sessions do, and so do the names
 /// that are next for it.
@@ -106,7 +113,7 @@ pub fn records_stay()
 /// it, and the end of a session that holds one.
 pub fn one_event_more()
     ensures begins { (o : Opened) → IsConsistent (record { opened = o; events = [] }) }
-    ensures placed { (t : Told) (done : TxnRecord) → CommitsKeep → CanServe t.opened
+    ensures placed { (t : Told) (done : TxnRecord) → CanServe t.opened
         → IsConsistent t → IsRecorded t done → conflicts_at (standing t) done ≡ []
         → MergesFit (standing t).image done
         → IsConsistent (told_more t ((done.session, Placed (entry_of done)) ∷ [])) }
@@ -123,37 +130,46 @@ pub fn one_event_more()
     ensures left { (t : Told) (session : ℕ) → IsConsistent t
         → IsOfScript t.opened.script (session, Left) → HoldsSome (standing t) session
         → IsConsistent (told_more t ((session, Left) ∷ [])) }
-{}
+{
+    commits_keep_images_sound();
+}
 
 /// Where a session has held each object that it touched or wrote without a break since a point at
 /// which its view was up to date there, and holds each that it wrote or updated to write, and has
 /// itself placed no commit above the view since: then no change (C1, C2) and no lock (C3, C4)
 /// stands against its commit.
 pub fn clean_locks()
-    ensures { (t : Told) (done : TxnRecord) → CommitsKeep → CanServe t.opened → IsSerial t
+    ensures { (t : Told) (done : TxnRecord) → CanServe t.opened → IsSerial t
         → ((oid : ℕ) → IsTouched done oid ⊎ IsWritten done oid
         → IsHeldClean t.opened t.events done.session done.view oid)
         → ((oid : ℕ) → IsWritten done oid ⊎ IsUpdated done oid
         → kind_held (standing t).locks done.session oid ≡ Some LockKind.Write)
         → (conflict : Conflict) → Contains (conflicts_at (standing t) done) conflict
         → 5 ≤ kind_number conflict.kind }
-{}
+{
+    commits_keep_images_sound();
+}
 
 /// A conflict that isn't one of locks shows a commit after the view: what no commit has changed
 /// since is as the transaction saw it, and there its updates are accepted.
 pub fn shown_after_view()
-    ensures { (t : Told) (done : TxnRecord) → CommitsKeep → CanServe t.opened → IsSerial t
+    ensures { (t : Told) (done : TxnRecord) → CanServe t.opened → IsSerial t
         → IsRecorded t done
         → (conflict : Conflict) → Contains (conflicts_at (standing t) done) conflict
         → conflict.kind ≢ WriteReadLock → conflict.kind ≢ WriteWriteLock
         → done.view < conflict.shown }
-{}
+{
+    commits_keep_images_sound();
+}
 
 /// Every access of a transaction at its place is one that its user has the right to there, by what
-/// the transaction sees when the access comes; else it is refused (E10, E11).
+/// the transaction sees when the access comes; else it is refused (E10, E11). And it writes and
+/// updates no object that the user might not write in one of the moments of this run.
 pub fn accesses_are_allowed()
-    ensures { (t : Told) (e : Entry)
-        → AllByRecursion
-        (IsAllowed (entry_setting t.opened e (standing t).image (image_at (standing t) e.view)))
-        (asked_at_place t.opened (standing t) e) }
+    ensures each { (o : Opened) (s : Standing) (e : Entry) → AllByRecursion
+        (IsAllowed (entry_setting o e s.image (image_at s e.view))) (moments_at_place o s e) }
+    ensures changed { (o : Opened) (s : Standing) (e : Entry) (name : ℕ)
+        → IsWritten (record_at_place o s e) name ⊎ IsUpdated (record_at_place o s e) name
+        → MightWrite name (entry_setting o e s.image (image_at s e.view))
+        (moments_at_place o s e) }
 {}

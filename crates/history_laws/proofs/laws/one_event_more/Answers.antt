@@ -5,7 +5,11 @@ pub returns-clause-begins : goal.returns-clause-begins
 returns-clause-begins c = consistent_first
 
 pub returns-clause-placed : goal.returns-clause-placed
-returns-clause-placed c = placed_more
+returns-clause-placed c t done = placed_more t done (record {
+  sound = c.commits_keep_images_sound.ensures.sound;
+  image = c.commits_keep_images_sound.ensures.image;
+  stays = c.commits_keep_images_sound.ensures.stays;
+})
 
 pub returns-clause-held : goal.returns-clause-held
 returns-clause-held c = held_more

@@ -2,4 +2,8 @@ use Rattle.history_laws.proofs.Shown.{shown_after_view}
 use Rattle.history_laws.proofs.laws.shown_after_view.Goals as goal
 
 pub returns : goal.returns
-returns c = shown_after_view
+returns c t done = shown_after_view t done (record {
+  sound = c.commits_keep_images_sound.ensures.sound;
+  image = c.commits_keep_images_sound.ensures.image;
+  stays = c.commits_keep_images_sound.ensures.stays;
+})
