@@ -4,7 +4,7 @@ use Rattle.gem_object.specs.declared.object.Object.{Object}
 use Rattle.gem_image.specs.Image.{Image, with_objects}
 use Rattle.commit_check.specs.Conflicts.{merged_objects}
 use Rattle.object_meaning.specs.declared.event.What.TheVariants.{Placed}
-use Rattle.object_meaning.specs.Effect.{MergesFit}
+use Rattle.object_meaning.specs.Effect.{MergesFit, effect_at}
 use Rattle.object_meaning.specs.Events.{Told, told_more, standing, conflicts_at}
 use Rattle.object_meaning.specs.Serial.{IsRecorded}
 use Rattle.gem_record.specs.History.{entry_of}
@@ -86,11 +86,14 @@ invariant_of-self-2 g c =
     let recorded = subst (λ (t : Told). IsRecorded t done) (sym c.self.view_is) c.requires.recorded in
     let none = subst (λ (t : Told). conflicts_at (standing t) done ≡ []) (sym c.self.view_is) c.requires.no_conflict in
     let fit = subst (λ (t : Told). MergesFit (standing t).image done) (sym c.self.view_is) c.requires.fit in
+    let image_is : c.in_ok-image.image ≡ with_objects inside.image (effect_at inside.image (inside.number + 1) done) =
+    c.in_ok-image.ensures.image ∙ ap (with_objects inside.image) made in
+    let entries_are : c.push-2.new.self.items ≡ inside.history.items ++ entry_of done ∷ [] =
+    c.in-Ok-push.ensures.items ∙ ap₂ (λ entries e. entries ++ e ∷ []) c.in_ok-reserve.ensures.items c.entry-2.ensures in
+    let events_are : c.push.new.self.items ≡ inside.events.items ++ (done.session, Placed (entry_of done)) ∷ [] =
+    c.in-Ok.ensures.items ∙ ap₂ (λ events e. events ++ (done.session, Placed e) ∷ []) c.in_ok-reserve-2.ensures.items c.entry.ensures in
     placed_stone t inside.image inside.number inside.locks inside.history.items _ stone done recorded
     (c.placed_as_recorded.ensures.placed t done stone.opening stone.consistent.serial recorded none fit)
     (c.placed_as_recorded.ensures.effect t done stone.opening stone.consistent.serial recorded none)
-    c.in_ok-image.image _ _ _
-    (c.in_ok-image.ensures.image ∙ ap (with_objects inside.image) made)
-    (c.in-Ok-push.ensures.items ∙ ap₂ (λ entries e. entries ++ e ∷ []) c.in_ok-reserve.ensures.items c.entry-2.ensures)
-    (c.in-Ok.ensures.items ∙ ap₂ (λ events e. events ++ (done.session, Placed e) ∷ []) c.in_ok-reserve-2.ensures.items c.entry.ensures)
+    c.in_ok-image.image _ _ _ image_is entries_are events_are
     (omega (arith, length_is, counted, reserved, kept, grown))
