@@ -114,7 +114,7 @@ fn change(image: &Image, transaction: &TxnRecord, oid: Oid) -> Option<Conflict>
     ensures { result ≡ on_change image.now transaction.now oid }
 {
     let object = image.look(oid)?;
-    if object.body.is_shared() || object.changed <= transaction.view {
+    if object.changed <= transaction.view {
         return None;
     }
     match change_kind(

@@ -13,12 +13,8 @@ use Rattle.object_meaning.specs.Opened.{Opened, run_at, record_on}
 use Rattle.object_meaning.specs.Events.{Event, Told, Standing, told_more, next_counter, run_at_place, run_on_view, record_on_view, after_event, after_events, events_of}
 use Rattle.object_meaning.specs.Serial.{EndedBefore, MayBeginAt, IsRecorded}
 use Rattle.history_laws.proofs.Views.{after_more, views_stay, number_stays}
+use Rattle.history_laws.proofs.Turns.{not_taken}
 use Rattle.history_laws.proofs.Histories.{IsCounterNow, counter_after}
-
-not_taken : (taken : Bool) (x : Event) (xs : List Event) → cond taken (x ∷ xs) xs ≡ []
-    → (taken ≡ false) × (xs ≡ [])
-not_taken true x xs empty = absurd (omega (arith, ap length empty))
-not_taken false x xs empty = (refl, empty)
 
 -- events of other sessions name none of the session's commands
 pub apart_of_others : (session first : ℕ) (es : List Event) → events_of session es ≡ []

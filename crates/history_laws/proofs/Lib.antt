@@ -9,6 +9,7 @@ pub mod Sound
 pub mod Histories
 pub mod Touched
 pub mod Placed
+pub mod Turns
 pub mod OneMore
 pub mod Apart
 pub mod Locked
