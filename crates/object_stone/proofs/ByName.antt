@@ -43,10 +43,10 @@ module _ {X : Type 0} where
   put_inserts key value (pair ∷ list) = elim (nat_cmp key pair.0) as (λ o.
       by_order o ((key, value) ∷ pair ∷ list) ((pair.0, value) ∷ list) (pair ∷ put nat_cmp key value list)
       ≡ match_ordering o ((key, value) ∷ pair ∷ list) ((pair.0, value) ∷ list) (pair ∷ insert_entry nat_cmp list key value)) [
-    | Less ↦ refl
-    | Equal ↦ refl
-    | Greater ↦ ap (λ more. pair ∷ more) (put_inserts key value list)
-  ]
+        | Less ↦ refl
+        | Equal ↦ refl
+        | Greater ↦ ap (λ more. pair ∷ more) (put_inserts key value list)
+      ]
 
   none_there : entries (empty {X = X} {R = nat_cmp}) ≡ []
   none_there = nil_from_length _ (sym (len-entries (empty {X = X} {R = nat_cmp})) ∙ len-empty nat_cmp X)

@@ -19,9 +19,8 @@ use Rattle.object_stone.specs.declared.port.LockAnswer.TheVariants.{Granted, Den
 use Rattle.std.specs.declared.alloc.AllocError.{AllocError}
 use Rattle.object_stone.specs.declared.port.Begun.{Begun}
 use Rattle.object_stone.specs.Stone.{is_session}
-use Rattle.object_stone.specs.Port.{PortState, BeginSays, CommitSays, LockSays, UnlockSays, LogoutSays, GoesOn, AnswerFits, LockFits, event_of_answer, event_of_lock, dropping}
+use Rattle.object_stone.specs.Port.{PortState, NamesAreFree, BeginSays, CommitSays, LockSays, UnlockSays, LogoutSays, GoesOn, AnswerFits, LockFits, event_of_answer, event_of_lock, dropping}
 use Rattle.object_stone.proofs.OneMore.{session_bounds}
-use Rattle.object_stone.proofs.Wanted.{images_are_sound, names_are_free}
 
 -- a Stone that nobody else uses, as a port
 abbrev pub alone : Told → PortState
@@ -88,32 +87,32 @@ module _ (before : Told) where
   then_stands : (P : Standing → Type 0) → P (standing before) → P (after_events before.opened (before.events ++ []))
   then_stands P holds = subst (λ es. P (after_events before.opened es)) (sym (append-nil before.events)) holds
 
-  pub begins_alone : (session : ℕ) (image : Image) (number : ℕ) → CanServe before.opened → IsConsistent before
-      → is_session before.opened.script session ≡ true → image ≡ (standing before).image → number ≡ (standing before).number
-      → BeginSays before.opened session before.events before.events image number
-  begins_alone session image number opening consistent serves image_is number_is =
-      let bounds = session_bounds before.opened session serves in
-      record {
-        others_came = ([], refl, sym (append-nil before.events));
-        image_is = image_is;
-        number_is = number_is;
-        sound = subst IsSoundImage (sym image_is) (images_are_sound before opening consistent).1;
-        serial_bound =
-            let serials = opening.serials in
-            let first = bounds.0 in
-            let last = bounds.1 in
-            omega (arith, serials, first, last);
-        free = names_are_free before session opening consistent bounds.0 bounds.1;
-      }
+  module _ (session : ℕ) (opening : CanServe before.opened) (sound : IsSoundImage (standing before).image)
+      (free : NamesAreFree before.opened (standing before) session)
+      (serves : is_session before.opened.script session ≡ true) where
+    begins_alone : (image : Image) (number : ℕ) → image ≡ (standing before).image → number ≡ (standing before).number
+        → BeginSays before.opened session before.events before.events image number
+    begins_alone image number image_is number_is =
+        let bounds = session_bounds before.opened session serves in
+        record {
+          others_came = ([], refl, sym (append-nil before.events));
+          image_is = image_is;
+          number_is = number_is;
+          sound = subst IsSoundImage (sym image_is) sound;
+          serial_bound =
+              let serials = opening.serials in
+              let first = bounds.0 in
+              let last = bounds.1 in
+              omega (arith, serials, first, last);
+          free = free;
+        }
 
-  pub begun_alone : (session : ℕ) (result : Result Begun AllocError) → CanServe before.opened → IsConsistent before
-      → is_session before.opened.script session ≡ true
-      → IfOk result (λ (b : Begun). b.image ≡ (standing before).image)
-      → IfOk result (λ (b : Begun). b.number ≡ (standing before).number)
-      → IfOk result (λ (b : Begun). BeginSays before.opened session before.events before.events b.image b.number)
-  begun_alone session (Ok b) opening consistent serves image_is number_is =
-      begins_alone session b.image b.number opening consistent serves image_is number_is
-  begun_alone session (Err e) opening consistent serves image_is number_is = tt
+    pub begun_alone : (result : Result Begun AllocError)
+        → IfOk result (λ (b : Begun). b.image ≡ (standing before).image)
+        → IfOk result (λ (b : Begun). b.number ≡ (standing before).number)
+        → IfOk result (λ (b : Begun). BeginSays before.opened session before.events before.events b.image b.number)
+    begun_alone (Ok b) image_is number_is = begins_alone b.image b.number image_is number_is
+    begun_alone (Err e) image_is number_is = tt
 
   pub commit_alone : (after : Told) (done : TxnRecord) (answer : CommitAnswer) → after ≡ told_more before (event_of_answer done answer)
       → AnswerFits (standing before) done answer

@@ -19,37 +19,6 @@ use Rattle.object_meaning.specs.Opened.{largest_serial}
 abbrev larger : ℕ → ℕ × Object → ℕ
 larger largest entry = max largest (serial_of entry.0)
 
-at_least_first : (most : ℕ) (list : List (ℕ × Object)) → most ≤ fold larger most list
-at_least_first most [] = omega arith
-at_least_first most (entry ∷ rest) =
-    let more = at_least_first (larger most entry) rest in omega (arith, more)
-
-equal : (r : Ordering) → is_eq r ≡ true → r ≡ Equal
-equal Less is = absurd (false≢true is)
-equal Equal is = refl
-equal Greater is = absurd (false≢true is)
-
-tied : (a b : ℕ) → eq_by_cmp nat_cmp a b ≡ true → a ≡ b
-tied a b is = exact_unsigned a b (equal (nat_cmp a b) is)
-
-by_test : (name : ℕ) (object : Object) (most : ℕ) (entry : ℕ × Object) (rest : List (ℕ × Object))
-    → (find nat_cmp name rest ≡ Some object → serial_of name ≤ fold larger (larger most entry) rest)
-    → (b : Bool) → eq_by_cmp nat_cmp name entry.0 ≡ b → cond b (Some entry.1) (find nat_cmp name rest) ≡ Some object
-    → serial_of name ≤ fold larger (larger most entry) rest
-by_test name object most entry rest later true is found =
-    let more = at_least_first (larger most entry) rest in
-    let serial : serial_of name ≡ serial_of entry.0 = ap serial_of (tied name entry.0 is) in
-    omega (arith, more, serial)
-by_test name object most entry rest later false is found = later found
-
--- what is found has no larger serial
-at_least_found : (name : ℕ) (object : Object) (most : ℕ) (list : List (ℕ × Object))
-    → find nat_cmp name list ≡ Some object → serial_of name ≤ fold larger most list
-at_least_found name object most [] found = absurd (none-some object found)
-at_least_found name object most (entry ∷ rest) found =
-    by_test name object most entry rest (at_least_found name object (larger most entry) rest)
-    (eq_by_cmp nat_cmp name entry.0) refl found
-
 -- a bound of all that are found bounds the largest
 at_most : (bound most : ℕ) (list : List (ℕ × Object)) → most ≤ bound
     → ((name : ℕ) (object : Object) → find nat_cmp name list ≡ Some object → serial_of name ≤ bound)
@@ -68,12 +37,6 @@ at_most bound most (entry ∷ rest) first all =
 
     later : (name : ℕ) (object : Object) → find nat_cmp name rest ≡ Some object → serial_of name ≤ bound
     later name object found = on_test (eq_by_cmp nat_cmp name entry.0) name object refl found
-
--- the serial of a name of the image is at most the largest
-pub has_serial : (image : Image) (name : ℕ) (object : Object) → get image name ≡ Some object
-    → serial_of name ≤ largest_serial image
-has_serial image name object stands =
-    at_least_found name object 0 (entries image) (sym (get-entries image name) ∙ stands)
 
 below_next : (serial name : ℕ) → name < (serial + 1) * 2 ^ 24 → serial_of name ≤ serial
 below_next serial name below = omega (arith, below)

@@ -3,8 +3,6 @@ mod Kept
 mod Largest
 mod Spelled
 mod Fits
-mod Wanted
-mod Events
-mod Exclusive
 mod OneMore
 mod Calls
+mod First

@@ -1,30 +1,29 @@
 -- What a Stone is when it has one event more.
 use Rattle.std.proofs.Common.{◌≡◌, ℕ, ◌+◌, ◌≤◌, ◌<◌, ◌^◌, ◌&&◌, ◌↔◌, IsTrue, is_some, Option, Bool, true, false, List, [], ◌∷◌, ◌++◌, length, All, None, Some, IsSome, refl, sym, ap, ap₂, subst, ◌∙◌, arith, append-nil}
 use Rattle.std.specs.List.{AllByRecursion}
-use Rattle.std.specs.FinMap.{len, empty, get, len-empty}
+use Rattle.std.specs.FinMap.{len, empty, get, insert, len-empty}
 use Rattle.std.proofs.lemmas.Bool.{leb-true, false≢true}
 use Rattle.std.proofs.lemmas.List.{length-append}
 use Rattle.std.proofs.lemmas.List.Elements.{filter_map-append}
 use Rattle.gem_object.specs.Spelling.{IsSpelled}
-use Rattle.gem_image.specs.Image.{Image, AreSpelled, with_objects}
+use Rattle.gem_image.specs.Image.{Image, IsImage, with_objects}
 use Rattle.gem_record.specs.History.{entry_of}
 use Rattle.gem_record.specs.declared.record.Entry.{Entry}
 use Rattle.gem_record.specs.declared.record.TxnRecord.{TxnRecord}
 use Rattle.lock_table.specs.LockKind.{kind_granted}
-use Rattle.lock_table.specs.Locks.{LockSet, holding_cmp, kind_held, after_held, after_dropped, after_left, denied_for}
-use Rattle.lock_table.specs.Granted.{IsExclusive}
+use Rattle.lock_table.specs.Locks.{LockSet, holding_cmp, holding, kind_held, after_held, after_dropped, after_left, denied_for}
 use Rattle.lock_table.specs.declared.lock.LockKind.{LockKind}
+use Rattle.lock_table.specs.declared.lock.LockKind.TheVariants.{Read, Write}
 use Rattle.lock_table.proofs.Counts.{held_more, dropped_fewer, left_fewer}
 use Rattle.object_meaning.specs.declared.event.What.TheVariants.{Placed, Held, Dropped, Left}
 use Rattle.object_meaning.specs.Opened.{Opened}
-use Rattle.object_meaning.specs.Effect.{MergesFit, effect_at, by_name}
-use Rattle.object_meaning.specs.Events.{Event, Told, Standing, told_more, effect_of, after_event, after_events, standing, conflicts_at, placed_entry, entries_of}
+use Rattle.object_meaning.specs.Effect.{effect_at}
+use Rattle.object_meaning.specs.Events.{Event, Told, Standing, told_more, image_at, effect_of, after_event, after_events, standing, placed_entry, entries_of}
 use Rattle.object_meaning.specs.Serial.{IsPlaced, IsSerialEvent, IsSerial, IsOfScript, IsConsistent, IsRecorded, HoldsSome, CanServe}
 use Rattle.object_stone.specs.Stone.{IsStone, is_session}
-use Rattle.object_stone.proofs.Events.{after_one_more, one_more, number_at_most}
-use Rattle.object_stone.proofs.Exclusive.{exclusive_now, still_free, told_again}
+use Rattle.history_laws.proofs.Views.{after_one_more, number_at_most, image_now}
+use Rattle.history_laws.proofs.OneMore.{consistent_more, free_as_granted}
 use Rattle.object_stone.proofs.Spelled.{effect_spelled}
-use Rattle.object_stone.proofs.Wanted.{placed_as_recorded, images_are_sound}
 
 both_true : (a b : Bool) → (a && b) ≡ true → (a ≡ true) × (b ≡ true)
 both_true true b is = (refl, is)
@@ -50,6 +49,19 @@ nothing_held locks session b exactly is oid = by (kind_held locks session oid) r
     by : (held : Option LockKind) → kind_held locks session oid ≡ held → held ≡ None
     by None held_is = refl
     by (Some kind) held_is = absurd (false≢true (sym is ∙ exactly.1 (oid, ap is_some held_is)))
+
+granted_again : (before : Option LockKind) (asked : LockKind)
+    → kind_granted before (kind_granted before asked) ≡ kind_granted before asked
+granted_again None asked = refl
+granted_again (Some Read) asked = refl
+granted_again (Some Write) asked = refl
+
+-- told with the kind that it then has, a grant changes the same
+told_again : (locks : LockSet) (session oid : ℕ) (asked : LockKind)
+    → after_held locks session oid (kind_granted (kind_held locks session oid) asked)
+    ≡ after_held locks session oid asked
+told_again locks session oid asked =
+    ap (insert locks (holding session oid)) (granted_again (kind_held locks session oid) asked)
 
 -- What a Stone is before its first event.
 pub first_stone : (o : Opened) (events : List Event) (image : Image) (locks : LockSet)
@@ -121,7 +133,7 @@ module _ (t : Told) (image : Image) (number : ℕ) (locks : LockSet) (history : 
             ∙ sym (filter_map-append placed_entry t.events (event ∷ [])) ∙ ap entries_of (sym events_are);
         opening = stone.opening;
         consistent = subst (λ es. IsConsistent (record t { events = es })) (sym events_are)
-            (one_more t event stone.consistent of_script serial);
+            (consistent_more t event stone.consistent of_script serial);
         enough = omega (arith, longer, enough);
       }
 
@@ -134,19 +146,22 @@ module _ (t : Told) (image : Image) (number : ℕ) (locks : LockSet) (history : 
       → events ≡ t.events ++ (session, Held oid kind) ∷ [] → length t.events + (len locks + 2) ≤ more
       → IsStone (record t { events = events }) image number after history more
   held_stone session oid asked kind after events more serves there free kind_is after_is events_are room_is =
-      let exclusive = subst IsExclusive (sym stone.locks_are) (exclusive_now t stone.consistent.serial) in
-      let now_free : denied_for locks session oid kind ≡ None =
-      ap (denied_for locks session oid) kind_is ∙ still_free locks session oid asked exclusive free in
+      let stands = (standing t).locks in
+      let free_there = subst (λ (l : LockSet). denied_for l session oid asked ≡ None) stone.locks_are free in
+      let is_there : kind ≡ kind_granted (kind_held stands session oid) asked =
+      kind_is ∙ ap (λ (l : LockSet). kind_granted (kind_held l session oid) asked) stone.locks_are in
+      let now_free : denied_for stands session oid kind ≡ None =
+      ap (denied_for stands session oid) is_there ∙ free_as_granted t session oid asked stone.consistent.serial free_there in
       let again : after ≡ after_held locks session oid kind =
       after_is ∙ sym (ap (after_held locks session oid) kind_is ∙ told_again locks session oid asked) in
       let count = held_more locks session oid asked in
       let counted : len after ≤ len locks + 1 = subst (λ (l : LockSet). len l ≤ len locks + 1) (sym after_is) count in
       next_stone (session, Held oid kind) image number after history events more
-          (session_bounds t.opened session serves)
-          (subst (λ (l : LockSet). denied_for l session oid kind ≡ None) stone.locks_are now_free, there)
-          events_are stone.image_is stone.number_is
-          (again ∙ ap (λ (l : LockSet). after_held l session oid kind) stone.locks_are)
-          (sym (append-nil history)) (omega (arith, counted, room_is))
+      (session_bounds t.opened session serves)
+      (now_free, there)
+      events_are stone.image_is stone.number_is
+      (again ∙ ap (λ (l : LockSet). after_held l session oid kind) stone.locks_are)
+      (sym (append-nil history)) (omega (arith, counted, room_is))
 
   -- the session gave its lock on the object back
   pub dropped_stone : (session oid : ℕ) (after : LockSet) (events : List Event) (more : ℕ)
@@ -158,11 +173,11 @@ module _ (t : Told) (image : Image) (number : ℕ) (locks : LockSet) (history : 
       let counted : len after + 1 ≡ len locks = subst (λ (l : LockSet). len l + 1 ≡ len locks) (sym after_is) count in
       let enough = stone.enough in
       next_stone (session, Dropped oid) image number after history events more
-          (session_bounds t.opened session serves)
-          (subst (λ (l : LockSet). IsSome (kind_held l session oid)) stone.locks_are held)
-          events_are stone.image_is stone.number_is
-          (after_is ∙ ap (λ (l : LockSet). after_dropped l session oid) stone.locks_are)
-          (sym (append-nil history)) (omega (arith, counted, enough, larger))
+      (session_bounds t.opened session serves)
+      (subst (λ (l : LockSet). IsSome (kind_held l session oid)) stone.locks_are held)
+      events_are stone.image_is stone.number_is
+      (after_is ∙ ap (λ (l : LockSet). after_dropped l session oid) stone.locks_are)
+      (sym (append-nil history)) (omega (arith, counted, enough, larger))
 
   -- the session left
   pub left_stone : (session : ℕ) (after : LockSet) (events : List Event) (more : ℕ)
@@ -174,11 +189,11 @@ module _ (t : Told) (image : Image) (number : ℕ) (locks : LockSet) (history : 
       let counted : len after + 1 ≤ len locks = subst (λ (l : LockSet). len l + 1 ≤ len locks) (sym after_is) count in
       let enough = stone.enough in
       next_stone (session, Left) image number after history events more
-          (session_bounds t.opened session serves)
-          (subst (λ (l : LockSet). HoldsSome (record (standing t) { locks = l }) session) stone.locks_are held)
-          events_are stone.image_is stone.number_is
-          (after_is ∙ ap (λ (l : LockSet). after_left l session) stone.locks_are)
-          (sym (append-nil history)) (omega (arith, counted, enough, larger))
+      (session_bounds t.opened session serves)
+      (subst (λ (l : LockSet). HoldsSome (record (standing t) { locks = l }) session) stone.locks_are held)
+      events_are stone.image_is stone.number_is
+      (after_is ∙ ap (λ (l : LockSet). after_left l session) stone.locks_are)
+      (sym (append-nil history)) (omega (arith, counted, enough, larger))
 
   -- a session that holds a lock has room for an event
   pub room_to_drop : (session oid : ℕ) → IsSome (kind_held locks session oid) → length t.events < room
@@ -187,17 +202,15 @@ module _ (t : Told) (image : Image) (number : ℕ) (locks : LockSet) (history : 
       let enough = stone.enough in
       omega (arith, count, enough)
 
-  module _ (done : TxnRecord) (recorded : IsRecorded t done) (none : conflicts_at (standing t) done ≡ [])
-      (fit : MergesFit (standing t).image done) where
-    placed : IsPlaced t.opened t.events done.session (entry_of done)
-        × (effect_of t.opened (standing t) (entry_of done) ≡ effect_at (standing t).image ((standing t).number + 1) done)
-    placed = placed_as_recorded t done stone.opening stone.consistent recorded none fit
-
+  module _ (done : TxnRecord) (recorded : IsRecorded t done)
+      (placed : IsPlaced t.opened t.events done.session (entry_of done))
+      (effect : effect_of t.opened (standing t) (entry_of done)
+      ≡ effect_at (standing t).image ((standing t).number + 1) done) where
     effect_is : effect_at image (number + 1) done ≡ effect_of t.opened (standing t) (entry_of done)
-    effect_is = ap₂ (λ (i : Image) (n : ℕ). effect_at i (n + 1) done) stone.image_is stone.number_is ∙ sym placed.1
+    effect_is = ap₂ (λ (i : Image) (n : ℕ). effect_at i (n + 1) done) stone.image_is stone.number_is ∙ sym effect
 
     -- the image that the effect makes
-    pub next_image_is : with_objects image (effect_at image (number + 1) done)
+    next_image_is : with_objects image (effect_at image (number + 1) done)
         ≡ with_objects (standing t).image (effect_of t.opened (standing t) (entry_of done))
     next_image_is = ap₂ with_objects stone.image_is effect_is
 
@@ -210,16 +223,23 @@ module _ (t : Told) (image : Image) (number : ℕ) (locks : LockSet) (history : 
         → IsStone (record t { events = events }) next (number + 1) locks entries more
     placed_stone next entries events more next_is entries_are events_are room_is =
         next_stone (done.session, Placed (entry_of done)) next (number + 1) locks entries events more
-        recorded.of_script.session placed.0 events_are (next_is ∙ next_image_is)
+        recorded.of_script.session placed events_are (next_is ∙ next_image_is)
         (ap (λ (n : ℕ). n + 1) stone.number_is) stone.locks_are entries_are (omega (arith, room_is))
 
-    -- the objects of its effect have a spelling
-    pub effect_has_spelling : All (λ entry. IsSpelled entry.1) (effect_at image (number + 1) done)
+    -- the Stone's events with the commit, as what it was opened with and they tell it
+    abbrev with_commit : Told
+    with_commit = told_more t ((done.session, Placed (entry_of done)) ∷ [])
+
+    -- they are consistent
+    pub commit_consistent : IsConsistent with_commit
+    commit_consistent = consistent_more t (done.session, Placed (entry_of done)) stone.consistent recorded.of_script.session placed
+
+    -- the objects of its effect have a spelling, where the image that then stands is one
+    pub effect_has_spelling : IsImage (image_at (standing with_commit) (standing with_commit).number)
+        → All (λ entry. IsSpelled entry.1) (effect_at image (number + 1) done)
     unfolding effect_at
-    effect_has_spelling =
-        let event : Event = (done.session, Placed (entry_of done)) in
-        let sound = images_are_sound (told_more t (event ∷ [])) stone.opening
-        (one_more t event stone.consistent recorded.of_script.session placed.0) in
-        let is : (standing (told_more t (event ∷ []))).image ≡ with_objects image (effect_at image (number + 1) done) =
-        ap (λ (s : Standing). s.image) (after_one_more t.opened t.events event) ∙ sym next_image_is in
-        effect_spelled image _ (subst AreSpelled is sound.0.spelled)
+    effect_has_spelling is_image =
+        let stands : (standing with_commit).image ≡ with_objects image (effect_at image (number + 1) done) =
+        ap (λ (s : Standing). s.image) (after_one_more t.opened t.events (done.session, Placed (entry_of done))) ∙ sym next_image_is in
+        let here = subst IsImage (image_now (standing with_commit) (standing with_commit).number refl ∙ stands) is_image in
+        effect_spelled image _ here.spelled

@@ -69,4 +69,4 @@ nodes_bound t now image number done merged objects before after same image_is nu
     let counted : number ≡ (standing now).number = number_is ∙ ap (λ (t : Told). (standing t).number) same in
     let stamped_now = subst (λ (n : ℕ). objects ≡ by_name (map (stamped (n + 1)) (done.written ++ (kept_objects done ++ merged)))) counted is in
     subst (λ (list : List (ℕ × Object)). after ≤ before + 8 * length list)
-        (effect_made (standing now).image ((standing now).number + 1) done merged objects merged_is stamped_now) most
+    (effect_made (standing now).image ((standing now).number + 1) done merged objects merged_is stamped_now) most

@@ -17,18 +17,13 @@ use Rattle.object_meaning.specs.Effect.{IsUnchanged}
 use Rattle.object_meaning.specs.Events.{Event, Told, Standing, next_counter, after_events, events_of, Extends, OthersCame, conflicts_at}
 use Rattle.object_meaning.specs.Serial.{HoldsSome, IsConsistent}
 use Rattle.object_meaning.specs.Locks.{leaving}
+pub use Rattle.history_laws.specs.Names.{NamesAreFree}
 use Rattle.object_stone.specs.declared.port.CommitAnswer.{CommitAnswer}
 use Rattle.object_stone.specs.declared.port.CommitAnswer.TheVariants.{ReadOnly, Conflicts, Placed as PlacedAt, NoMemory}
 use Rattle.object_stone.specs.declared.port.LockAnswer.{LockAnswer}
 use Rattle.object_stone.specs.declared.port.LockAnswer.TheVariants.{Granted, Denied, NoMemory as NoMemoryForLock}
 
 -- ---- the beginning of a transaction
-
--- No object has a name of the session's serial from the counter on after those that its commits
--- drew.
-abbrev pub NamesAreFree : Opened → Standing → (session : ℕ) → Type 0
-NamesAreFree o s session = (counter : ℕ) → next_counter s session ≤ counter → counter < 2 ^ 24
-    → get s.image (oid_number (session_serial o session) counter) ≡ None
 
 -- Others' events came, and the image and the number are those that stand then. The image is sound,
 -- and the session's further names are free in it.

@@ -20,6 +20,7 @@ use gem_image::Image;
 use gem_object::Object;
 use gem_record::{ByName, Entry, TxnRecord};
 use gem_value::Oid;
+use history_laws::laws::{images_are_sound, names_are_free, placed_as_recorded};
 use lock_table::{Asked, LockKind, Locks};
 use object_meaning::What;
 use radix_pages::Steps;
@@ -89,7 +90,11 @@ impl Stone {
         number: u64,
         script: Arc<Script>,
     ) -> Result<Stone, AllocError>
-        requires serves { CanServe (record { image = image; number = number; script = script.value }) }
+        requires serves { CanServe (record {
+          image = image;
+          number = number;
+          script = script.value;
+        }) }
         ensures { IfOk result (λ stone. stone ≡ record {
           opened = record { image = image; number = number; script = script.value };
           events = [];
@@ -127,9 +132,9 @@ impl Stone {
     ///
     /// It is read only exactly where nothing was written or updated. Otherwise it is refused
     /// exactly where there are conflicts, and else placed, with the next number. Every other
-    /// answer, also that memory ran out, leaves the Stone as it was. A merge that makes a body with
-    /// 2^32 pairs or items, which can't be stored, counts as want of memory. An object of the effect
-    /// builds at most 8 nodes of the next image, however many objects the image has.
+    /// answer, also that memory ran out, leaves the Stone as it was. A merge that makes a body of
+    /// 2^32 pairs or items, which can't be stored, counts as want of memory. An object of the
+    /// effect builds at most 8 nodes of the next image, however many objects the image has.
     pub fn commit<L: Ledger>(
         &mut self,
         alloc: Global,
@@ -227,7 +232,6 @@ impl Stone {
     fn keeps_order(&self) -> bool
         ensures opening { CanServe self.now.opened }
         ensures consistent { IsConsistent self.now }
-        ensures room { (standing self.now).number < 2 ^ 64 }
     {
         self.opened_number <= self.number
     }
@@ -281,6 +285,8 @@ impl Stone {
         ensures nodes { steps.new ≤ steps.old + 8 * length
             (effect_at (standing self.old).image ((standing self.old).number + 1) done.now) }
     {
+        placed_as_recorded();
+        images_are_sound();
         let number = self.number + 1;
         let effect = effect_of(alloc, number, done, merged)?;
         let image = next_image(alloc, &self.image, effect, steps)?;
@@ -304,11 +310,17 @@ impl StonePort for Stone {
     ghost use Rattle.std.specs.Prelude.{true};
     ghost use Rattle.object_stone.specs.Stone.{is_session};
 
-    ghost state = { λ stone. record { told = stone; serves = is_session stone.opened.script; alone = true } };
+    ghost state = { λ stone. record {
+      told = stone;
+      serves = is_session stone.opened.script;
+      alone = true;
+    } };
 
     fn begin(&mut self, _session: u32) -> Result<Begun, AllocError> {
         let begun = Stone::begin(self);
         self.keeps_order();
+        images_are_sound();
+        names_are_free();
         begun
     }
 

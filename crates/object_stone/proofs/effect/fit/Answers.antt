@@ -10,7 +10,7 @@ loop-entry-preserved c =
     let counted = c.entry_count.ensures in
     let small = c.if-entry_count.false in
     fits_one_more c.args.merged.now c.loop-entry.entry-index c.entry-item.result below c.entry-item.is
-        c.loop-entry.invariant (omega (arith, counted, small))
+    c.loop-entry.invariant (omega (arith, counted, small))
 
 pub returns : goal.returns
 returns c =

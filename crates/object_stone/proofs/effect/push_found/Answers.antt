@@ -8,8 +8,8 @@ pub loop-name-preserved : goal.loop-name-preserved
 loop-name-preserved c =
     let below : c.loop-name.name-index < length c.args.names.now = omega arith in
     one_added (λ name. named name (under name c.args.objects.now)) c.args.names.now c.loop-name.name-index
-        c.name-item.result _ _ _ below c.name-item.is c.loop-name.invariant
-        (c.in_ok-push_some.ensures ∙ ap (λ found. c.loop-name.changed.items ++ named c.name-item.result found) c.find.ensures)
+    c.name-item.result _ _ _ below c.name-item.is c.loop-name.invariant
+    (c.in_ok-push_some.ensures ∙ ap (λ found. c.loop-name.changed.items ++ named c.name-item.result found) c.find.ensures)
 
 pub returns : goal.returns
 returns c =

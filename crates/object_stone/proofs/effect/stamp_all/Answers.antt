@@ -8,7 +8,7 @@ pub loop-entry-preserved : goal.loop-entry-preserved
 loop-entry-preserved c =
     let was : c.loop-entry.changed.items ≡ c.pop.new.self.items ++ c.in-Some.entry ∷ [] = grind arith in
     one_put (stamped c.args.number) c.loop-entry.changed.items c.pop.new.self.items c.in-Some.entry
-        c.loop-entry.objects.entries _ was c.in_ok-stamp.ensures ∙ c.loop-entry.invariant
+    c.loop-entry.objects.entries _ was c.in_ok-stamp.ensures ∙ c.loop-entry.invariant
 
 pub returns : goal.returns
 returns c =

@@ -1,13 +1,14 @@
-use Rattle.std.proofs.Common.{◌≡◌, ◌+◌, ◌*◌, ◌^◌, None, subst, ap, sym, ◌∙◌, arith}
+use Rattle.std.proofs.Common.{◌≡◌, ◌+◌, ◌*◌, ◌^◌, None, is_some, subst, ap, sym, ◌∙◌, arith}
 use Rattle.radix_pages.specs.Next.{IsNext}
-use Rattle.object_stone.proofs.Largest.{has_serial, no_more_serials}
+use Rattle.history_laws.proofs.Serials.{serial_at_most}
+use Rattle.object_stone.proofs.Largest.{no_more_serials}
 use Rattle.object_stone.proofs.serial.largest_serial.Goals as goal
 
 pub loop-entry-preserved : goal.loop-entry-preserved
 loop-entry-preserved c =
     let serial = c.serial-largest.ensures.serial in
     let bound = c.serial-largest.ensures.bound in
-    let most = has_serial c.args.image.now c.in-Some.entry.0 c.in-Some.entry.1.now c.in-Some.ensures.next.1.0 in
+    let most = serial_at_most c.args.image.now c.in-Some.entry.0 (ap is_some c.in-Some.ensures.next.1.0) in
     (bound, omega (arith, serial, most))
 
 pub returns-clause-serial : goal.returns-clause-serial

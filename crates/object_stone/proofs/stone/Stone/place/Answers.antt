@@ -1,14 +1,16 @@
-use Rattle.std.proofs.Common.{◌≡◌, ◌+◌, ◌<◌, ◌^◌, ℕ, List, [], ◌∷◌, ◌++◌, length, All, sym, ap, ap₂, subst, ◌∙◌, arith}
+use Rattle.std.proofs.Common.{◌≡◌, ◌+◌, ◌<◌, ◌^◌, ℕ, List, [], ◌∷◌, ◌++◌, length, All, sym, ap, ap₂, subst, ◌∙◌, le_refl, arith}
 use Rattle.gem_object.specs.Spelling.{IsSpelled}
 use Rattle.gem_object.specs.declared.object.Object.{Object}
 use Rattle.gem_image.specs.Image.{Image, with_objects}
 use Rattle.commit_check.specs.Conflicts.{merged_objects}
 use Rattle.object_meaning.specs.declared.event.What.TheVariants.{Placed}
-use Rattle.object_meaning.specs.Effect.{MergesFit}
-use Rattle.object_meaning.specs.Events.{Told, standing, conflicts_at}
+use Rattle.object_meaning.specs.Effect.{MergesFit, effect_at}
+use Rattle.object_meaning.specs.Events.{Told, told_more, standing, conflicts_at}
 use Rattle.object_meaning.specs.Serial.{IsRecorded}
+use Rattle.gem_record.specs.History.{entry_of}
+use Rattle.history_laws.proofs.Views.{number_at_least}
 use Rattle.object_stone.specs.Inside.{told_by}
-use Rattle.object_stone.proofs.OneMore.{number_has_room, placed_stone, effect_has_spelling}
+use Rattle.object_stone.proofs.OneMore.{number_has_room, placed_stone, commit_consistent, effect_has_spelling}
 use Rattle.object_stone.proofs.Spelled.{effect_made, nodes_bound}
 use Rattle.object_stone.proofs.stone.Stone.place.Goals as goal
 
@@ -29,11 +31,19 @@ next_image-requires g c =
     let merged_is = c.requires.merged ∙ ap (λ (t : Told). merged_objects (standing t).image done) (sym c.self.view_is)
     ∙ ap (λ (i : Image). merged_objects i done) (sym c.self.invariant.image_is) in
     let made = effect_made inside.image (inside.number + 1) done c.args.merged c.in_ok-effect.effect.objects merged_is c.in_ok-effect.ensures.objects in
+    let t = told_by inside in
+    let stone = c.self.invariant in
+    let recorded = subst (λ (t : Told). IsRecorded t done) (sym c.self.view_is) c.requires.recorded in
+    let none = subst (λ (t : Told). conflicts_at (standing t) done ≡ []) (sym c.self.view_is) c.requires.no_conflict in
+    let fit = subst (λ (t : Told). MergesFit (standing t).image done) (sym c.self.view_is) c.requires.fit in
+    let placed = c.placed_as_recorded.ensures.placed t done stone.opening stone.consistent.serial recorded none fit in
+    let effect = c.placed_as_recorded.ensures.effect t done stone.opening stone.consistent.serial recorded none in
+    let consistent = commit_consistent t inside.image inside.number inside.locks inside.history.items _ stone done recorded placed effect in
+    let more = told_more t ((done.session, Placed (entry_of done)) ∷ []) in
     subst (λ (list : List (ℕ × Object)). All (λ entry. IsSpelled entry.1) list) (sym made)
-    (effect_has_spelling (told_by inside) inside.image inside.number inside.locks inside.history.items _ c.self.invariant done
-    (subst (λ (t : Told). IsRecorded t done) (sym c.self.view_is) c.requires.recorded)
-    (subst (λ (t : Told). conflicts_at (standing t) done ≡ []) (sym c.self.view_is) c.requires.no_conflict)
-    (subst (λ (t : Told). MergesFit (standing t).image done) (sym c.self.view_is) c.requires.fit))
+    (effect_has_spelling t inside.image inside.number inside.locks inside.history.items _ stone done recorded placed effect
+    (c.images_are_sound.ensures.image more (standing more).number stone.opening consistent.serial
+    (number_at_least t.opened more.events) (le_refl (standing more).number)))
 
 pub returns-in_err-image-clause-nodes : goal.returns-in_err-image-clause-nodes
 returns-in_err-image-clause-nodes g c =
@@ -71,12 +81,19 @@ invariant_of-self-2 g c =
     let reserved = c.in_ok-reserve-2.ensures.ok in
     let kept = c.in_ok-reserve-2.ensures.len in
     let grown = c.in-Ok.ensures.capacity in
-    placed_stone (told_by inside) inside.image inside.number inside.locks inside.history.items _ c.self.invariant done
-    (subst (λ (t : Told). IsRecorded t done) (sym c.self.view_is) c.requires.recorded)
-    (subst (λ (t : Told). conflicts_at (standing t) done ≡ []) (sym c.self.view_is) c.requires.no_conflict)
-    (subst (λ (t : Told). MergesFit (standing t).image done) (sym c.self.view_is) c.requires.fit)
-    c.in_ok-image.image _ _ _
-    (c.in_ok-image.ensures.image ∙ ap (with_objects inside.image) made)
-    (c.in-Ok-push.ensures.items ∙ ap₂ (λ entries e. entries ++ e ∷ []) c.in_ok-reserve.ensures.items c.entry-2.ensures)
-    (c.in-Ok.ensures.items ∙ ap₂ (λ events e. events ++ (done.session, Placed e) ∷ []) c.in_ok-reserve-2.ensures.items c.entry.ensures)
+    let t = told_by inside in
+    let stone = c.self.invariant in
+    let recorded = subst (λ (t : Told). IsRecorded t done) (sym c.self.view_is) c.requires.recorded in
+    let none = subst (λ (t : Told). conflicts_at (standing t) done ≡ []) (sym c.self.view_is) c.requires.no_conflict in
+    let fit = subst (λ (t : Told). MergesFit (standing t).image done) (sym c.self.view_is) c.requires.fit in
+    let image_is : c.in_ok-image.image ≡ with_objects inside.image (effect_at inside.image (inside.number + 1) done) =
+    c.in_ok-image.ensures.image ∙ ap (with_objects inside.image) made in
+    let entries_are : c.push-2.new.self.items ≡ inside.history.items ++ entry_of done ∷ [] =
+    c.in-Ok-push.ensures.items ∙ ap₂ (λ entries e. entries ++ e ∷ []) c.in_ok-reserve.ensures.items c.entry-2.ensures in
+    let events_are : c.push.new.self.items ≡ inside.events.items ++ (done.session, Placed (entry_of done)) ∷ [] =
+    c.in-Ok.ensures.items ∙ ap₂ (λ events e. events ++ (done.session, Placed e) ∷ []) c.in_ok-reserve-2.ensures.items c.entry.ensures in
+    placed_stone t inside.image inside.number inside.locks inside.history.items _ stone done recorded
+    (c.placed_as_recorded.ensures.placed t done stone.opening stone.consistent.serial recorded none fit)
+    (c.placed_as_recorded.ensures.effect t done stone.opening stone.consistent.serial recorded none)
+    c.in_ok-image.image _ _ _ image_is entries_are events_are
     (omega (arith, length_is, counted, reserved, kept, grown))

@@ -1,0 +1,32 @@
+//! What follows from the definitions alone. Each law is the contract of a function that does
+//! nothing.
+ghost use Rattle.std.specs.Prelude.{◌≡◌, ◌≢◌, ◌≤◌, ◌⊎◌, [], ◌∷◌, ◌++◌, ℕ, List, IsSome};
+ghost use Rattle.gem_record.specs.Names.{under};
+ghost use Rattle.gem_record.specs.declared.record.Entry.{Entry};
+ghost use Rattle.gem_record.specs.declared.record.TxnRecord.{TxnRecord};
+ghost use Rattle.commit_check.specs.Table.{IsTouched, IsWritten};
+ghost use Rattle.object_meaning.specs.declared.event.What.TheVariants.{Placed};
+ghost use Rattle.object_meaning.specs.Opened.{Opened};
+ghost use Rattle.object_meaning.specs.Events.{Event, effect_of, after_events, conflicts_at};
+ghost use Rattle.object_stone.specs.declared.port.CommitAnswer.{CommitAnswer};
+ghost use Rattle.object_stone.specs.declared.port.CommitAnswer.TheVariants.{Placed as PlacedAt};
+ghost use Rattle.object_stone.specs.Port.{CommitSays};
+
+/// The first committer wins: a transaction that touched or wrote an object has a conflict where a
+/// commit after its view has changed that object, whatever came later.
+pub fn first_committer_wins()
+    ensures { (o : Opened) (before more : List Event) (session : ℕ) (placed : Entry)
+        (done : TxnRecord) (name : ℕ) → done.view ≤ (after_events o before).number →
+        IsSome (under name (effect_of o (after_events o before) placed)) →
+        IsTouched done name ⊎ IsWritten done name →
+        conflicts_at (after_events o
+        ((before ++ (session, Placed placed) ∷ []) ++ more)) done ≢ [] }
+{}
+
+/// A refusal changes nothing, nor does any other answer but that the commit was placed: what stands
+/// after the commit is what stood when the others' events had come.
+pub fn refusal_changes_nothing()
+    ensures { (o : Opened) (before after : List Event) (done : TxnRecord)
+        (answer : CommitAnswer) → ((number : ℕ) → answer ≢ PlacedAt number) →
+        (says : CommitSays o before after done answer) → after ≡ before ++ says.others }
+{}
