@@ -1,6 +1,7 @@
 //! What is wrong with code.
-ghost use Rattle.std.specs.Prelude.{◌≡◌};
+ghost use Rattle.std.specs.Prelude.{◌≡◌, Some};
 ghost use Rattle.st_code.specs.declared.fault.CodeFault.TheVariants.{NoMemory};
+ghost use Rattle.st_code.specs.FaultText.{fault_text};
 
 use std::alloc::{AllocError, AllocFailed};
 use std::error::Error;
@@ -27,6 +28,8 @@ pub enum CodeFault {
 }
 
 impl fmt::Display for CodeFault {
+    ghost output = { λ fault. Some (fault_text fault) };
+
     fn fmt<W: fmt::Write>(&self, f: &mut fmt::Formatter<W>) -> fmt::Result {
         match *self {
             CodeFault::Byte { at } => write!(f, "byte at {at}"),

@@ -5,6 +5,7 @@
 mod blocks;
 mod code;
 mod fault;
+pub mod laws;
 mod line;
 mod literals;
 mod reach;
