@@ -49,173 +49,134 @@ fn fault_of(
     }
 }
 
-const fn block(start: u32, params: u32, temps: u32) -> BlockCode {
-    BlockCode {
-        start,
-        params,
-        temps,
-    }
-}
+/// Bytes, literals, blocks, and the fault.
+type Case = (
+    &'static [u8],
+    &'static [Kind],
+    &'static [BlockCode],
+    Option<CodeFault>,
+);
 
-const fn byte(at: u32) -> Option<CodeFault> {
-    Some(CodeFault::Byte { at })
-}
-
-const fn jump(at: u32) -> Option<CodeFault> {
-    Some(CodeFault::Jump { at })
-}
-
-const fn operand(at: u32) -> Option<CodeFault> {
-    Some(CodeFault::Operand { at })
-}
-
-const fn stack(at: u32) -> Option<CodeFault> {
-    Some(CodeFault::Stack { at })
-}
-
-// Bytes, literals, the starts, parameters and temporaries of the blocks, and the fault.
-macro_rules! cases {
-    ($(($bytes:expr, [$($kind:ident)*], [$($start:literal $params:literal $temps:literal),*], $fault:expr))*) => {
-        [$((
-            $bytes.as_slice(),
-            [$(Kind::$kind),*].as_slice(),
-            [$(block($start, $params, $temps)),*].as_slice(),
-            $fault,
-        )),*]
+// The starts, parameters and temporaries of blocks.
+macro_rules! blocks {
+    ($($start:literal $params:literal $temps:literal),*) => {
+        &[$(BlockCode { start: $start, params: $params, temps: $temps }),*]
     };
 }
 
-// Each case with its number, so that a failure shows which one it is.
-macro_rules! wrong {
-    ($rt:ident, $($case:tt)*) => {{
-        let mut wrong = Vec::new($rt.alloc());
-        let cases = cases! { $($case)* };
-        for (number, (bytes, kinds, blocks, fault)) in cases.iter().enumerate() {
-            if fault_of($rt.alloc(), bytes, kinds, blocks)? != *fault {
-                wrong.push(number)?;
-            }
+// The numbers of the cases that have another fault.
+fn wrong(alloc: Global, cases: &[Case]) -> Result<Vec<usize>, AllocError> {
+    let mut wrong = Vec::new(alloc);
+    for (number, (bytes, kinds, blocks, fault)) in cases.iter().enumerate() {
+        if fault_of(alloc, bytes, kinds, blocks)? != *fault {
+            wrong.push(number)?;
         }
-        wrong
-    }};
+    }
+    Ok(wrong)
 }
 
 // The list of blocks.
-#[test]
-fn blocks(rt: HostRuntime) -> Result<(), Fail> {
-    let wrong = wrong! { rt,
-        (b"\x01\x0f", [], [0 0 0], None)
-        (b"\x01\x0f", [], [], operand(0))
-        (b"", [], [0 0 0], operand(0))
-        (b"\x01\x0f", [], [1 0 0], operand(0))
-        (b"\x01\x0f\x01\x11", [], [0 0 0, 0 0 0], operand(0))
-        (b"\x01\x0f", [], [0 0 0, 2 0 0], operand(0))
-        (b"\x1b", [], [0 0 0, 3 0 0], operand(0))
-    };
-    assert_eq!(rt; wrong.as_slice(), [].as_slice());
-    Ok(())
-}
+const BLOCKS: [Case; 7] = [
+    (b"\x01\x0f", &[], blocks![0 0 0], None),
+    (b"\x01\x0f", &[], blocks![], Some(CodeFault::Operand { at: 0 })),
+    (b"", &[], blocks![0 0 0], Some(CodeFault::Operand { at: 0 })),
+    (b"\x01\x0f", &[], blocks![1 0 0], Some(CodeFault::Operand { at: 0 })),
+    (b"\x01\x0f\x01\x11", &[], blocks![0 0 0, 0 0 0], Some(CodeFault::Operand { at: 0 })),
+    (b"\x01\x0f", &[], blocks![0 0 0, 2 0 0], Some(CodeFault::Operand { at: 0 })),
+    (b"\x1b", &[], blocks![0 0 0, 3 0 0], Some(CodeFault::Operand { at: 0 })),
+];
 
 // Instructions that aren't there.
-#[test]
-fn bytes(rt: HostRuntime) -> Result<(), Fail> {
-    let wrong = wrong! { rt,
-        (b"\x01\x1b", [], [0 0 0], byte(1))
-        (b"\x01\x04\x00\x00", [Number], [0 0 0], byte(1))
-        (b"\x04\x00\x00\x00\x00\x0f", [Number], [0 0 0, 3 0 0], byte(0))
-        (b"\x12\x02\x00\x00\x00\x01\x0f\xff", [], [0 0 0], byte(7))
-    };
-    assert_eq!(rt; wrong.as_slice(), [].as_slice());
-    Ok(())
-}
+const BYTES: [Case; 4] = [
+    (b"\x01\x1b", &[], blocks![0 0 0], Some(CodeFault::Byte { at: 1 })),
+    (b"\x01\x04\x00\x00", &[Kind::Number], blocks![0 0 0], Some(CodeFault::Byte { at: 1 })),
+    (b"\x04\x00\x00\x00\x00\x0f", &[Kind::Number], blocks![0 0 0, 3 0 0], Some(CodeFault::Byte { at: 0 })),
+    (b"\x12\x02\x00\x00\x00\x01\x0f\xff", &[], blocks![0 0 0], Some(CodeFault::Byte { at: 7 })),
+];
 
-// Targets.
-#[test]
-fn jumps(rt: HostRuntime) -> Result<(), Fail> {
-    let wrong = wrong! { rt,
-        (b"\x12\x05\x00\x00\x00\x01\x0f", [], [0 0 0], None)
-        (b"\x12\x02\x00\x00\x00\x01\x0f", [], [0 0 0], jump(0))
-        (b"\x12\x07\x00\x00\x00\x01\x0f", [], [0 0 0], jump(0))
-        (b"\x01\x0f\x12\x08\x00\x00\x00\x01\x0f", [], [0 0 0], jump(2))
-        (b"\x0e\x01\x00\x00\x00\x0f\x12\x05\x00\x00\x00", [], [0 0 0, 6 0 0], jump(6))
-        (b"\x08\x00\x00\x00\x00\x12\x00\x01\x00\x00", [], [0 0 0], jump(5))
-        (b"\x04\x00\x00\x00\x00\x04\x00\x00\x00\x00\x18\x19\x16\x00\x00\x00\x0a\x1a\x0b\x00\x00\x00\x01\x0f", [Number], [0 0 0], None)
-    };
-    assert_eq!(rt; wrong.as_slice(), [].as_slice());
-    Ok(())
-}
+// Targets; the last one is a loop, whose two ends come to 22 with the same stack.
+const JUMPS: [Case; 7] = [
+    (b"\x12\x05\x00\x00\x00\x01\x0f", &[], blocks![0 0 0], None),
+    (b"\x12\x02\x00\x00\x00\x01\x0f", &[], blocks![0 0 0], Some(CodeFault::Jump { at: 0 })),
+    (b"\x12\x07\x00\x00\x00\x01\x0f", &[], blocks![0 0 0], Some(CodeFault::Jump { at: 0 })),
+    (b"\x01\x0f\x12\x08\x00\x00\x00\x01\x0f", &[], blocks![0 0 0], Some(CodeFault::Jump { at: 2 })),
+    (b"\x0e\x01\x00\x00\x00\x0f\x12\x05\x00\x00\x00", &[], blocks![0 0 0, 6 0 0], Some(CodeFault::Jump { at: 6 })),
+    (b"\x08\x00\x00\x00\x00\x12\x00\x01\x00\x00", &[], blocks![0 0 0], Some(CodeFault::Jump { at: 5 })),
+    (b"\x04\x00\x00\x00\x00\x04\x00\x00\x00\x00\x18\x19\x16\x00\x00\x00\x0a\x1a\x0b\x00\x00\x00\x01\x0f", &[Kind::Number], blocks![0 0 0], None),
+];
 
 // Literals.
-#[test]
-fn operands(rt: HostRuntime) -> Result<(), Fail> {
-    let wrong = wrong! { rt,
-        (b"\x04\x00\x00\x00\x00\x0f", [Number], [0 0 0], None)
-        (b"\x04\x00\x00\x00\x00\x0f", [Symbol], [0 0 0], None)
-        (b"\x04\x01\x00\x00\x00\x0f", [Number], [0 0 0], operand(0))
-        (b"\x04\x00\x00\x00\x00\x0f", [Text], [0 0 0], operand(0))
-        (b"\x05\x00\x00\x00\x00\x0f", [Text], [0 0 0], None)
-        (b"\x05\x00\x00\x00\x00\x0f", [Many], [0 0 0], None)
-        (b"\x05\x00\x00\x00\x00\x0f", [Number], [0 0 0], operand(0))
-        (b"\x08\x00\x00\x00\x00\x0f", [Symbol], [0 0 0], None)
-        (b"\x08\x00\x00\x00\x00\x0f", [Number], [0 0 0], operand(0))
-        (b"\x01\x0c\x00\x00\x00\x00\x00\x00\x00\x00\x0f", [Symbol], [0 0 0], None)
-        (b"\x01\x0d\x00\x00\x00\x00\x00\x00\x00\x00\x0f", [Many], [0 0 0], operand(1))
-    };
-    assert_eq!(rt; wrong.as_slice(), [].as_slice());
-    Ok(())
-}
+const OPERANDS: [Case; 11] = [
+    (b"\x04\x00\x00\x00\x00\x0f", &[Kind::Number], blocks![0 0 0], None),
+    (b"\x04\x00\x00\x00\x00\x0f", &[Kind::Symbol], blocks![0 0 0], None),
+    (b"\x04\x01\x00\x00\x00\x0f", &[Kind::Number], blocks![0 0 0], Some(CodeFault::Operand { at: 0 })),
+    (b"\x04\x00\x00\x00\x00\x0f", &[Kind::Text], blocks![0 0 0], Some(CodeFault::Operand { at: 0 })),
+    (b"\x05\x00\x00\x00\x00\x0f", &[Kind::Text], blocks![0 0 0], None),
+    (b"\x05\x00\x00\x00\x00\x0f", &[Kind::Many], blocks![0 0 0], None),
+    (b"\x05\x00\x00\x00\x00\x0f", &[Kind::Number], blocks![0 0 0], Some(CodeFault::Operand { at: 0 })),
+    (b"\x08\x00\x00\x00\x00\x0f", &[Kind::Symbol], blocks![0 0 0], None),
+    (b"\x08\x00\x00\x00\x00\x0f", &[Kind::Number], blocks![0 0 0], Some(CodeFault::Operand { at: 0 })),
+    (b"\x01\x0c\x00\x00\x00\x00\x00\x00\x00\x00\x0f", &[Kind::Symbol], blocks![0 0 0], None),
+    (b"\x01\x0d\x00\x00\x00\x00\x00\x00\x00\x00\x0f", &[Kind::Many], blocks![0 0 0], Some(CodeFault::Operand { at: 1 })),
+];
 
 // Blocks that are pushed.
-#[test]
-fn pushes(rt: HostRuntime) -> Result<(), Fail> {
-    let wrong = wrong! { rt,
-        (b"\x0e\x01\x00\x00\x00\x0f\x01\x11", [], [0 0 0, 6 0 0], None)
-        (b"\x01\x0f\x01\x11", [], [0 0 0, 2 0 0], operand(2))
-        (b"\x0e\x00\x00\x00\x00\x0f", [], [0 0 0], operand(0))
-        (b"\x0e\x01\x00\x00\x00\x0f", [], [0 0 0], operand(0))
-        (b"\x0e\x01\x00\x00\x00\x0a\x0e\x01\x00\x00\x00\x0f\x01\x11", [], [0 0 0, 12 0 0], operand(6))
-        (b"\x01\x0f\x0e\x01\x00\x00\x00\x11", [], [0 0 0, 2 0 0], operand(2))
-    };
-    assert_eq!(rt; wrong.as_slice(), [].as_slice());
-    Ok(())
-}
+const PUSHES: [Case; 6] = [
+    (b"\x0e\x01\x00\x00\x00\x0f\x01\x11", &[], blocks![0 0 0, 6 0 0], None),
+    (b"\x01\x0f\x01\x11", &[], blocks![0 0 0, 2 0 0], Some(CodeFault::Operand { at: 2 })),
+    (b"\x0e\x00\x00\x00\x00\x0f", &[], blocks![0 0 0], Some(CodeFault::Operand { at: 0 })),
+    (b"\x0e\x01\x00\x00\x00\x0f", &[], blocks![0 0 0], Some(CodeFault::Operand { at: 0 })),
+    (b"\x0e\x01\x00\x00\x00\x0a\x0e\x01\x00\x00\x00\x0f\x01\x11", &[], blocks![0 0 0, 12 0 0], Some(CodeFault::Operand { at: 6 })),
+    (b"\x01\x0f\x0e\x01\x00\x00\x00\x11", &[], blocks![0 0 0, 2 0 0], Some(CodeFault::Operand { at: 2 })),
+];
 
 // Open scopes.
-#[test]
-fn scopes(rt: HostRuntime) -> Result<(), Fail> {
-    let wrong = wrong! { rt,
-        (b"\x06\x00\x00\x00\x00\x00\x0f", [], [0 1 0], None)
-        (b"\x06\x00\x01\x00\x00\x00\x0f", [], [0 1 1], None)
-        (b"\x06\x00\x00\x00\x00\x00\x0f", [], [0 0 0], operand(0))
-        (b"\x01\x07\x01\x00\x00\x00\x00\x0f", [], [0 1 0], operand(1))
-        (b"\x16\x02\x00\x00\x00\x06\x00\x01\x00\x00\x00\x17\x0f", [], [0 0 0], None)
-        (b"\x16\x02\x00\x00\x00\x06\x00\x02\x00\x00\x00\x17\x0f", [], [0 0 0], operand(5))
-        (b"\x16\x02\x00\x00\x00\x17\x06\x00\x01\x00\x00\x00\x0f", [], [0 0 0], operand(6))
-        (b"\x17\x01\x0f", [], [0 0 0], operand(0))
-        (b"\x0e\x01\x00\x00\x00\x0f\x06\x01\x02\x00\x00\x00\x11", [], [0 1 2, 6 2 0], None)
-        (b"\x0e\x01\x00\x00\x00\x0f\x06\x00\x02\x00\x00\x00\x11", [], [0 1 2, 6 2 0], operand(6))
-        (b"\x0e\x01\x00\x00\x00\x0f\x17\x01\x11", [], [0 1 2, 6 2 0], operand(6))
-        (b"\x02\x13\x0b\x00\x00\x00\x16\x01\x00\x00\x00\x01\x0f", [], [0 0 0], operand(11))
-        (b"\x01\x0f\x0e\x01\x00\x00\x00\x0f\x06\x07\x00\x00\x00\x00\x11", [], [0 0 0, 8 0 0], None)
-    };
-    assert_eq!(rt; wrong.as_slice(), [].as_slice());
-    Ok(())
-}
+const SCOPES: [Case; 13] = [
+    (b"\x06\x00\x00\x00\x00\x00\x0f", &[], blocks![0 1 0], None),
+    (b"\x06\x00\x01\x00\x00\x00\x0f", &[], blocks![0 1 1], None),
+    (b"\x06\x00\x00\x00\x00\x00\x0f", &[], blocks![0 0 0], Some(CodeFault::Operand { at: 0 })),
+    (b"\x01\x07\x01\x00\x00\x00\x00\x0f", &[], blocks![0 1 0], Some(CodeFault::Operand { at: 1 })),
+    (b"\x16\x02\x00\x00\x00\x06\x00\x01\x00\x00\x00\x17\x0f", &[], blocks![0 0 0], None),
+    (b"\x16\x02\x00\x00\x00\x06\x00\x02\x00\x00\x00\x17\x0f", &[], blocks![0 0 0], Some(CodeFault::Operand { at: 5 })),
+    (b"\x16\x02\x00\x00\x00\x17\x06\x00\x01\x00\x00\x00\x0f", &[], blocks![0 0 0], Some(CodeFault::Operand { at: 6 })),
+    (b"\x17\x01\x0f", &[], blocks![0 0 0], Some(CodeFault::Operand { at: 0 })),
+    (b"\x0e\x01\x00\x00\x00\x0f\x06\x01\x02\x00\x00\x00\x11", &[], blocks![0 1 2, 6 2 0], None),
+    (b"\x0e\x01\x00\x00\x00\x0f\x06\x00\x02\x00\x00\x00\x11", &[], blocks![0 1 2, 6 2 0], Some(CodeFault::Operand { at: 6 })),
+    (b"\x0e\x01\x00\x00\x00\x0f\x17\x01\x11", &[], blocks![0 1 2, 6 2 0], Some(CodeFault::Operand { at: 6 })),
+    (b"\x02\x13\x0b\x00\x00\x00\x16\x01\x00\x00\x00\x01\x0f", &[], blocks![0 0 0], Some(CodeFault::Operand { at: 11 })),
+    (b"\x01\x0f\x0e\x01\x00\x00\x00\x0f\x06\x07\x00\x00\x00\x00\x11", &[], blocks![0 0 0, 8 0 0], None),
+];
 
 // The stack.
+const HEIGHTS: [Case; 10] = [
+    (b"\x0a\x01\x0f", &[], blocks![0 0 0], Some(CodeFault::Stack { at: 0 })),
+    (b"\x01\x01\x0f", &[], blocks![0 0 0], Some(CodeFault::Stack { at: 2 })),
+    (b"\x01", &[], blocks![0 0 0], Some(CodeFault::Stack { at: 0 })),
+    (b"\x01\x0f\x0a\x0a", &[], blocks![0 0 0], None),
+    (b"\x02\x13\x07\x00\x00\x00\x01\x01\x0f", &[], blocks![0 0 0], Some(CodeFault::Stack { at: 7 })),
+    (b"\x01\x0c\x00\x00\x00\x00\x01\x00\x00\x00\x0f", &[Kind::Symbol], blocks![0 0 0], Some(CodeFault::Stack { at: 1 })),
+    (b"\x01\x01\x0c\x00\x00\x00\x00\x01\x00\x00\x00\x0f", &[Kind::Symbol], blocks![0 0 0], None),
+    (b"\x01\x0b\x0a\x0f", &[], blocks![0 0 0], None),
+    (b"\x0e\x01\x00\x00\x00\x0f\x01", &[], blocks![0 0 0, 6 0 0], Some(CodeFault::Stack { at: 6 })),
+    (b"\x0a\x04\x00\x00\x00\x00\x0f", &[], blocks![0 0 0], Some(CodeFault::Operand { at: 1 })),
+];
+
 #[test]
-fn heights(rt: HostRuntime) -> Result<(), Fail> {
-    let wrong = wrong! { rt,
-        (b"\x0a\x01\x0f", [], [0 0 0], stack(0))
-        (b"\x01\x01\x0f", [], [0 0 0], stack(2))
-        (b"\x01", [], [0 0 0], stack(0))
-        (b"\x01\x0f\x0a\x0a", [], [0 0 0], None)
-        (b"\x02\x13\x07\x00\x00\x00\x01\x01\x0f", [], [0 0 0], stack(7))
-        (b"\x01\x0c\x00\x00\x00\x00\x01\x00\x00\x00\x0f", [Symbol], [0 0 0], stack(1))
-        (b"\x01\x01\x0c\x00\x00\x00\x00\x01\x00\x00\x00\x0f", [Symbol], [0 0 0], None)
-        (b"\x01\x0b\x0a\x0f", [], [0 0 0], None)
-        (b"\x0e\x01\x00\x00\x00\x0f\x01", [], [0 0 0, 6 0 0], stack(6))
-        (b"\x0a\x04\x00\x00\x00\x00\x0f", [], [0 0 0], operand(1))
-    };
-    assert_eq!(rt; wrong.as_slice(), [].as_slice());
+fn faults(rt: HostRuntime) -> Result<(), Fail> {
+    let alloc = rt.alloc();
+    let blocks = wrong(alloc, &BLOCKS)?;
+    assert_eq!(rt; blocks.as_slice(), [].as_slice());
+    let bytes = wrong(alloc, &BYTES)?;
+    assert_eq!(rt; bytes.as_slice(), [].as_slice());
+    let jumps = wrong(alloc, &JUMPS)?;
+    assert_eq!(rt; jumps.as_slice(), [].as_slice());
+    let operands = wrong(alloc, &OPERANDS)?;
+    assert_eq!(rt; operands.as_slice(), [].as_slice());
+    let pushes = wrong(alloc, &PUSHES)?;
+    assert_eq!(rt; pushes.as_slice(), [].as_slice());
+    let scopes = wrong(alloc, &SCOPES)?;
+    assert_eq!(rt; scopes.as_slice(), [].as_slice());
+    let heights = wrong(alloc, &HEIGHTS)?;
+    assert_eq!(rt; heights.as_slice(), [].as_slice());
     Ok(())
 }

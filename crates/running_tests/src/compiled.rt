@@ -82,29 +82,156 @@ fn shapes_of(alloc: Global, block: &BlockBody) -> Result<Vec<Shape>, AllocError>
 
 // Texts whose code pushes no block.
 const TEXTS: [(Kind, &[u8], &[Shape]); 11] = [
-    (Kind::Chunk, b"3 + 4", &[(0x04, 3, 0), (0x04, 4, 0), (0x0c, 1, 1), (0x0f, 0, 0)]),
-    (Kind::Chunk, b"super foo", &[(0x00, 0, 0), (0x0d, 3, 0), (0x0f, 0, 0)]),
-    (Kind::Chunk, b"Foo := 'a'", &[(0x05, 0, 0), (0x09, 3, 0), (0x0f, 0, 0)]),
-    (Kind::Chunk, b"self a; b: 1", &[(0x00, 0, 0), (0x0b, 0, 0), (0x0c, 1, 0), (0x0a, 0, 0), (0x04, 1, 0), (0x0c, 2, 1), (0x0f, 0, 0)]),
-    (Kind::Chunk, b"true ifTrue: [1] ifFalse: [2]", &[(0x02, 0, 0), (0x15, 0, 0), (0x14, 2, 0), (0x04, 1, 0), (0x12, 1, 0), (0x04, 2, 0), (0x0f, 0, 0)]),
-    (Kind::Chunk, b"false or: [nil]", &[(0x03, 0, 0), (0x15, 0, 0), (0x13, 2, 0), (0x01, 0, 0), (0x12, 1, 0), (0x02, 0, 0), (0x0f, 0, 0)]),
-    (Kind::Chunk, b"[nil] whileTrue: [self]", &[(0x15, 0, 0), (0x01, 0, 0), (0x14, 4, 0), (0x15, 0, 0), (0x00, 0, 0), (0x0a, 0, 0), (0x12, 0, 5), (0x01, 0, 0), (0x0f, 0, 0)]),
-    (Kind::Chunk, b"1 to: 2 do: [:i | i]", &[(0x04, 1, 0), (0x0b, 0, 0), (0x04, 2, 0), (0x15, 0, 0), (0x18, 0, 0), (0x19, 8, 0), (0x15, 0, 0), (0x16, 1, 0), (0x07, 0, 0), (0x0a, 0, 0), (0x06, 0, 0), (0x17, 0, 0), (0x0a, 0, 0), (0x1a, 8, 0), (0x0f, 0, 0)]),
-    (Kind::Chunk, b"3 timesRepeat: [4]", &[(0x04, 3, 0), (0x15, 0, 0), (0x16, 1, 0), (0x07, 0, 0), (0x04, 1, 0), (0x06, 0, 0), (0x17, 0, 0), (0x18, 0, 0), (0x19, 5, 0), (0x15, 0, 0), (0x0a, 0, 0), (0x04, 4, 0), (0x0a, 0, 0), (0x1a, 5, 0), (0x0f, 0, 0)]),
-    (Kind::Chunk, b"3 + (nil ifTrue: [^4])", &[(0x04, 3, 0), (0x01, 0, 0), (0x15, 0, 0), (0x14, 4, 0), (0x0a, 0, 0), (0x04, 4, 0), (0x0f, 0, 0), (0x12, 1, 0), (0x01, 0, 0), (0x0c, 1, 1), (0x0f, 0, 0)]),
-    (Kind::Method, b"foo | a | a := 3. ^a", &[(0x04, 3, 0), (0x07, 0, 0), (0x0a, 0, 0), (0x06, 0, 0), (0x0f, 0, 0), (0x0a, 0, 0), (0x00, 0, 0), (0x0f, 0, 0)]),
+    (
+        Kind::Chunk,
+        b"3 + 4",
+        &[(0x04, 3, 0), (0x04, 4, 0), (0x0c, 1, 1), (0x0f, 0, 0)],
+    ),
+    (
+        Kind::Chunk,
+        b"super foo",
+        &[(0x00, 0, 0), (0x0d, 3, 0), (0x0f, 0, 0)],
+    ),
+    (
+        Kind::Chunk,
+        b"Foo := 'a'",
+        &[(0x05, 0, 0), (0x09, 3, 0), (0x0f, 0, 0)],
+    ),
+    (
+        Kind::Chunk,
+        b"self a; b: 1",
+        &[
+            (0x00, 0, 0),
+            (0x0b, 0, 0),
+            (0x0c, 1, 0),
+            (0x0a, 0, 0),
+            (0x04, 1, 0),
+            (0x0c, 2, 1),
+            (0x0f, 0, 0),
+        ],
+    ),
+    (
+        Kind::Chunk,
+        b"true ifTrue: [1] ifFalse: [2]",
+        &[
+            (0x02, 0, 0),
+            (0x15, 0, 0),
+            (0x14, 2, 0),
+            (0x04, 1, 0),
+            (0x12, 1, 0),
+            (0x04, 2, 0),
+            (0x0f, 0, 0),
+        ],
+    ),
+    (
+        Kind::Chunk,
+        b"false or: [nil]",
+        &[
+            (0x03, 0, 0),
+            (0x15, 0, 0),
+            (0x13, 2, 0),
+            (0x01, 0, 0),
+            (0x12, 1, 0),
+            (0x02, 0, 0),
+            (0x0f, 0, 0),
+        ],
+    ),
+    (
+        Kind::Chunk,
+        b"[nil] whileTrue: [self]",
+        &[
+            (0x15, 0, 0),
+            (0x01, 0, 0),
+            (0x14, 4, 0),
+            (0x15, 0, 0),
+            (0x00, 0, 0),
+            (0x0a, 0, 0),
+            (0x12, 0, 5),
+            (0x01, 0, 0),
+            (0x0f, 0, 0),
+        ],
+    ),
+    (
+        Kind::Chunk,
+        b"1 to: 2 do: [:i | i]",
+        &[
+            (0x04, 1, 0),
+            (0x0b, 0, 0),
+            (0x04, 2, 0),
+            (0x15, 0, 0),
+            (0x18, 0, 0),
+            (0x19, 8, 0),
+            (0x15, 0, 0),
+            (0x16, 1, 0),
+            (0x07, 0, 0),
+            (0x0a, 0, 0),
+            (0x06, 0, 0),
+            (0x17, 0, 0),
+            (0x0a, 0, 0),
+            (0x1a, 8, 0),
+            (0x0f, 0, 0),
+        ],
+    ),
+    (
+        Kind::Chunk,
+        b"3 timesRepeat: [4]",
+        &[
+            (0x04, 3, 0),
+            (0x15, 0, 0),
+            (0x16, 1, 0),
+            (0x07, 0, 0),
+            (0x04, 1, 0),
+            (0x06, 0, 0),
+            (0x17, 0, 0),
+            (0x18, 0, 0),
+            (0x19, 5, 0),
+            (0x15, 0, 0),
+            (0x0a, 0, 0),
+            (0x04, 4, 0),
+            (0x0a, 0, 0),
+            (0x1a, 5, 0),
+            (0x0f, 0, 0),
+        ],
+    ),
+    (
+        Kind::Chunk,
+        b"3 + (nil ifTrue: [^4])",
+        &[
+            (0x04, 3, 0),
+            (0x01, 0, 0),
+            (0x15, 0, 0),
+            (0x14, 4, 0),
+            (0x0a, 0, 0),
+            (0x04, 4, 0),
+            (0x0f, 0, 0),
+            (0x12, 1, 0),
+            (0x01, 0, 0),
+            (0x0c, 1, 1),
+            (0x0f, 0, 0),
+        ],
+    ),
+    (
+        Kind::Method,
+        b"foo | a | a := 3. ^a",
+        &[
+            (0x04, 3, 0),
+            (0x07, 0, 0),
+            (0x0a, 0, 0),
+            (0x06, 0, 0),
+            (0x0f, 0, 0),
+            (0x0a, 0, 0),
+            (0x00, 0, 0),
+            (0x0f, 0, 0),
+        ],
+    ),
 ];
 
-fn has_code(
-    alloc: Global,
-    tree: &Tree,
-    wanted: &[Shape],
-) -> Result<bool, AllocError>
+fn has_code(alloc: Global, tree: &Tree, wanted: &[Shape]) -> Result<bool, AllocError>
     requires { size_program tree.now ≤ 2 ^ 40 }
 {
     let compiled = compile(tree)?;
-    let shapes = shapes(alloc, compiled.code.as_slice())?;
-    Ok(compiled.blocks.is_empty() && shapes.as_slice() == wanted)
+    let shapes = shapes(alloc, compiled.code())?;
+    Ok(compiled.blocks().is_empty() && shapes.as_slice() == wanted)
 }
 
 #[test]
@@ -128,15 +255,21 @@ fn blocks(rt: HostRuntime) -> Result<(), Fail> {
     let alloc = rt.alloc();
     let tree = parse_chunk(alloc, b"[:x | [^x]]")?;
     let compiled = compile(&tree)?;
-    let shapes = shapes(alloc, compiled.code.as_slice())?;
+    let shapes = shapes(alloc, compiled.code())?;
     assert_eq!(rt; shapes.as_slice(), [(0x0e, 0, 0), (0x0f, 0, 0)].as_slice());
-    assert_eq!(rt; compiled.blocks.len(), 2);
-    let (outer, inner) = (&compiled.blocks[0], &compiled.blocks[1]);
+    let blocks = compiled.blocks();
+    assert_eq!(rt; blocks.len(), 2);
+    let (outer, inner) = (&blocks[0], &blocks[1]);
     assert_eq!(rt; (outer.params, outer.temps, inner.params), (1, 0, 0));
     let shapes_of_outer = shapes_of(alloc, outer)?;
-    assert_eq!(rt; shapes_of_outer.as_slice(), [(0x0e, 1, 0), (0x11, 0, 0)].as_slice());
+    assert_eq!(rt;
+        shapes_of_outer.as_slice(),
+        [(0x0e, 1, 0), (0x11, 0, 0)].as_slice()
+    );
     let shapes_of_inner = shapes_of(alloc, inner)?;
-    assert_eq!(rt; shapes_of_inner.as_slice(),
-        [(0x06, 1, 0), (0x10, 0, 0), (0x11, 0, 0)].as_slice());
+    assert_eq!(rt;
+        shapes_of_inner.as_slice(),
+        [(0x06, 1, 0), (0x10, 0, 0), (0x11, 0, 0)].as_slice()
+    );
     Ok(())
 }

@@ -226,10 +226,11 @@ start_read bytes first later lines are is =
     let end = end_of (length bytes) later in
     let within = ends_within (length bytes) later above.1 in
     let some : 0 < length (slice_range bytes first.start end) =
-    some_part first.start end bytes from_zero.0 (omega (arith, above.0)) (omega (arith, above.0, within)) in
-    (joined_begins 0 (lines_from 0 first.start 0 (slice_range bytes first.start end)) (lines_of bytes 1 later) lines
-    (λ own read. begins_so 0 first.start (slice_range bytes first.start end) own some read) is,
-    from_zero.0)
+    some_part first.start end bytes from_zero.0 (omega (arith, above.0)) (omega (arith, above.0, within)) in (
+      joined_begins 0 (lines_from 0 first.start 0 (slice_range bytes first.start end)) (lines_of bytes 1 later) lines
+          (λ own read. begins_so 0 first.start (slice_range bytes first.start end) own some read) is,
+      from_zero.0,
+    )
 
 opens : (line : Line) (later : Lines) (start : ℕ) → start ≡ 0 → line.block ≡ 0
     → open_line 0 (slice_get (Some line ∷ later) start)

@@ -12,8 +12,8 @@ abbrev pub IsOneOf : List Way → Way → Type 0
 IsOneOf [] way = ⊥
 IsOneOf (first ∷ later) way = (first ≡ way) ⊎ IsOneOf later way
 
--- Some way from the beginning comes to a place and brings this there. A step that leaves its block is
--- none.
+-- Some way from the beginning comes to a place and brings this there. A step that leaves its block
+-- is none.
 pub data Comes (lines : Lines) (blocks : List BlockCode) : ℕ → Held → Type 0 where
   begins : (way : Way) → IsOneOf (first_ways blocks) way → Comes lines blocks way.to way.held
   goes : (at : ℕ) (held : Held) (line : Line) (way : Way) → Comes lines blocks at held

@@ -7,8 +7,8 @@ use std::alloc::{AllocError, AllocFailed};
 use std::error::Error;
 use std::fmt;
 
-/// Why bytes, literals and blocks are no code. Each fault but the last has the lowest place at which
-/// its rule breaks; the rules are tried in the order Byte, Jump, Operand, Stack.
+/// Why bytes, literals and blocks are no code. Each fault but the last has the lowest place at
+/// which its rule breaks; the rules are tried in the order Byte, Jump, Operand, Stack.
 #[derive(Clone, Copy, Debug, PartialEq, Eq)]
 pub enum CodeFault {
     /// No instruction begins at the place, though the one before it ends there.

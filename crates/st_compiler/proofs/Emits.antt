@@ -40,8 +40,14 @@ number_behind : (part : Part) (blocks later : List BlockBody)
     → length later ≡ length blocks + length part.pieces
 number_behind part blocks later is =
     let sizes : length (bodies later) ≡ length (bodies blocks ++ map piece_body part.pieces) = ap length is in
-    omega (arith, sizes, length-append (bodies blocks) (map piece_body part.pieces),
-    length-map later body_of, length-map blocks body_of, length-map part.pieces piece_body)
+    omega (
+      arith,
+      sizes,
+      length-append (bodies blocks) (map piece_body part.pieces),
+      length-map later body_of,
+      length-map blocks body_of,
+      length-map part.pieces piece_body,
+    )
 
 -- the blocks of two parts
 blocks_of_two : (first second : Gen) (blocks between later : List BlockBody)

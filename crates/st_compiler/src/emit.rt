@@ -1,7 +1,7 @@
 //! The instructions of each part of a tree, in one cycle.
 //!
-//! Each function adds the code of a part to `code`, and the blocks that are pushed in it to `blocks`.
-//! `height` is how many values stand on the stack beneath what the part puts there; it never counts
+//! Each function adds the code of a part to `code`, and the blocks that are pushed in it to
+//! `blocks`. `height` is how many values stand on the stack beneath what the part puts there; it never counts
 //! more than the part that is left allows.
 #![tactic(auto, using(crate::proofs::Emits::emits))]
 
@@ -19,8 +19,8 @@ ghost use Rattle.st_compiler.specs.Emitted.{instructions, body_of, tree_body, Pu
 
 use crate::instr::{BlockBody, Instr};
 use crate::parts::{
-    literal_op, push_op, put, put_assigned, put_begin_repeating, put_block, put_choice, put_count, put_hand,
-    put_no_block, put_pops, put_while, return_op, send_op, singleton_op,
+    literal_op, push_op, put, put_assigned, put_begin_repeating, put_block, put_choice, put_count,
+    put_hand, put_no_block, put_pops, put_while, return_op, send_op, singleton_op,
 };
 use st_locals::{Place, block_place, first_loop, form_under, is_super_head};
 use st_tree::{BlockTree, Expr, Message, Primary, Stat};
@@ -81,7 +81,9 @@ fn emit_whole(
     let Some(when) = when else {
         emit_head(alloc, code, blocks, place, head, height)?;
         let to_super = is_super_head(head);
-        return emit_messages(alloc, code, blocks, place, messages, cascade, to_super, height);
+        return emit_messages(
+            alloc, code, blocks, place, messages, cascade, to_super, height,
+        );
     };
     emit_while(alloc, code, blocks, place, when, head, messages, height)?;
     let Some((_, rest)) = messages.split_first() else {
@@ -190,7 +192,15 @@ fn emit_in_place(
         Primary::Block(block) => {
             let (params, temps) = (&block.params, &block.temps);
             emit_block_in_place(
-                alloc, code, blocks, place, params, temps, &block.body, handed, height,
+                alloc,
+                code,
+                blocks,
+                place,
+                params,
+                temps,
+                &block.body,
+                handed,
+                height,
             )
         }
         Primary::Name(_) => put_no_block(code, handed),
@@ -219,10 +229,14 @@ fn emit_block_in_place(
 {
     let variables = params.len() + temps.len();
     if variables == 0 {
-        return emit_body(alloc, code, blocks, place, params, temps, body, handed, height);
+        return emit_body(
+            alloc, code, blocks, place, params, temps, body, handed, height,
+        );
     }
     put(code, Instr::Enter(variables))?;
-    emit_body(alloc, code, blocks, place, params, temps, body, handed, height)?;
+    emit_body(
+        alloc, code, blocks, place, params, temps, body, handed, height,
+    )?;
     put(code, Instr::Leave)
 }
 
@@ -320,7 +334,9 @@ fn emit_messages(
         return Ok(());
     };
     if rest.is_empty() {
-        return emit_last(alloc, code, blocks, place, message, cascade, to_super, height);
+        return emit_last(
+            alloc, code, blocks, place, message, cascade, to_super, height,
+        );
     }
     emit_by_form(alloc, code, blocks, place, message, to_super, height)?;
     emit_messages(alloc, code, blocks, place, rest, cascade, false, height)
@@ -346,7 +362,9 @@ fn emit_last(
     if cascade.is_empty() {
         return emit_by_form(alloc, code, blocks, place, message, to_super, height);
     }
-    emit_cascade(alloc, code, blocks, place, message, cascade, to_super, height)
+    emit_cascade(
+        alloc, code, blocks, place, message, cascade, to_super, height,
+    )
 }
 
 // The messages of a cascade, each to the same receiver.
@@ -368,12 +386,26 @@ fn emit_cascade(
 {
     let Some((next, others)) = rest.split_first() else {
         return emit_as_sent(
-            alloc, code, blocks, place, &message.selector, &message.args, to_super, height,
+            alloc,
+            code,
+            blocks,
+            place,
+            &message.selector,
+            &message.args,
+            to_super,
+            height,
         );
     };
     put(code, Instr::Dup)?;
     emit_as_sent(
-        alloc, code, blocks, place, &message.selector, &message.args, to_super, height + 1,
+        alloc,
+        code,
+        blocks,
+        place,
+        &message.selector,
+        &message.args,
+        to_super,
+        height + 1,
     )?;
     put(code, Instr::Pop)?;
     emit_cascade(alloc, code, blocks, place, next, others, to_super, height)
@@ -439,7 +471,15 @@ fn emit_by_form(
 {
     let form = form_under(to_super, &message.selector, &message.args);
     emit_form(
-        alloc, code, blocks, place, form, &message.selector, &message.args, to_super, height,
+        alloc,
+        code,
+        blocks,
+        place,
+        form,
+        &message.selector,
+        &message.args,
+        to_super,
+        height,
     )
 }
 
@@ -463,10 +503,14 @@ fn emit_form(
 {
     match form {
         Form::Plain => {
-            emit_as_sent(alloc, code, blocks, place, selector, arguments, to_super, height)
+            emit_as_sent(
+                alloc, code, blocks, place, selector, arguments, to_super, height,
+            )
         }
         Form::OneArm(when, otherwise) => {
-            emit_one_arm(alloc, code, blocks, place, arguments, when, otherwise, height)
+            emit_one_arm(
+                alloc, code, blocks, place, arguments, when, otherwise, height,
+            )
         }
         Form::TwoArms(when) => {
             emit_two_arms(alloc, code, blocks, place, arguments, when, height)
