@@ -6,6 +6,8 @@
 #[cfg(test)]
 mod op_table_tests;
 #[cfg(test)]
+mod st_code_tests;
+#[cfg(test)]
 mod st_lexer_tests;
 #[cfg(test)]
 mod st_parser_tests;

@@ -5,6 +5,8 @@
 
 #[cfg(test)]
 mod calls;
+#[cfg(test)]
+mod compiled;
 mod kernel_state;
 #[cfg(test)]
 mod replies;

@@ -15,21 +15,6 @@ none_begins block at zero (byte ∷ rest) some is none =
     ap (λ found. after_line at found (λ skip. lines_from block (at + 1) skip rest)) none
 none_begins block at (suc skip) (byte ∷ rest) some is none = absurd (omega arith)
 
--- what is joined to nothing, and to one thing more
-pub joined_none : (read : Result Lines ℕ) → joined (Ok []) read ≡ read
-joined_none (Ok lines) = refl
-joined_none (Err place) = refl
-
-pub joined_more : (done : Lines) (first : Option Line) (read : Result Lines ℕ)
-    → joined (Ok (done ++ first ∷ [])) read ≡ joined (Ok done) (with_first first read)
-joined_more done first (Ok lines) = ap (λ l. Ok l) (append_assoc done (first ∷ []) lines)
-joined_more done first (Err place) = refl
-
-pub joined_all : (done own : Lines) (read : Result Lines ℕ)
-    → joined (Ok (done ++ own)) read ≡ joined (Ok done) (joined (Ok own) read)
-joined_all done own (Ok lines) = ap (λ l. Ok l) (append_assoc done own lines)
-joined_all done own (Err place) = refl
-
 -- blocks end within the code, and each above its start
 both : (a b : Bool) → (a && b) ≡ true → (a ≡ true) × (b ≡ true)
 both true b is = (refl, is)

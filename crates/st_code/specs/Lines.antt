@@ -75,8 +75,8 @@ abbrev pub after_line : (at : ℕ) → Option Line → (ℕ → Result Lines ℕ
 after_line at None rest = Err at
 after_line at (Some line) rest = with_first (Some line) (rest (line.next - (at + 1)))
 
--- What stands at the places of a block's bytes from here on, where so many of them are operands yet;
--- or the place at which an instruction has to begin and none does.
+-- What stands at the places of a block's bytes from here on, where so many of them are operands
+-- yet; or the place at which an instruction has to begin and none does.
 abbrev pub lines_from : (block at skip : ℕ) → List ℕ → Result Lines ℕ
 lines_from block at skip [] = Ok []
 lines_from block at (suc skip) (byte ∷ rest) =

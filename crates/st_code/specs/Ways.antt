@@ -37,8 +37,8 @@ arguments op count = 0
 abbrev pub takes : Line → ℕ
 takes line = line.row.pops + arguments line.row.op line.second
 
--- The height behind an instruction. At the end of a loop its two numbers are dropped, and nothing is
--- put.
+-- The height behind an instruction. At the end of a loop its two numbers are dropped, and nothing
+-- is put.
 abbrev pub height_after : Line → (puts : ℕ) → (height : ℕ) → ℕ
 height_after line puts height = height - takes line + puts
 

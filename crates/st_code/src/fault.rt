@@ -1,13 +1,14 @@
 //! What is wrong with code.
-ghost use Rattle.std.specs.Prelude.{◌≡◌};
+ghost use Rattle.std.specs.Prelude.{◌≡◌, Some};
 ghost use Rattle.st_code.specs.declared.fault.CodeFault.TheVariants.{NoMemory};
+ghost use Rattle.st_code.specs.FaultText.{fault_text};
 
 use std::alloc::{AllocError, AllocFailed};
 use std::error::Error;
 use std::fmt;
 
-/// Why bytes, literals and blocks are no code. Each fault but the last has the lowest place at which
-/// its rule breaks; the rules are tried in the order Byte, Jump, Operand, Stack.
+/// Why bytes, literals and blocks are no code. Each fault but the last has the lowest place at
+/// which its rule breaks; the rules are tried in the order Byte, Jump, Operand, Stack.
 #[derive(Clone, Copy, Debug, PartialEq, Eq)]
 pub enum CodeFault {
     /// No instruction begins at the place, though the one before it ends there.
@@ -27,6 +28,8 @@ pub enum CodeFault {
 }
 
 impl fmt::Display for CodeFault {
+    ghost output = { λ fault. Some (fault_text fault) };
+
     fn fmt<W: fmt::Write>(&self, f: &mut fmt::Formatter<W>) -> fmt::Result {
         match *self {
             CodeFault::Byte { at } => write!(f, "byte at {at}"),

@@ -1,10 +1,11 @@
-//! Room: language. Takes bytes, literals and blocks; gives code that keeps the rules of checked code,
-//! or the place at which one first breaks. Knows nothing of how code is carried out.
+//! Room: language. Takes bytes, literals and blocks; gives code that keeps the rules of checked
+//! code, or the place at which one first breaks. Knows nothing of how code is carried out.
 #![tactic(auto)]
 
 mod blocks;
 mod code;
 mod fault;
+pub mod laws;
 mod line;
 mod literals;
 mod reach;

@@ -134,9 +134,9 @@ fn scope_found(
     line: &Line,
     found: Option<u32>,
 ) -> Result<Option<u32>, AllocError>
-    ensures { IfOk result (λ lowest_found. lowest_found
-        ≡ lowest found (scope_faults known.now.lines.items blocks.now known.now.held.items at line.now
-        (slice_get known.now.held.items at))) }
+    ensures { IfOk result (λ place. place
+        ≡ lowest found (scope_faults known.now.lines.items blocks.now known.now.held.items at
+        line.now (slice_get known.now.held.items at))) }
 {
     let Some(Some(held)) = known.held.get(at as usize) else {
         return Ok(found);
@@ -156,7 +156,7 @@ fn operand_found(
     line: Option<Line>,
     found: Option<u32>,
 ) -> Result<Option<u32>, AllocError>
-    ensures { IfOk result (λ lowest_found. lowest_found
+    ensures { IfOk result (λ place. place
         ≡ lowest found (operand_faults literals.now known.now.lines.items blocks.now
         known.now.pushes.items known.now.held.items at line)) }
 {
@@ -207,8 +207,9 @@ fn stack_found(
     line: Option<Line>,
     found: Option<u32>,
 ) -> Result<Option<u32>, AllocError>
-    ensures { IfOk result (λ lowest_found. lowest_found
-        ≡ lowest found (stack_faults known.now.lines.items blocks.now known.now.held.items at line)) }
+    ensures { IfOk result (λ place. place
+        ≡ lowest found (stack_faults known.now.lines.items blocks.now known.now.held.items at
+        line)) }
 {
     let Some(line) = line else {
         return Ok(found);

@@ -8,3 +8,4 @@ pub mod Whole
 pub mod Blocks
 pub mod OneAnswer
 pub mod Heights
+pub mod Emits

@@ -3,3 +3,4 @@ pub mod Code
 pub mod TreeCode
 pub mod Machine
 pub mod Runs
+pub mod Emitted

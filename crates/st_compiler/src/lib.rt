@@ -2,4 +2,11 @@
 //! Stone and of other sessions.
 #![tactic(auto)]
 
+mod emit;
+mod instr;
 pub mod laws;
+mod parts;
+mod program;
+
+pub use instr::{BlockBody, Instr};
+pub use program::{Compiled, compile};

@@ -1,0 +1,29 @@
+//! What follows from the rules of checked code. Each law is the contract of a function that does
+//! nothing.
+ghost use Rattle.std.specs.Prelude.{◌≡◌, ℕ, true, List, None, Some, Ok, slice_get};
+ghost use Rattle.st_tree.specs.declared.nodes.Literal.{Literal};
+ghost use Rattle.st_code.specs.Held.{Held};
+ghost use Rattle.st_code.specs.Lines.{Lines, lines_of};
+ghost use Rattle.st_code.specs.Comes.{Comes};
+ghost use Rattle.st_code.specs.Faults.{scopes_fit, stack_fits, fault_of};
+ghost use Rattle.st_code.specs.declared.blocks.BlockCode.{BlockCode};
+ghost use Rattle.st_code.specs.declared.line.Line.{Line};
+
+/// In checked code all ways to a place bring the same there.
+pub fn ways_agree()
+    ensures { (bytes : List ℕ) (literals : List Literal) (blocks : List BlockCode)
+        (lines : Lines) (at : ℕ) (held other : Held)
+        → fault_of bytes literals blocks ≡ None → lines_of bytes 0 blocks ≡ Ok lines
+        → Comes lines blocks at held → Comes lines blocks at other → held ≡ other }
+{}
+
+/// And whatever way leads to an instruction, it finds what it takes, its variable is one of an open
+/// scope, and the way goes on within its block.
+pub fn ways_fit()
+    ensures { (bytes : List ℕ) (literals : List Literal) (blocks : List BlockCode)
+        (lines : Lines) (at : ℕ) (held : Held) (line : Line)
+        → fault_of bytes literals blocks ≡ None → lines_of bytes 0 blocks ≡ Ok lines
+        → Comes lines blocks at held → slice_get lines at ≡ Some (Some line)
+        → (scopes_fit line.row.op line.first line.second held ≡ true)
+        × (stack_fits lines line held.height ≡ true) }
+{}
