@@ -1,5 +1,5 @@
 -- Objects that are made: their checks, what is left where they fit, and where they don't.
-use Rattle.std.proofs.Common.{◌≡◌, ◌∙◌, refl, sym, ap, ap₂, subst, ℕ, ◌+◌, ◌-◌, ◌*◌, ◌^◌, ◌<◌, ◌≤◌, Bool, true, false, cond, nat_le, List, [], ◌∷◌, length, map, Result, Ok, Err, arith}
+use Rattle.std.proofs.Common.{◌≡◌, ◌∙◌, refl, sym, ap, ap₂, subst, ℕ, ◌+◌, ◌-◌, ◌*◌, ◌^◌, ◌≤◌, Bool, true, false, cond, nat_le, List, [], ◌∷◌, length, map, Result, Ok, Err, arith}
 use Rattle.std.specs.List.{list_all}
 use Rattle.std.specs.FinMap.{insert}
 use Rattle.std.proofs.lemmas.Bool.{leb-true, le-leb}
@@ -12,12 +12,12 @@ use Rattle.object_programs.specs.Budget.{is_within_limits}
 use Rattle.object_programs.specs.Guard.{may_make, all_fit}
 use Rattle.object_programs.specs.Fixed.{fixed_by}
 use Rattle.object_programs.specs.Laws.{answered}
-use Rattle.object_programs.specs.Atom.{Make, MakeCheck, too_large, no_name, no_space, no_fault, make_check, objects_cost, with_new, made_where, made_by, refused, done, Done, touch_missing}
+use Rattle.object_programs.specs.Atom.{Make, MakeCheck, too_large, no_name, no_space, no_fault, make_check, objects_cost, with_new, made_where, made_by, refused, done, Done}
 use Rattle.object_programs.specs.declared.fault.Fault.{Fault}
 use Rattle.object_programs.specs.declared.fault.Fault.TheVariants as fault
 use Rattle.object_programs.specs.declared.limits.TheConstants.{COUNTER_LIMIT}
 use Rattle.running_objects.specs.Seen.{Seen, IsSoundState}
-use Rattle.running_objects.specs.Acted.{Acted, Made}
+use Rattle.running_objects.specs.Acted.{Made}
 use Rattle.running_objects.specs.declared.stop.Stop.{Stop}
 use Rattle.running_objects.specs.declared.stop.Stop.TheVariants as stop
 use Rattle.object_guard.specs.Parts.{with_objects}

@@ -6,7 +6,6 @@ use Rattle.gem_object.specs.declared.body.Body.{Body}
 use Rattle.gem_update.specs.Update.{updated}
 use Rattle.gem_update.specs.declared.update.Update.{Update}
 use Rattle.gem_image.specs.Image.{Contents}
-use Rattle.gem_world.specs.Changes.{with_body}
 use Rattle.body_growth.specs.declared.change.Change.{Change}
 use Rattle.body_growth.specs.Changes.{Changes, Tells}
 use Rattle.plain_state.specs.Updates.{with_update}
