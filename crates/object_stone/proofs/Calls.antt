@@ -1,5 +1,5 @@
 -- What the calls of a Stone that is alone say.
-use Rattle.std.proofs.Common.{◌≡◌, ◌≢◌, ◌↔◌, ◌==◌, ◌+◌, ◌-◌, ◌<◌, ◌≤◌, ◌^◌, ℕ, Bool, true, false, is_some, IsTrue, IfOk, Result, Ok, Err, List, [], ◌∷◌, ◌++◌, refl, sym, ap, subst, ◌∙◌, arith, append-nil}
+use Rattle.std.proofs.Common.{◌≡◌, ◌≢◌, ◌↔◌, ◌==◌, ℕ, Bool, true, false, is_some, IsTrue, IfOk, Result, Ok, Err, List, [], ◌∷◌, ◌++◌, refl, sym, ap, subst, ◌∙◌, arith, append-nil}
 use Rattle.std.proofs.lemmas.Bool.Decides.{nat_tests}
 use Rattle.std.proofs.lemmas.List.Elements.{filter-append}
 use Rattle.gem_image.specs.Image.{Image}
@@ -8,7 +8,6 @@ use Rattle.gem_record.specs.declared.record.TxnRecord.{TxnRecord}
 use Rattle.lock_table.specs.Locks.{kind_held}
 use Rattle.lock_table.specs.declared.lock.LockKind.{LockKind}
 use Rattle.object_meaning.specs.declared.event.What.{What}
-use Rattle.object_meaning.specs.Opened.{session_serial}
 use Rattle.object_meaning.specs.Events.{Event, Told, Standing, told_more, after_events, standing, events_of}
 use Rattle.object_meaning.specs.Serial.{IsConsistent, CanServe, HoldsSome}
 use Rattle.object_meaning.specs.Locks.{leaving}

@@ -1,8 +1,6 @@
 -- What each call of a Stone answers, by the events before and after it. Events of other sessions
 -- may come first; then the call's own one. Each answer is judged when the others' events have come.
-use Rattle.std.specs.Prelude.{◌≡◌, ◌≢◌, ◌↔◌, ◌≤◌, ◌<◌, ◌^◌, ℕ, ◌+◌, Bool, true, IsTrue, List, [], ◌∷◌, ◌++◌, Option, Some, None, IsSome, is_some}
-use Rattle.std.specs.FinMap.{get}
-use Rattle.gem_value.specs.Oid.{oid_number}
+use Rattle.std.specs.Prelude.{◌≡◌, ◌≢◌, ◌↔◌, ◌<◌, ◌^◌, ℕ, ◌+◌, Bool, true, IsTrue, List, [], ◌∷◌, ◌++◌, Some, None, is_some}
 use Rattle.gem_image.specs.Image.{Image}
 use Rattle.gem_sound.specs.Sound.{IsSoundImage}
 use Rattle.gem_record.specs.declared.record.TxnRecord.{TxnRecord}
@@ -11,10 +9,10 @@ use Rattle.commit_check.specs.Conflicts.{last_change}
 use Rattle.lock_table.specs.LockKind.{kind_granted}
 use Rattle.lock_table.specs.Locks.{kind_held, denied_for}
 use Rattle.lock_table.specs.declared.lock.LockKind.{LockKind}
-use Rattle.object_meaning.specs.declared.event.What.TheVariants.{Placed, Held, Dropped, Left}
+use Rattle.object_meaning.specs.declared.event.What.TheVariants.{Placed, Held, Dropped}
 use Rattle.object_meaning.specs.Opened.{Opened, session_serial}
 use Rattle.object_meaning.specs.Effect.{IsUnchanged}
-use Rattle.object_meaning.specs.Events.{Event, Told, Standing, next_counter, after_events, events_of, Extends, OthersCame, conflicts_at}
+use Rattle.object_meaning.specs.Events.{Event, Told, Standing, after_events, events_of, Extends, OthersCame, conflicts_at}
 use Rattle.object_meaning.specs.Serial.{HoldsSome, IsConsistent}
 use Rattle.object_meaning.specs.Locks.{leaving}
 pub use Rattle.history_laws.specs.Names.{NamesAreFree}

@@ -1,6 +1,4 @@
-use Rattle.std.proofs.Common.{◌≡◌, ◌<◌, ◌+◌, ◌^◌, ℕ, length, take, true, refl, sym, ap, subst, ◌∙◌, arith}
-use Rattle.gem_object.specs.declared.object.Object.{Object}
-use Rattle.gem_update.specs.Spelling.{entries_of}
+use Rattle.std.proofs.Common.{◌≡◌, ◌<◌, length, refl, arith}
 use Rattle.object_stone.proofs.Fits.{fits_one_more, all_fit}
 use Rattle.object_stone.proofs.effect.fit.Goals as goal
 

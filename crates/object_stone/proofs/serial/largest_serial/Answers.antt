@@ -1,5 +1,4 @@
-use Rattle.std.proofs.Common.{◌≡◌, ◌+◌, ◌*◌, ◌^◌, None, is_some, subst, ap, sym, ◌∙◌, arith}
-use Rattle.radix_pages.specs.Next.{IsNext}
+use Rattle.std.proofs.Common.{is_some, ap, arith}
 use Rattle.history_laws.proofs.Serials.{serial_at_most}
 use Rattle.object_stone.proofs.Largest.{no_more_serials}
 use Rattle.object_stone.proofs.serial.largest_serial.Goals as goal

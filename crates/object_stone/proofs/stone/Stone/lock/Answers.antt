@@ -1,5 +1,5 @@
-use Rattle.std.proofs.Common.{◌≡◌, ◌+◌, ◌≤◌, ℕ, true, [], ◌∷◌, ◌++◌, length, vec_capacity, IsSome, ap, sym, subst, ◌∙◌, arith}
-use Rattle.std.specs.FinMap.{len, get}
+use Rattle.std.proofs.Common.{◌≡◌, ℕ, true, [], ◌∷◌, ◌++◌, IsSome, ap, sym, subst, ◌∙◌, arith}
+use Rattle.std.specs.FinMap.{get}
 use Rattle.lock_table.specs.Asked.{Answers}
 use Rattle.lock_table.specs.declared.lock.Asked.TheVariants.{Granted}
 use Rattle.object_meaning.specs.declared.event.What.TheVariants.{Held}

@@ -1,4 +1,4 @@
-use Rattle.std.proofs.Common.{◌≡◌, true, ℕ, ◌∙◌, sym, subst, arith}
+use Rattle.std.proofs.Common.{◌≡◌, true, ◌∙◌, sym, subst, arith}
 use Rattle.lock_table.proofs.Counts.{left_none}
 use Rattle.object_meaning.specs.Events.{Told}
 use Rattle.object_stone.specs.Stone.{is_session}
