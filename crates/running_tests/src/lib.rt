@@ -1,6 +1,6 @@
 //! Room: running. Tests `plain_state`, the primitives (`prim_numbers`, `prim_classes`,
-//! `prim_collections`, `prim_shared`, by `prim_calls`), `st_outside` and `st_plain`. Gives a
-//! transaction on the kernel's objects, for tests and for `bench/plain`.
+//! `prim_collections`, `prim_shared`, by `prim_calls`), `st_outside`, `st_plain` and
+//! `st_compiler`. Gives a transaction on the kernel's objects, for tests and for `bench/plain`.
 #![tactic(auto)]
 
 #[cfg(test)]
