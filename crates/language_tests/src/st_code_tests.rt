@@ -78,87 +78,342 @@ fn wrong(alloc: Global, cases: &[Case]) -> Result<Vec<usize>, AllocError> {
 // The list of blocks.
 const BLOCKS: [Case; 7] = [
     (b"\x01\x0f", &[], blocks![0 0 0], None),
-    (b"\x01\x0f", &[], blocks![], Some(CodeFault::Operand { at: 0 })),
+    (
+        b"\x01\x0f",
+        &[],
+        blocks![],
+        Some(CodeFault::Operand { at: 0 }),
+    ),
     (b"", &[], blocks![0 0 0], Some(CodeFault::Operand { at: 0 })),
-    (b"\x01\x0f", &[], blocks![1 0 0], Some(CodeFault::Operand { at: 0 })),
-    (b"\x01\x0f\x01\x11", &[], blocks![0 0 0, 0 0 0], Some(CodeFault::Operand { at: 0 })),
-    (b"\x01\x0f", &[], blocks![0 0 0, 2 0 0], Some(CodeFault::Operand { at: 0 })),
-    (b"\x1b", &[], blocks![0 0 0, 3 0 0], Some(CodeFault::Operand { at: 0 })),
+    (
+        b"\x01\x0f",
+        &[],
+        blocks![1 0 0],
+        Some(CodeFault::Operand { at: 0 }),
+    ),
+    (
+        b"\x01\x0f\x01\x11",
+        &[],
+        blocks![0 0 0, 0 0 0],
+        Some(CodeFault::Operand { at: 0 }),
+    ),
+    (
+        b"\x01\x0f",
+        &[],
+        blocks![0 0 0, 2 0 0],
+        Some(CodeFault::Operand { at: 0 }),
+    ),
+    (
+        b"\x1b",
+        &[],
+        blocks![0 0 0, 3 0 0],
+        Some(CodeFault::Operand { at: 0 }),
+    ),
 ];
 
 // Instructions that aren't there.
 const BYTES: [Case; 4] = [
-    (b"\x01\x1b", &[], blocks![0 0 0], Some(CodeFault::Byte { at: 1 })),
-    (b"\x01\x04\x00\x00", &[Kind::Number], blocks![0 0 0], Some(CodeFault::Byte { at: 1 })),
-    (b"\x04\x00\x00\x00\x00\x0f", &[Kind::Number], blocks![0 0 0, 3 0 0], Some(CodeFault::Byte { at: 0 })),
-    (b"\x12\x02\x00\x00\x00\x01\x0f\xff", &[], blocks![0 0 0], Some(CodeFault::Byte { at: 7 })),
+    (
+        b"\x01\x1b",
+        &[],
+        blocks![0 0 0],
+        Some(CodeFault::Byte { at: 1 }),
+    ),
+    (
+        b"\x01\x04\x00\x00",
+        &[Kind::Number],
+        blocks![0 0 0],
+        Some(CodeFault::Byte { at: 1 }),
+    ),
+    (
+        b"\x04\x00\x00\x00\x00\x0f",
+        &[Kind::Number],
+        blocks![0 0 0, 3 0 0],
+        Some(CodeFault::Byte { at: 0 }),
+    ),
+    (
+        b"\x12\x02\x00\x00\x00\x01\x0f\xff",
+        &[],
+        blocks![0 0 0],
+        Some(CodeFault::Byte { at: 7 }),
+    ),
 ];
 
 // Targets; the last one is a loop, whose two ends come to 22 with the same stack.
 const JUMPS: [Case; 7] = [
     (b"\x12\x05\x00\x00\x00\x01\x0f", &[], blocks![0 0 0], None),
-    (b"\x12\x02\x00\x00\x00\x01\x0f", &[], blocks![0 0 0], Some(CodeFault::Jump { at: 0 })),
-    (b"\x12\x07\x00\x00\x00\x01\x0f", &[], blocks![0 0 0], Some(CodeFault::Jump { at: 0 })),
-    (b"\x01\x0f\x12\x08\x00\x00\x00\x01\x0f", &[], blocks![0 0 0], Some(CodeFault::Jump { at: 2 })),
-    (b"\x0e\x01\x00\x00\x00\x0f\x12\x05\x00\x00\x00", &[], blocks![0 0 0, 6 0 0], Some(CodeFault::Jump { at: 6 })),
-    (b"\x08\x00\x00\x00\x00\x12\x00\x01\x00\x00", &[], blocks![0 0 0], Some(CodeFault::Jump { at: 5 })),
-    (b"\x04\x00\x00\x00\x00\x04\x00\x00\x00\x00\x18\x19\x16\x00\x00\x00\x0a\x1a\x0b\x00\x00\x00\x01\x0f", &[Kind::Number], blocks![0 0 0], None),
+    (
+        b"\x12\x02\x00\x00\x00\x01\x0f",
+        &[],
+        blocks![0 0 0],
+        Some(CodeFault::Jump { at: 0 }),
+    ),
+    (
+        b"\x12\x07\x00\x00\x00\x01\x0f",
+        &[],
+        blocks![0 0 0],
+        Some(CodeFault::Jump { at: 0 }),
+    ),
+    (
+        b"\x01\x0f\x12\x09\x00\x00\x00\x01\x0f",
+        &[],
+        blocks![0 0 0],
+        Some(CodeFault::Jump { at: 2 }),
+    ),
+    (
+        b"\x0e\x01\x00\x00\x00\x0f\x12\x05\x00\x00\x00",
+        &[],
+        blocks![0 0 0, 6 0 0],
+        Some(CodeFault::Jump { at: 6 }),
+    ),
+    (
+        b"\x08\x00\x00\x00\x00\x12\x00\x01\x00\x00",
+        &[],
+        blocks![0 0 0],
+        Some(CodeFault::Jump { at: 5 }),
+    ),
+    (
+        b"\x04\x00\x00\x00\x00\x04\x00\x00\x00\x00\x18\x19\x16\x00\x00\x00\x0a\x1a\x0b\x00\x00\x00\x01\x0f",
+        &[Kind::Number],
+        blocks![0 0 0],
+        None,
+    ),
 ];
 
 // Literals.
 const OPERANDS: [Case; 11] = [
-    (b"\x04\x00\x00\x00\x00\x0f", &[Kind::Number], blocks![0 0 0], None),
-    (b"\x04\x00\x00\x00\x00\x0f", &[Kind::Symbol], blocks![0 0 0], None),
-    (b"\x04\x01\x00\x00\x00\x0f", &[Kind::Number], blocks![0 0 0], Some(CodeFault::Operand { at: 0 })),
-    (b"\x04\x00\x00\x00\x00\x0f", &[Kind::Text], blocks![0 0 0], Some(CodeFault::Operand { at: 0 })),
-    (b"\x05\x00\x00\x00\x00\x0f", &[Kind::Text], blocks![0 0 0], None),
-    (b"\x05\x00\x00\x00\x00\x0f", &[Kind::Many], blocks![0 0 0], None),
-    (b"\x05\x00\x00\x00\x00\x0f", &[Kind::Number], blocks![0 0 0], Some(CodeFault::Operand { at: 0 })),
-    (b"\x08\x00\x00\x00\x00\x0f", &[Kind::Symbol], blocks![0 0 0], None),
-    (b"\x08\x00\x00\x00\x00\x0f", &[Kind::Number], blocks![0 0 0], Some(CodeFault::Operand { at: 0 })),
-    (b"\x01\x0c\x00\x00\x00\x00\x00\x00\x00\x00\x0f", &[Kind::Symbol], blocks![0 0 0], None),
-    (b"\x01\x0d\x00\x00\x00\x00\x00\x00\x00\x00\x0f", &[Kind::Many], blocks![0 0 0], Some(CodeFault::Operand { at: 1 })),
+    (
+        b"\x04\x00\x00\x00\x00\x0f",
+        &[Kind::Number],
+        blocks![0 0 0],
+        None,
+    ),
+    (
+        b"\x04\x00\x00\x00\x00\x0f",
+        &[Kind::Symbol],
+        blocks![0 0 0],
+        None,
+    ),
+    (
+        b"\x04\x01\x00\x00\x00\x0f",
+        &[Kind::Number],
+        blocks![0 0 0],
+        Some(CodeFault::Operand { at: 0 }),
+    ),
+    (
+        b"\x04\x00\x00\x00\x00\x0f",
+        &[Kind::Text],
+        blocks![0 0 0],
+        Some(CodeFault::Operand { at: 0 }),
+    ),
+    (
+        b"\x05\x00\x00\x00\x00\x0f",
+        &[Kind::Text],
+        blocks![0 0 0],
+        None,
+    ),
+    (
+        b"\x05\x00\x00\x00\x00\x0f",
+        &[Kind::Many],
+        blocks![0 0 0],
+        None,
+    ),
+    (
+        b"\x05\x00\x00\x00\x00\x0f",
+        &[Kind::Number],
+        blocks![0 0 0],
+        Some(CodeFault::Operand { at: 0 }),
+    ),
+    (
+        b"\x08\x00\x00\x00\x00\x0f",
+        &[Kind::Symbol],
+        blocks![0 0 0],
+        None,
+    ),
+    (
+        b"\x08\x00\x00\x00\x00\x0f",
+        &[Kind::Number],
+        blocks![0 0 0],
+        Some(CodeFault::Operand { at: 0 }),
+    ),
+    (
+        b"\x01\x0c\x00\x00\x00\x00\x00\x00\x00\x00\x0f",
+        &[Kind::Symbol],
+        blocks![0 0 0],
+        None,
+    ),
+    (
+        b"\x01\x0d\x00\x00\x00\x00\x00\x00\x00\x00\x0f",
+        &[Kind::Many],
+        blocks![0 0 0],
+        Some(CodeFault::Operand { at: 1 }),
+    ),
 ];
 
 // Blocks that are pushed.
 const PUSHES: [Case; 6] = [
-    (b"\x0e\x01\x00\x00\x00\x0f\x01\x11", &[], blocks![0 0 0, 6 0 0], None),
-    (b"\x01\x0f\x01\x11", &[], blocks![0 0 0, 2 0 0], Some(CodeFault::Operand { at: 2 })),
-    (b"\x0e\x00\x00\x00\x00\x0f", &[], blocks![0 0 0], Some(CodeFault::Operand { at: 0 })),
-    (b"\x0e\x01\x00\x00\x00\x0f", &[], blocks![0 0 0], Some(CodeFault::Operand { at: 0 })),
-    (b"\x0e\x01\x00\x00\x00\x0a\x0e\x01\x00\x00\x00\x0f\x01\x11", &[], blocks![0 0 0, 12 0 0], Some(CodeFault::Operand { at: 6 })),
-    (b"\x01\x0f\x0e\x01\x00\x00\x00\x11", &[], blocks![0 0 0, 2 0 0], Some(CodeFault::Operand { at: 2 })),
+    (
+        b"\x0e\x01\x00\x00\x00\x0f\x01\x11",
+        &[],
+        blocks![0 0 0, 6 0 0],
+        None,
+    ),
+    (
+        b"\x01\x0f\x01\x11",
+        &[],
+        blocks![0 0 0, 2 0 0],
+        Some(CodeFault::Operand { at: 2 }),
+    ),
+    (
+        b"\x0e\x00\x00\x00\x00\x0f",
+        &[],
+        blocks![0 0 0],
+        Some(CodeFault::Operand { at: 0 }),
+    ),
+    (
+        b"\x0e\x01\x00\x00\x00\x0f",
+        &[],
+        blocks![0 0 0],
+        Some(CodeFault::Operand { at: 0 }),
+    ),
+    (
+        b"\x0e\x01\x00\x00\x00\x0a\x0e\x01\x00\x00\x00\x0f\x01\x11",
+        &[],
+        blocks![0 0 0, 12 0 0],
+        Some(CodeFault::Operand { at: 6 }),
+    ),
+    (
+        b"\x01\x0f\x0e\x01\x00\x00\x00\x11",
+        &[],
+        blocks![0 0 0, 2 0 0],
+        Some(CodeFault::Operand { at: 2 }),
+    ),
 ];
 
 // Open scopes.
 const SCOPES: [Case; 13] = [
     (b"\x06\x00\x00\x00\x00\x00\x0f", &[], blocks![0 1 0], None),
     (b"\x06\x00\x01\x00\x00\x00\x0f", &[], blocks![0 1 1], None),
-    (b"\x06\x00\x00\x00\x00\x00\x0f", &[], blocks![0 0 0], Some(CodeFault::Operand { at: 0 })),
-    (b"\x01\x07\x01\x00\x00\x00\x00\x0f", &[], blocks![0 1 0], Some(CodeFault::Operand { at: 1 })),
-    (b"\x16\x02\x00\x00\x00\x06\x00\x01\x00\x00\x00\x17\x0f", &[], blocks![0 0 0], None),
-    (b"\x16\x02\x00\x00\x00\x06\x00\x02\x00\x00\x00\x17\x0f", &[], blocks![0 0 0], Some(CodeFault::Operand { at: 5 })),
-    (b"\x16\x02\x00\x00\x00\x17\x06\x00\x01\x00\x00\x00\x0f", &[], blocks![0 0 0], Some(CodeFault::Operand { at: 6 })),
-    (b"\x17\x01\x0f", &[], blocks![0 0 0], Some(CodeFault::Operand { at: 0 })),
-    (b"\x0e\x01\x00\x00\x00\x0f\x06\x01\x02\x00\x00\x00\x11", &[], blocks![0 1 2, 6 2 0], None),
-    (b"\x0e\x01\x00\x00\x00\x0f\x06\x00\x02\x00\x00\x00\x11", &[], blocks![0 1 2, 6 2 0], Some(CodeFault::Operand { at: 6 })),
-    (b"\x0e\x01\x00\x00\x00\x0f\x17\x01\x11", &[], blocks![0 1 2, 6 2 0], Some(CodeFault::Operand { at: 6 })),
-    (b"\x02\x13\x0b\x00\x00\x00\x16\x01\x00\x00\x00\x01\x0f", &[], blocks![0 0 0], Some(CodeFault::Operand { at: 11 })),
-    (b"\x01\x0f\x0e\x01\x00\x00\x00\x0f\x06\x07\x00\x00\x00\x00\x11", &[], blocks![0 0 0, 8 0 0], None),
+    (
+        b"\x06\x00\x00\x00\x00\x00\x0f",
+        &[],
+        blocks![0 0 0],
+        Some(CodeFault::Operand { at: 0 }),
+    ),
+    (
+        b"\x01\x07\x01\x00\x00\x00\x00\x0f",
+        &[],
+        blocks![0 1 0],
+        Some(CodeFault::Operand { at: 1 }),
+    ),
+    (
+        b"\x16\x02\x00\x00\x00\x06\x00\x01\x00\x00\x00\x17\x0f",
+        &[],
+        blocks![0 0 0],
+        None,
+    ),
+    (
+        b"\x16\x02\x00\x00\x00\x06\x00\x02\x00\x00\x00\x17\x0f",
+        &[],
+        blocks![0 0 0],
+        Some(CodeFault::Operand { at: 5 }),
+    ),
+    (
+        b"\x16\x02\x00\x00\x00\x17\x06\x00\x01\x00\x00\x00\x0f",
+        &[],
+        blocks![0 0 0],
+        Some(CodeFault::Operand { at: 6 }),
+    ),
+    (
+        b"\x17\x01\x0f",
+        &[],
+        blocks![0 0 0],
+        Some(CodeFault::Operand { at: 0 }),
+    ),
+    (
+        b"\x0e\x01\x00\x00\x00\x0f\x06\x01\x02\x00\x00\x00\x11",
+        &[],
+        blocks![0 1 2, 6 2 0],
+        None,
+    ),
+    (
+        b"\x0e\x01\x00\x00\x00\x0f\x06\x00\x02\x00\x00\x00\x11",
+        &[],
+        blocks![0 1 2, 6 2 0],
+        Some(CodeFault::Operand { at: 6 }),
+    ),
+    (
+        b"\x0e\x01\x00\x00\x00\x0f\x17\x01\x11",
+        &[],
+        blocks![0 1 2, 6 2 0],
+        Some(CodeFault::Operand { at: 6 }),
+    ),
+    (
+        b"\x02\x13\x0b\x00\x00\x00\x16\x01\x00\x00\x00\x01\x0f",
+        &[],
+        blocks![0 0 0],
+        Some(CodeFault::Operand { at: 11 }),
+    ),
+    (
+        b"\x01\x0f\x0e\x01\x00\x00\x00\x0f\x06\x07\x00\x00\x00\x00\x11",
+        &[],
+        blocks![0 0 0, 8 0 0],
+        None,
+    ),
 ];
 
 // The stack.
 const HEIGHTS: [Case; 10] = [
-    (b"\x0a\x01\x0f", &[], blocks![0 0 0], Some(CodeFault::Stack { at: 0 })),
-    (b"\x01\x01\x0f", &[], blocks![0 0 0], Some(CodeFault::Stack { at: 2 })),
-    (b"\x01", &[], blocks![0 0 0], Some(CodeFault::Stack { at: 0 })),
+    (
+        b"\x0a\x01\x0f",
+        &[],
+        blocks![0 0 0],
+        Some(CodeFault::Stack { at: 0 }),
+    ),
+    (
+        b"\x01\x01\x0f",
+        &[],
+        blocks![0 0 0],
+        Some(CodeFault::Stack { at: 2 }),
+    ),
+    (
+        b"\x01",
+        &[],
+        blocks![0 0 0],
+        Some(CodeFault::Stack { at: 0 }),
+    ),
     (b"\x01\x0f\x0a\x0a", &[], blocks![0 0 0], None),
-    (b"\x02\x13\x07\x00\x00\x00\x01\x01\x0f", &[], blocks![0 0 0], Some(CodeFault::Stack { at: 7 })),
-    (b"\x01\x0c\x00\x00\x00\x00\x01\x00\x00\x00\x0f", &[Kind::Symbol], blocks![0 0 0], Some(CodeFault::Stack { at: 1 })),
-    (b"\x01\x01\x0c\x00\x00\x00\x00\x01\x00\x00\x00\x0f", &[Kind::Symbol], blocks![0 0 0], None),
+    (
+        b"\x02\x13\x07\x00\x00\x00\x01\x01\x0f",
+        &[],
+        blocks![0 0 0],
+        Some(CodeFault::Stack { at: 7 }),
+    ),
+    (
+        b"\x01\x0c\x00\x00\x00\x00\x01\x00\x00\x00\x0f",
+        &[Kind::Symbol],
+        blocks![0 0 0],
+        Some(CodeFault::Stack { at: 1 }),
+    ),
+    (
+        b"\x01\x01\x0c\x00\x00\x00\x00\x01\x00\x00\x00\x0f",
+        &[Kind::Symbol],
+        blocks![0 0 0],
+        None,
+    ),
     (b"\x01\x0b\x0a\x0f", &[], blocks![0 0 0], None),
-    (b"\x0e\x01\x00\x00\x00\x0f\x01", &[], blocks![0 0 0, 6 0 0], Some(CodeFault::Stack { at: 6 })),
-    (b"\x0a\x04\x00\x00\x00\x00\x0f", &[], blocks![0 0 0], Some(CodeFault::Operand { at: 1 })),
+    (
+        b"\x0e\x01\x00\x00\x00\x0f\x01",
+        &[],
+        blocks![0 0 0, 6 0 0],
+        Some(CodeFault::Stack { at: 6 }),
+    ),
+    (
+        b"\x0a\x04\x00\x00\x00\x00\x0f",
+        &[],
+        blocks![0 0 0],
+        Some(CodeFault::Operand { at: 1 }),
+    ),
 ];
 
 #[test]
