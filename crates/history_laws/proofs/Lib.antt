@@ -17,4 +17,7 @@ pub mod Clean
 pub mod Merges
 pub mod Shown
 pub mod Rights
+pub mod Gains
+pub mod ChangedObjects
+pub mod NotedObjects
 pub mod Writes

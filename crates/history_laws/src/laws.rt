@@ -69,8 +69,7 @@ pub fn images_are_sound()
 /// serial are those that its commits drew, whose counters count from 1.
 pub fn names_are_free()
     ensures free { (t : Told) (session : ℕ) → CanServe t.opened → IsSerial t
-        → 1 ≤ session
-        → NamesAreFree t.opened (standing t) session }
+        → 1 ≤ session → NamesAreFree t.opened (standing t) session }
     ensures some { (t : Told) (session : ℕ) → CanServe t.opened → IsSerial t
         → 1 ≤ next_counter (standing t) session }
 {
@@ -108,9 +107,8 @@ pub fn records_stay()
 {}
 
 /// Events stay consistent when one more comes: a commit that has no conflicts and whose merged
-/// objects can be stored, a lock that is
-/// denied for nobody, on an object that is there, a lock that is given back by a session that holds
-/// it, and the end of a session that holds one.
+/// objects can be stored, a lock that is denied for nobody, on an object that is there, a lock that
+/// is given back by a session that holds it, and the end of a session that holds one.
 pub fn one_event_more()
     ensures begins { (o : Opened) → IsConsistent (record { opened = o; events = [] }) }
     ensures placed { (t : Told) (done : TxnRecord) → CanServe t.opened
@@ -154,8 +152,7 @@ pub fn clean_locks()
 /// since is as the transaction saw it, and there its updates are accepted.
 pub fn shown_after_view()
     ensures { (t : Told) (done : TxnRecord) → CanServe t.opened → IsSerial t
-        → IsRecorded t done
-        → (conflict : Conflict) → Contains (conflicts_at (standing t) done) conflict
+        → IsRecorded t done → (conflict : Conflict) → Contains (conflicts_at (standing t) done) conflict
         → conflict.kind ≢ WriteReadLock → conflict.kind ≢ WriteWriteLock
         → done.view < conflict.shown }
 {
