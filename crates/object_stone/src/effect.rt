@@ -27,7 +27,7 @@ use std::sync::ledger::Ledger;
 /// # Errors
 ///
 /// `AllocError` where memory ran out.
-pub(crate) fn effect_of(
+pub fn effect_of(
     alloc: Global,
     number: u64,
     done: &TxnRecord,

@@ -7,9 +7,8 @@ pub mod laws;
 mod port;
 mod serial;
 mod stone;
-#[cfg(test)]
-mod tests;
 
+pub use effect::effect_of;
 pub use port::{Begun, CommitAnswer, LockAnswer, StonePort};
 pub use serial::largest_serial;
 pub use stone::{Closed, Stone};

@@ -4,6 +4,8 @@
 #![tactic(auto)]
 
 #[cfg(test)]
+mod effect_tests;
+#[cfg(test)]
 mod lock_tests;
 #[cfg(test)]
 mod setting;

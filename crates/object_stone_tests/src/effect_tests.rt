@@ -1,10 +1,10 @@
 // The effect of a commit, of a record made by hand.
-use crate::effect::effect_of;
 use gem_image::Image;
 use gem_object::{Body, Object, Value, Values};
 use gem_record::{ByName, Effect, OidList, TxnRecord};
 use gem_update::Update;
 use gem_value::{Oid, Sequence};
+use object_stone::effect_of;
 use rc_counter_bag::Counter;
 use sorted_pairs::ascend;
 use std::alloc::{AllocError, Global};
