@@ -1,1 +1,1 @@
-mod Begins
+mod Beginning
