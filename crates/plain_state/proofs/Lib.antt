@@ -14,7 +14,4 @@ pub mod Bytes
 mod Updated
 mod NewObjects
 mod InTurn
-mod OneStep
-pub mod Listing
-mod Grouping
 mod Costs

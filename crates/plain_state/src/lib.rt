@@ -4,13 +4,10 @@
 
 mod calls;
 mod classes;
-mod direct;
 mod edit;
 mod edits;
 mod entry;
-mod groups;
 pub mod laws;
-mod lists;
 mod makes;
 mod many;
 mod moves;
@@ -20,6 +17,5 @@ mod parts;
 mod puts;
 mod state;
 mod updates;
-mod writes;
 
 pub use state::PlainState;

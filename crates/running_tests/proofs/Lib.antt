@@ -1,1 +1,1 @@
-mod Beginning
+mod Begins

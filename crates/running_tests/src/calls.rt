@@ -100,7 +100,7 @@ fn method_replies(
 }
 
 /// Notes a call that isn't answered as it should be.
-pub(crate) fn note_unless(wrong: &mut String, call: &str, right: bool) -> Result<(), AllocError> {
+fn note_unless(wrong: &mut String, call: &str, right: bool) -> Result<(), AllocError> {
     if right {
         return Ok(());
     }
@@ -151,7 +151,7 @@ fn wrong_calls<L: Ledger>(alloc: Global, blank: Blank) -> Result<String, AllocEr
     requires some_parts { 0 < L.parts }
 {
     let mut steps = Steps::<L>::start(blank);
-    let mut state = begin::<PlainState, L>(alloc, 1, &mut steps)?;
+    let mut state = begin(alloc, 1, &mut steps)?;
     let mut wrong = String::new(alloc);
     check_parts(alloc, &mut state, &mut wrong)?;
     check_commands(alloc, &mut state, &mut wrong)?;

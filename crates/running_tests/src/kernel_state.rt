@@ -1,233 +1,39 @@
-//! Transactions on the image of the kernel.
-ghost use Rattle.std.specs.Prelude.{◌≡◌, ◌<◌, ◌≤◌, ◌^◌, ℕ, true, None, is_some};
+//! The plain state on the image of the kernel.
+ghost use Rattle.std.specs.Prelude.{◌≡◌, ◌<◌, ◌≤◌, ◌^◌, IfOk};
 ghost use Rattle.gem_value.specs.Oid.{oid_number};
-ghost use Rattle.profile.specs.declared.kernel.TheConstants.{KERNEL_SERIAL, DATA_CURATOR_COUNTER};
-ghost use Rattle.gem_image.specs.Image.{objects_in};
-ghost use Rattle.gem_sound.specs.Parts.{user_at};
-ghost use Rattle.gem_sound.specs.Sound.{IsSoundImage};
-ghost use Rattle.plain_state.specs.State.{BeginsSound};
+ghost use Rattle.kernel_image.specs.Objects.{kernel_image};
+ghost use Rattle.plain_state.specs.State.{begun};
 
-use gem_image::Image;
-use gem_object::{Body, Object, Value, Values};
-use gem_sound::names::{ARRAY_CLASS, DATA_CURATOR_SEGMENT, RC_COUNTER_CLASS, SYSTEM_SEGMENT};
 use gem_value::Oid;
+use kernel_image::kernel;
 use kernel_image::laws::{kernel_by_names, kernel_is_sound};
-use kernel_image::{kernel, sound};
-use object_guard::is_spelled;
-use object_programs::laws::what_is_spelled;
 use plain_state::PlainState;
 use plain_state::laws::begins_on_sound_images;
 use profile::{DATA_CURATOR_COUNTER, KERNEL_SERIAL};
 use radix_pages::Steps;
-use rc_counter_bag::Counter;
-use running_objects::Objects;
-use session_view::View;
 use std::alloc::{AllocError, Global};
 use std::sync::ledger::Ledger;
 
 /// The serial of the session.
 const SERIAL: u32 = 1;
 
-/// What chunks run on, and a transaction is.
-pub trait Begins: Objects + Drop {
-    /// A transaction of DataCurator over an image, which draws its names from this counter on.
-    fn over(alloc: Global, image: Image, first: u32) -> Result<Self, AllocError>
-        requires { BeginsSound image image (oid_number KERNEL_SERIAL DATA_CURATOR_COUNTER) 1
-            first };
-
-    /// Begins a chunk.
-    fn begin_chunk(&mut self);
-
-    /// What the chunk has written on the transcript.
-    fn transcript(&self) -> &[u8];
-}
-
-impl Begins for PlainState {
-    fn over(alloc: Global, image: Image, first: u32) -> Result<PlainState, AllocError> {
-        let view = image.share()?;
-        Ok(PlainState::start(alloc, image, view, curator(), SERIAL, first))
-    }
-
-    fn begin_chunk(&mut self) {
-        PlainState::begin_chunk(self);
-    }
-
-    fn transcript(&self) -> &[u8] {
-        PlainState::transcript(self)
-    }
-}
-
-impl Begins for View {
-    fn over(alloc: Global, image: Image, first: u32) -> Result<View, AllocError> {
-        View::start(alloc, image, 0, SERIAL, first, curator())
-    }
-
-    fn begin_chunk(&mut self) {
-        View::begin_chunk(self);
-    }
-
-    fn transcript(&self) -> &[u8] {
-        View::transcript(self)
-    }
-}
-
-// The name of the profile of DataCurator.
-fn curator() -> Oid
-    ensures { result ≡ oid_number KERNEL_SERIAL DATA_CURATOR_COUNTER }
-{
-    Oid::from_parts(KERNEL_SERIAL, DATA_CURATOR_COUNTER)
-}
-
 /// A transaction of DataCurator on the kernel's objects, which draws its names from this counter
 /// on.
-pub fn begin<S: Begins, L: Ledger>(
+pub fn begin<L: Ledger>(
     alloc: Global,
     first: u32,
     steps: &mut Steps<L>,
-) -> Result<S, AllocError>
+) -> Result<PlainState, AllocError>
     requires some { 0 < first }
     requires bound { first ≤ 2 ^ 24 }
+    ensures { IfOk result (λ state. state ≡ begun kernel_image kernel_image
+        (oid_number KERNEL_SERIAL DATA_CURATOR_COUNTER) SERIAL first) }
 {
-    let image = kernel(alloc, steps)?;
+    let place = kernel(alloc, steps)?;
+    let view = kernel(alloc, steps)?;
+    let user = Oid::from_parts(KERNEL_SERIAL, DATA_CURATOR_COUNTER);
     kernel_is_sound();
     kernel_by_names();
     begins_on_sound_images();
-    S::over(alloc, image, first)
-}
-
-/// A transaction of DataCurator over any image, if that is sound, and has no object of the names
-/// that the transaction may draw.
-pub fn begin_over<S: Begins>(
-    alloc: Global,
-    image: Image,
-    first: u32,
-) -> Result<Option<S>, AllocError>
-    requires some { 0 < first }
-    requires bound { first ≤ 2 ^ 24 }
-{
-    match sound(alloc, &image) {
-        Ok(()) => begin_on_sound(alloc, image, first),
-        Err(_) => Ok(None),
-    }
-}
-
-// The same over an image that is sound.
-fn begin_on_sound<S: Begins>(
-    alloc: Global,
-    image: Image,
-    first: u32,
-) -> Result<Option<S>, AllocError>
-    requires sound { IsSoundImage image }
-    requires some { 0 < first }
-    requires bound { first ≤ 2 ^ 24 }
-{
-    if !has_curator(&image) {
-        return Ok(None);
-    }
-    if !are_free(&image, first) {
-        return Ok(None);
-    }
-    image.invariant();
-    begins_on_sound_images();
-    Ok(Some(S::over(alloc, image, first)?))
-}
-
-// Whether DataCurator is there.
-fn has_curator(image: &Image) -> bool
-    ensures { result ≡ true → is_some (user_at (objects_in image.now)
-        (oid_number KERNEL_SERIAL DATA_CURATOR_COUNTER)) ≡ true }
-{
-    match image.look(curator()) {
-        Some(object) => matches!(&object.body, Body::User(_)),
-        None => false,
-    }
-}
-
-// Whether no object has a name of the session's serial with this counter or a later one.
-fn are_free(image: &Image, first: u32) -> bool
-    ensures { result ≡ true → (counter : ℕ) → first ≤ counter → counter < 2 ^ 24
-        → objects_in image.now (oid_number 1 counter) ≡ None }
-{
-    let start = (1 << 24) + first as u64;
-    match image.next_from(start) {
-        Some(entry) => entry.0.number() >= 1 << 25,
-        None => true,
-    }
-}
-
-/// The name of the kernel's object with this counter.
-pub fn kernel_name(counter: u32) -> Oid
-    requires { counter < 2 ^ 24 }
-    ensures { result ≡ counter }
-{
-    Oid::from_parts(KERNEL_SERIAL, counter)
-}
-
-/// The image of the kernel with so many arrays of one slot and as many counters at 0, with names of
-/// the serial 2: the arrays have odd counters, and the other objects even ones. Every fourth pair
-/// of them lies in the system's segment, where DataCurator may only read, and the others in
-/// DataCurator's own.
-pub fn larger_image<L: Ledger>(
-    alloc: Global,
-    pairs: u32,
-    steps: &mut Steps<L>,
-) -> Result<Image, AllocError>
-    requires { pairs < 2 ^ 22 }
-{
-    let mut image = kernel(alloc, steps)?;
-    for pair in 0..pairs {
-        let segment = if pair % 4 == 3 {
-            kernel_name(SYSTEM_SEGMENT)
-        } else {
-            kernel_name(DATA_CURATOR_SEGMENT)
-        };
-        let mut values = Values::of(Vec::new(alloc));
-        values.push(Value::Nil)?;
-        let body = Body::Plain(values);
-        let array = Oid::from_parts(2, 2 * pair + 1);
-        insert(
-            alloc,
-            &mut image,
-            array,
-            kernel_name(ARRAY_CLASS),
-            segment,
-            body,
-            steps,
-        )?;
-        let body = Body::Counter(Counter { value: 0 });
-        let counter = Oid::from_parts(2, 2 * pair + 2);
-        insert(
-            alloc,
-            &mut image,
-            counter,
-            kernel_name(RC_COUNTER_CLASS),
-            segment,
-            body,
-            steps,
-        )?;
-    }
-    Ok(image)
-}
-
-// Puts an object into an image, if it can be stored.
-fn insert<L: Ledger>(
-    alloc: Global,
-    image: &mut Image,
-    oid: Oid,
-    class: Oid,
-    segment: Oid,
-    body: Body,
-    steps: &mut Steps<L>,
-) -> Result<(), AllocError> {
-    if !is_spelled(&body) {
-        return Ok(());
-    }
-    what_is_spelled();
-    let object = Object {
-        class,
-        segment,
-        changed: 0,
-        body,
-    };
-    image.insert(alloc, oid, object, steps)
+    Ok(PlainState::start(alloc, place, view, user, SERIAL, first))
 }

@@ -8,8 +8,7 @@ use Rattle.profile.specs.declared.kernel.TheConstants.{KERNEL_SERIAL, DATA_CURAT
 use Rattle.gem_value.specs.Oid.{oid_number}
 use Rattle.gem_object.specs.Spelling.{IsSpelled}
 use Rattle.gem_object.specs.declared.object.Object.{Object}
-use Rattle.gem_image.specs.Image.{Image, IsImage, AreNamed, AreSpelled, contents_of, objects_in}
-use Rattle.radix_pages.specs.Next.{IsNextAt}
+use Rattle.gem_image.specs.Image.{Image, IsImage, contents_of, objects_in}
 use Rattle.gem_sound.specs.Kernel.{kernel_classes}
 use Rattle.gem_sound.specs.Parts.{user_at}
 use Rattle.gem_sound.specs.Sound.{IsSoundImage, IsSoundFor}
@@ -79,31 +78,3 @@ begins_on_kernel place view user first place_is view_is user_is some bound sound
     (subst (λ i. IsSoundFor (objects_in i) user 1 first) (sym place_is)
     (subst (λ u. IsSoundFor (objects_in kernel_image) u 1 first) (sym user_is)
     (kernel_is_sound_for first some bound sound holds numbered))))
-
--- and it may begin on any sound image that has the user and none of its names
-pub begins_over : (image : Image) (first : ℕ) → AreNamed image → AreSpelled image → IsSoundImage image
-    → is_some (user_at (objects_in image) curator) ≡ true
-    → ((counter : ℕ) → first ≤ counter → counter < 2 ^ 24 → objects_in image (oid_number 1 counter) ≡ None)
-    → 0 < first → first ≤ 2 ^ 24 → Begins → BeginsSound image image curator 1 first
-begins_over image first named spelled sound there free some bound begins =
-    begins image curator 1 first (record { named = named; spelled = spelled }) (record {
-      sound = sound;
-      user_there = there;
-      serial_bound = omega arith;
-      some_name = some;
-      next_bound = bound;
-      free = free;
-    })
-
--- so none has a name of the session where none has from its first one on, or the next one's is past
--- the last
-module _ (image : Image) (start first : ℕ) (is : start ≡ 2 ^ 24 + first) where
-  abbrev AreFreeFrom : Type 0
-  AreFreeFrom = (counter : ℕ) → first ≤ counter → counter < 2 ^ 24 → objects_in image (oid_number 1 counter) ≡ None
-
-  pub free_without : IsNextAt (get image) start None → AreFreeFrom
-  free_without none counter from below = ap (option_map contents_of) (none (oid_number 1 counter) (omega (arith, is, from, below)))
-
-  pub free_before : (entry : ℕ × Object) → IsNextAt (get image) start (Some entry) → 2 ^ 25 ≤ entry.0 → AreFreeFrom
-  free_before entry next past counter from below = ap (option_map contents_of)
-      (next.1.1 (oid_number 1 counter) (omega (arith, is, from, below)) (omega (arith, past, from, below)))

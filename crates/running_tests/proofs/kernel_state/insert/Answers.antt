@@ -1,9 +1,0 @@
-use Rattle.std.proofs.Common.{◌∙◌, sym, rules}
-use Rattle.running_tests.proofs.kernel_state.insert.Goals as goal
-
-pub insert-requires : goal.insert-requires
-insert-requires g c = record {
-  class_name = search rules;
-  segment_name = search rules;
-  body = (c.what_is_spelled.ensures.bodies c.args.body).0 (sym c.is_spelled.ensures ∙ c.if-not-is_spelled.false);
-}
