@@ -72,7 +72,10 @@ fn queue(alloc: Global) -> Result<Body, Fail> {
 fn queues_and_counters(rt: HostRuntime) -> Result<(), Fail> {
     let rows = [
         (QueueUpdate::Add(Value::Nil), change((0, 0), (1, 1))),
-        (QueueUpdate::Remove(Value::Char(b'x')), change((1, 2), (0, 0))),
+        (
+            QueueUpdate::Remove(Value::Char(b'x')),
+            change((1, 2), (0, 0)),
+        ),
         (QueueUpdate::Remove(Value::Nil), None),
     ];
     let body = queue(rt.alloc())?;
@@ -81,7 +84,10 @@ fn queues_and_counters(rt: HostRuntime) -> Result<(), Fail> {
         assert_eq!(rt; told, want);
     }
     let body = Body::Counter(Counter { value: 1 });
-    assert_eq!(rt; body_updated(&body, &Update::Counter(1)), change((0, 0), (0, 0)));
+    assert_eq!(rt;
+        body_updated(&body, &Update::Counter(1)),
+        change((0, 0), (0, 0))
+    );
     assert_eq!(rt; body_updated(&body, &Update::Counter(i64::MAX)), None);
     assert_eq!(rt; body_updated(&body, &Update::Bag(add())), None);
     Ok(())
