@@ -1,5 +1,5 @@
 -- A legal run: the book of a run, by what the Stone was opened with and all its events.
-use Rattle.std.specs.Prelude.{◌≡◌, ◌≢◌, ℕ, ◌+◌, ◌++◌, nat_lt, List, [], ◌∷◌}
+use Rattle.std.specs.Prelude.{◌≡◌, ◌≢◌, ℕ, ◌+◌, ◌++◌, nat_lt, List, [], ◌∷◌, length}
 use Rattle.std.specs.List.{filter, AllByRecursion}
 use Rattle.shell_words.specs.Script.{SessionCommands}
 use Rattle.gem_record.specs.declared.record.Entry.{Entry}
@@ -7,9 +7,9 @@ use Rattle.gem_replies.specs.declared.reply.Line.TheVariants.{NoMemory}
 use Rattle.gem_replies.specs.declared.reply.Reply.{Reply}
 use Rattle.gem_replies.specs.declared.reply.Transcript.{Transcript}
 use Rattle.object_meaning.specs.Opened.{base_serial}
-use Rattle.object_meaning.specs.Events.{Event, Told, entries_of, events_of, standing}
+use Rattle.object_meaning.specs.Events.{Event, Told, entries_of, events_of}
 use Rattle.object_meaning.specs.Serial.{IsConsistent}
-use Rattle.object_meaning.specs.Session.{Says, TellsLogin}
+use Rattle.object_meaning.specs.Session.{Says}
 
 -- What a run leaves: the number of commits before it, the serial of its first session, what its
 -- sessions replied, and what was committed.
@@ -19,12 +19,12 @@ pub record Book : Type 0 where
   pub transcripts : List Transcript
   pub history : List Entry
 
--- the transcript is what the session with this number says
+-- the transcript is what the session with this number says, whatever had come before it
 pub record IsTranscript (t : Told) (number : ℕ) (session : SessionCommands)
     (transcript : Transcript) : Type 0 where
   pub session_is : transcript.session ≡ number
   pub user_is : transcript.user ≡ session.user
-  pub says : Says t number session transcript.replies
+  pub says : Says t number 0 session transcript.replies
 
 -- a transcript for each session, in the order of the script, whose numbers go on from this one
 abbrev pub AreTranscripts : Told → ℕ → List SessionCommands → List Transcript → Type 0
@@ -61,14 +61,14 @@ events_before session events = filter (λ event. nat_lt event.0 session) events
 abbrev pub told_before : ℕ → Told → Told
 told_before session t = record t { events = events_before session t.events }
 
--- A session's turn: its events follow those of the sessions before it, its login tells the number
--- that stands after these, and what it says it says by these and its own alone.
+-- A session's turn: its events follow those of the sessions before it, its login saw all these, and
+-- what it says it says by these and its own alone.
 pub record IsTurn (t : Told) (session : ℕ) (script : SessionCommands)
     (transcript : Transcript) : Type 0 where
   pub order : events_before (session + 1) t.events
       ≡ events_before session t.events ++ events_of session t.events
-  pub login : TellsLogin (standing (told_before session t)).number transcript.replies
-  pub says : Says (told_before (session + 1) t) session script transcript.replies
+  pub says : Says (told_before (session + 1) t) session
+      (length (events_before session t.events)) script transcript.replies
 
 -- The sessions, whose numbers go on from this one, took turns in the order of the script.
 abbrev pub AreInTurn : Told → ℕ → List SessionCommands → List Transcript → Type 0

@@ -1,5 +1,5 @@
 -- What a session says: its replies to each command, by the events that had come before them.
-use Rattle.std.specs.Prelude.{◌≡◌, ◌⊎◌, ℕ, zero, suc, ◌+◌, ◌-◌, ◌≤◌, List, [], ◌∷◌, ◌++◌, length, map, take, drop, Option, Some, None, if◌then◌else◌}
+use Rattle.std.specs.Prelude.{◌≡◌, ℕ, zero, suc, ◌+◌, ◌-◌, ◌≤◌, List, [], ◌∷◌, ◌++◌, length, map, take, drop, Option, Some, None, if◌then◌else◌}
 use Rattle.std.specs.List.{slice_get}
 use Rattle.gem_replies.specs.declared.reply.Line.{Line}
 use Rattle.gem_replies.specs.declared.reply.Line.TheVariants.{NoUser, NotLoggedIn, Login, Logout as LoggedOut}
@@ -8,9 +8,8 @@ use Rattle.shell_words.specs.Script.{SessionCommands, is_logout}
 use Rattle.shell_words.specs.declared.script.Command.{Command}
 use Rattle.shell_words.specs.declared.script.Command.TheVariants.{Chunk, Method, Commit, Abort, Logout, Lock, Unlock}
 use Rattle.object_meaning.specs.Commands.{object_command}
-use Rattle.object_meaning.specs.Opened.{Opened}
 use Rattle.object_meaning.specs.Names.{user_in}
-use Rattle.object_meaning.specs.Events.{Event, Told, after_events, events_of, Extends}
+use Rattle.object_meaning.specs.Events.{Told, after_events, events_of}
 use Rattle.object_meaning.specs.State.{SessionState, CommandPlace, first_transaction, place_between}
 use Rattle.object_meaning.specs.Runs.{RunSays}
 use Rattle.object_meaning.specs.Commits.{SeesNumber, CommitReply, AbortReply}
@@ -100,26 +99,15 @@ SaysOf (Some user) t session point view commands rs =
 SaysOf None t session point view commands rs = SaysOfNobody t session point view commands rs
 
 -- What a session of the script replies, by all events: to its login, which saw the first `point`
--- events, all of other sessions, and then to each command.
-pub record Says (t : Told) (session : ℕ) (script : SessionCommands) (rs : List Reply) : Type 0 where
+-- events, all of other sessions, and then to each command. The first `seen` events had come before
+-- the session: its login saw these, and perhaps further ones. What came later, it didn't see.
+pub record Says (t : Told) (session seen : ℕ) (script : SessionCommands) (rs : List Reply)
+    : Type 0 where
   pub of_script : slice_get t.opened.script (session - 1) ≡ Some script
   pub point : ℕ
   pub view : ℕ
+  pub saw : seen ≤ point
   pub within : point ≤ length t.events
   pub sees : SeesNumber t.opened session [] (take point t.events) view
   pub says : SaysOf (user_in (after_events t.opened (take point t.events)).image script.user)
       t session point view (until_logout script.commands) rs
-
--- the first reply is to the login, and tells this number, whether the user may log in or not
-abbrev pub TellsLogin : ℕ → List Reply → Type 0
-TellsLogin view [] = ⊥
-TellsLogin view (r ∷ rs) = (r.line ≡ Login view) ⊎ (r.line ≡ NoUser view)
-
--- The login saw every event that had come before the session, and perhaps further ones of others.
--- What came later, it didn't see.
-pub record LogsIn (o : Opened) (session : ℕ) (before after : List Event)
-    (replies : List Reply) : Type 0 where
-  pub others : List Event
-  pub are_others : events_of session others ≡ []
-  pub later : Extends (before ++ others) after
-  pub tells : TellsLogin (after_events o (before ++ others)).number replies

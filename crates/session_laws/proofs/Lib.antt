@@ -1,0 +1,11 @@
+pub mod Adds
+pub mod Claims
+pub mod Held
+pub mod Lines
+pub mod OneReport
+pub mod Own
+pub mod Printed
+pub mod Replay
+pub mod ReplayCommands
+pub mod SoFar
+pub mod Stays
