@@ -4,3 +4,4 @@ pub mod Edits
 pub mod Kept
 mod Refusals
 mod Sums
+mod Sizes

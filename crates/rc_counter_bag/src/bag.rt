@@ -1,6 +1,6 @@
 //! The bag.
 ghost use Rattle.std.specs.Prelude.{◌≡◌, ◌↔◌, ◌⊎◌, ℕ, List, true, Some, None, Ok, Err, IsSome, IfOk, IfSome, OnOk, OnErr, IsErrOf};
-ghost use Rattle.rc_counter_bag.specs.Bag.{IsBag, size, count, updated, adds_new, merged};
+ghost use Rattle.rc_counter_bag.specs.Bag.{IsBag, size, size as occurrences, count, updated, adds_new, merged};
 
 use crate::pairs;
 use crate::update::{BagFault, BagUpdate};
@@ -13,6 +13,8 @@ use std::marker::Model;
 #[derive(Debug, Drop)]
 pub struct Bag<T: Ord> {
     pairs: Vec<(T, u64)>,
+    // All occurrences, so that nobody has to sum them up.
+    total: u64,
 }
 
 impl<T: Ord> Model for Bag<T> {
@@ -20,7 +22,7 @@ impl<T: Ord> Model for Bag<T> {
 
     ghost view = { λ bag. bag.pairs.items };
 
-    ghost invariant = { λ bag. IsBag T.cmp bag.pairs.items };
+    ghost invariant = { λ bag. IsBag T.cmp bag.pairs.items × (bag.total ≡ occurrences bag.pairs.items) };
 }
 
 impl<T: Ord + Clone + Drop> Bag<T> {
@@ -32,7 +34,10 @@ impl<T: Ord + Clone + Drop> Bag<T> {
         ensures same { IfSome result (λ bag. bag ≡ pairs.items) }
     {
         if pairs::is_bag(&pairs) {
-            Some(Bag { pairs })
+            Some(Bag {
+                total: pairs::size(&pairs),
+                pairs,
+            })
         } else {
             None
         }
@@ -53,11 +58,11 @@ impl<T: Ord + Clone + Drop> Bag<T> {
         pairs::count(&self.pairs, item)
     }
 
-    /// All occurrences of all items. It is 2^64 - 1 at most.
+    /// All occurrences of all items. It is 2^64 - 1 at most. Takes constant time.
     pub fn size(&self) -> u64
         ensures { result ≡ size self.now }
     {
-        pairs::size(&self.pairs)
+        self.total
     }
 
     /// The same bag once more.
@@ -67,6 +72,7 @@ impl<T: Ord + Clone + Drop> Bag<T> {
     {
         Ok(Bag {
             pairs: self.pairs.clone()?,
+            total: self.total,
         })
     }
 
@@ -83,13 +89,17 @@ impl<T: Ord + Clone + Drop> Bag<T> {
         ensures unchanged { OnErr result (self.new ≡ self.old) }
     {
         match update {
-            BagUpdate::Add(item) => Ok(pairs::add(&mut self.pairs, item)?),
+            BagUpdate::Add(item) => {
+                pairs::add(&mut self.pairs, item)?;
+                self.total = self.total.saturating_add(1);
+                Ok(())
+            }
             BagUpdate::Remove(item) => {
-                if pairs::remove(&mut self.pairs, &item) {
-                    Ok(())
-                } else {
-                    Err(BagFault::Missing(0))
+                if !pairs::remove(&mut self.pairs, &item) {
+                    return Err(BagFault::Missing(0));
                 }
+                self.total = pairs::size_after(self.total, &self.pairs);
+                Ok(())
             }
         }
     }
@@ -114,6 +124,9 @@ impl<T: Ord + Clone + Drop> Bag<T> {
     {
         let mut pairs = at_place.pairs.clone()?;
         pairs::replay(&mut pairs, updates)?;
-        Ok(Bag { pairs })
+        Ok(Bag {
+            total: pairs::size(&pairs),
+            pairs,
+        })
     }
 }

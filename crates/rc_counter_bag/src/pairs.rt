@@ -1,5 +1,5 @@
 //! What a bag does to its list of pairs.
-ghost use Rattle.std.specs.Prelude.{◌≡◌, ◌↔◌, ◌<◌, ℕ, false, Some, None, Ok, Err, IsTrue, OnOk, OnErr, IsErrOf};
+ghost use Rattle.std.specs.Prelude.{◌≡◌, ◌==◌, ◌-◌, ◌^◌, ◌↔◌, ◌<◌, if◌then◌else◌, ℕ, false, Some, None, Ok, Err, IsTrue, OnOk, OnErr, IsErrOf};
 ghost use Rattle.rc_counter_bag.specs.Bag.{IsBag, one_less, size, count, with_one_more, with_one_less, replayed};
 
 use crate::update::{BagFault, BagUpdate};
@@ -112,4 +112,16 @@ pub(crate) fn size<T>(pairs: &[(T, u64)]) -> u64
         sum = sum.saturating_add(pair.1);
     }
     sum
+}
+
+// The size of the pairs of which a removal took one, where it was this before. A size at its end
+// doesn't tell how many there are, so it is summed up again.
+pub(crate) fn size_after<T>(before: u64, pairs: &[(T, u64)]) -> u64
+    ensures { result ≡ (if before == 2 ^ 64 - 1 then size pairs.now else before - 1) }
+{
+    if before == u64::MAX {
+        size(pairs)
+    } else {
+        before.saturating_sub(1)
+    }
 }
