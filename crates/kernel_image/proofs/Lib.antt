@@ -9,3 +9,4 @@ pub mod Counts
 pub mod Lists
 pub mod Kept
 pub mod Places
+pub mod Unchanged
