@@ -44,7 +44,7 @@ found (e ∷ es) q =
 pub get_by_name : (es : List (ℕ × Object)) (q : ℕ) → get (contents_by_name es) q ≡ option_map contents_of (lookup (nat_eq q) es)
 get_by_name es q = get-from_entries nat_cmp_total (map (λ entry. (entry.0, contents_of entry.1)) es) q ∙ found es q
 
-get_either : (m : FinMap nat_cmp Contents) (k q : ℕ) (v : Contents)
+pub get_either : (m : FinMap nat_cmp Contents) (k q : ℕ) (v : Contents)
     → get (insert m k v) q ≡ cond (nat_eq q k) (Some v) (get m q)
 get_either m k q v = get-insert nat_cmp_total m k v q ∙ ap (λ b. cond b (Some v) (get m q)) (tied q k)
 

@@ -14,4 +14,7 @@ pub mod Bytes
 mod Updated
 mod NewObjects
 mod InTurn
+mod OneStep
+pub mod Listing
+mod Grouping
 mod Costs

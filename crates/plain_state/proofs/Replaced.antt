@@ -149,4 +149,4 @@ pub new_methods : (name : ℕ) (object : Object) (body : Body) (found : Option C
 new_methods name object body found is fit = ap (methods_fit name) (new_by object body found is) ∙ fit
 
 pub unchanged_same : {x y : Seen} → y ≡ x → SameObjects x y
-unchanged_same {x} {y} is = same_by (record { setting = refl; next = refl; changes = refl; budget = refl }) is
+unchanged_same {x} {y} is = same_by (record { setting = refl; next = refl; changes = refl; updates = refl; budget = refl }) is

@@ -38,7 +38,7 @@ last_test false true implied = absurd (true≢false (sym (implied refl)))
 last_test false false implied = refl
 
 module _ (x : Seen) (name segment : ℕ) (sound : IsSoundState x) where
-  move_fits : (old : Contents) → shown name x.setting x.world ≡ Some old
+  pub move_fits : (old : Contents) → shown name x.setting x.world ≡ Some old
       → may_replace name old (in_segment segment old) x.setting x.world ≡ is_segment_at (fixed_by x.setting x.world) segment
   unfolding fits
   move_fits old there =

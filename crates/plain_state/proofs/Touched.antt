@@ -74,13 +74,14 @@ keeps_touched x y same = keeps_objects x y same.setting same.next same.changes s
 -- the touches of one name leave the objects, and so do those of an access
 pub touched_same : (x : Seen) (name : ℕ) → SameObjects x (touched name x)
 unfolding touch
-touched_same x name = record { setting = refl; next = refl; changes = refl; budget = refl }
+touched_same x name = record { setting = refl; next = refl; changes = refl; updates = refl; budget = refl }
 
 pub same_along : {x y z : Seen} → SameObjects x y → SameObjects y z → SameObjects x z
 same_along first second = record {
   setting = second.setting ∙ first.setting;
   next = second.next ∙ first.next;
   changes = second.changes ∙ first.changes;
+  updates = second.updates ∙ first.updates;
   budget = second.budget ∙ first.budget;
 }
 
@@ -89,8 +90,8 @@ same_by {x} {y} {z} same is = let P : Seen → Type 0 = λ s. SameObjects x s in
 
 asked_same_by : (x : Seen) (name : ℕ) (found : Option Contents) → SameObjects x (in_world (touches_of name found x.setting) x)
 unfolding touch
-asked_same_by x name None = record { setting = refl; next = refl; changes = refl; budget = refl }
-asked_same_by x name (Some object) = record { setting = refl; next = refl; changes = refl; budget = refl }
+asked_same_by x name None = record { setting = refl; next = refl; changes = refl; updates = refl; budget = refl }
+asked_same_by x name (Some object) = record { setting = refl; next = refl; changes = refl; updates = refl; budget = refl }
 
 pub asked_same : (x : Seen) (name : ℕ) → SameObjects x (asked name x)
 unfolding with_touches

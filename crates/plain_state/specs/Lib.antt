@@ -1,8 +1,11 @@
 pub mod Classes
 pub mod Edit
 pub mod Keys
+pub mod Lists
 pub mod Overlay
 pub mod Parts
 pub mod Puts
+pub mod Room
 pub mod State
 pub mod Updates
+pub mod Writes

@@ -33,6 +33,7 @@ pub record SameObjects (before after : Seen) : Type 0 where
   pub setting : after.setting ≡ before.setting
   pub next : after.world.next ≡ before.world.next
   pub changes : after.world.changes ≡ before.world.changes
+  pub updates : after.world.updates ≡ before.world.updates
   pub budget : after.budget ≡ before.budget
 
 -- after the name to which a value refers was touched, where there is no object

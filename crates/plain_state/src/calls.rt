@@ -11,7 +11,7 @@ use running_objects::Stop;
 impl Parts {
     /// Takes a unit.
     pub(crate) fn tick(&mut self) -> Result<(), Stop>
-        ensures { Acted Tick self.old result self.new }
+        ensures { Acted Tick self.old.seen result self.new.seen }
     {
         if self.units == 0 {
             return Err(Stop::Fails(Fault::SendBudget));
@@ -22,7 +22,7 @@ impl Parts {
 
     /// Takes so much space.
     pub(crate) fn room(&mut self, slots: u64) -> Result<(), Stop>
-        ensures { Acted (Room slots) self.old result self.new }
+        ensures { Acted (Room slots) self.old.seen result self.new.seen }
     {
         if self.slots < slots {
             return Err(Stop::Fails(Fault::Space));
@@ -33,7 +33,7 @@ impl Parts {
 
     /// Whether so many names are left.
     pub(crate) fn names(&mut self, count: u64) -> Result<(), Stop>
-        ensures { Acted (Names count) self.old result self.new }
+        ensures { Acted (Names count) self.old.seen result self.new.seen }
     {
         if (self.next as u64).saturating_add(count) > COUNTER_LIMIT {
             return Err(Stop::Fails(Fault::NamesUsedUp));
@@ -43,7 +43,7 @@ impl Parts {
 
     /// Writes a text on the transcript.
     pub(crate) fn show(&mut self, text: &[u8]) -> Result<(), Stop>
-        ensures { Acted (Show text.now) self.old result self.new }
+        ensures { Acted (Show text.now) self.old.seen result self.new.seen }
     {
         let length = text.len() as u64;
         if (self.text.len() as u64).saturating_add(length) > TRANSCRIPT_LIMIT {
@@ -60,7 +60,7 @@ impl Parts {
 
     /// Reads the object of this name.
     pub(crate) fn read(&mut self, oid: Oid) -> Result<(), Stop>
-        ensures { Accessed a_read oid self.old result self.new }
+        ensures { Accessed a_read oid self.old.seen result self.new.seen }
     {
         let allowed = self.may_read(oid);
         self.ask(oid)?;
@@ -72,7 +72,7 @@ impl Parts {
 
     /// Writes the object of this name.
     pub(crate) fn write(&mut self, oid: Oid) -> Result<(), Stop>
-        ensures { Accessed a_write oid self.old result self.new }
+        ensures { Accessed a_write oid self.old.seen result self.new.seen }
     {
         let allowed = self.may_write(oid);
         self.ask(oid)?;
@@ -85,7 +85,7 @@ impl Parts {
 
     /// Looks at the user's own profile.
     pub(crate) fn own(&mut self) -> Result<(), Stop>
-        ensures { Owned self.old result self.new }
+        ensures { Owned self.old.seen result self.new.seen }
     {
         let user = self.user();
         self.touch(user)?;
@@ -94,7 +94,7 @@ impl Parts {
 
     /// Asks for the fixed part of the object of this name.
     pub(crate) fn know(&mut self, oid: Oid) -> Result<(), Stop>
-        ensures { Known oid self.old result self.new }
+        ensures { Known oid self.old.seen result self.new.seen }
     {
         if self.is_there(oid) {
             return Ok(());

@@ -11,7 +11,7 @@ use object_guard::{Sees, class_at, has_names};
 impl Sees for Parts {
     ghost use Rattle.object_programs.specs.Fixed.{fixed_by};
 
-    ghost parts = { λ seen. fixed_by seen.setting seen.world };
+    ghost parts = { λ state. fixed_by state.seen.setting state.seen.world };
 
     #[tactic(auto, using(crate::proofs::Replaced::part_seen))]
     fn object(&self, oid: Oid) -> Option<&Object> {
@@ -23,7 +23,7 @@ impl Parts {
     /// Whether the class of this name may have an object with so many slots.
     pub(crate) fn accepts_slots(&self, class: Oid, count: usize) -> bool
         ensures { result
-            ≡ accepts_slots (fixed_by self.now.setting self.now.world) class count }
+            ≡ accepts_slots (fixed_by self.now.seen.setting self.now.seen.world) class count }
     {
         let Some(found) = class_at(self, class) else {
             return false;

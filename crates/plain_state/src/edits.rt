@@ -25,7 +25,7 @@ impl Parts {
     /// Whether a written object of this name has this slot.
     fn has_slot(&self, oid: Oid, at: usize) -> bool
         ensures { result ≡ holds_of (λ object. nat_lt at (plain_slots object.body))
-            (get self.now.world.changes oid) }
+            (get self.now.seen.world.changes oid) }
     {
         match self.changes.look(oid.number()) {
             Some(object) => at < slot_count(&object.body),
@@ -35,7 +35,8 @@ impl Parts {
 
     /// Whether the object is there to which the value refers, if it refers to one.
     pub(crate) fn knows(&self, value: &Value) -> bool
-        ensures { result ≡ is_known_value (fixed_by self.now.setting self.now.world) value.now }
+        ensures { result
+            ≡ is_known_value (fixed_by self.now.seen.setting self.now.seen.world) value.now }
     {
         match value {
             Value::Ref(oid) => self.is_there(*oid),
@@ -45,15 +46,16 @@ impl Parts {
 
     /// Whether the value may come into a slot.
     pub(crate) fn may_enter(&self, value: &Value) -> bool
-        ensures { result ≡ may_enter (fixed_by self.now.setting self.now.world) value.now }
+        ensures { result
+            ≡ may_enter (fixed_by self.now.seen.setting self.now.seen.world) value.now }
     {
         self.knows(value) && is_storable(value)
     }
 
     /// Touches the name to which the value refers, where there is no object.
     pub(crate) fn miss_value(&mut self, value: &Value) -> Result<(), AllocError>
-        ensures missed { OnOk result (self.new ≡ missed_value value.now self.old) }
-        ensures unchanged { OnErr result (self.new ≡ self.old) }
+        ensures missed { OnOk result (self.new.seen ≡ missed_value value.now self.old.seen) }
+        ensures unchanged { OnErr result (self.new.seen ≡ self.old.seen) }
     {
         let Value::Ref(oid) = value else {
             return Ok(());
@@ -67,8 +69,8 @@ impl Parts {
     /// Touches the names to which the key and the value refer, where there is no object.
     pub(crate) fn miss_both(&mut self, key: &Value, value: &Value) -> Result<(), AllocError>
         ensures missed { OnOk result
-            (self.new ≡ missed_value value.now (missed_value key.now self.old)) }
-        ensures same { OnErr result (SameObjects self.old self.new) }
+            (self.new.seen ≡ missed_value value.now (missed_value key.now self.old.seen)) }
+        ensures same { OnErr result (SameObjects self.old.seen self.new.seen) }
     {
         self.miss_value(key)?;
         self.miss_value(value)
@@ -76,16 +78,17 @@ impl Parts {
 
     /// Edits a written object.
     pub(crate) fn change(&mut self, oid: Oid, edit: Edit) -> Result<(), AllocError>
-        ensures edited { OnOk result (self.new ≡ edited_in oid (edited_by edit) self.old) }
-        ensures unchanged { OnErr result (self.new ≡ self.old) }
+        ensures edited { OnOk result
+            (self.new.seen ≡ edited_in oid (edited_by edit) self.old.seen) }
+        ensures unchanged { OnErr result (self.new.seen ≡ self.old.seen) }
     {
         self.changes.edit(oid.number(), edit)
     }
 
     /// Puts a value in a slot.
     pub(crate) fn set_slot(&mut self, oid: Oid, at: usize, value: Value) -> Result<(), Stop>
-        requires { IsSoundState self.old }
-        ensures { Edited oid (with_slot at value) self.old result self.new }
+        requires { IsSoundState self.old.seen }
+        ensures { Edited oid (with_slot at value) self.old.seen result self.new.seen }
     {
         if !self.has_slot(oid, at) {
             return Ok(());
@@ -101,7 +104,7 @@ impl Parts {
     /// Whether a written object of this name has a byte at this place.
     fn has_byte(&self, oid: Oid, at: usize) -> bool
         ensures { result ≡ holds_of (λ object. nat_lt at (body_bytes object.body))
-            (get self.now.world.changes oid) }
+            (get self.now.seen.world.changes oid) }
     {
         match self.changes.look(oid.number()) {
             Some(object) => at < byte_count(&object.body),
@@ -111,8 +114,8 @@ impl Parts {
 
     /// Puts a byte at a place.
     pub(crate) fn set_byte(&mut self, oid: Oid, at: usize, byte: u8) -> Result<(), Stop>
-        requires { IsSoundState self.old }
-        ensures { Edited oid (with_byte at byte) self.old result self.new }
+        requires { IsSoundState self.old.seen }
+        ensures { Edited oid (with_byte at byte) self.old.seen result self.new.seen }
     {
         if !self.has_byte(oid, at) {
             return Ok(());
@@ -126,7 +129,7 @@ impl Parts {
 
     /// The class and the number of slots of a written object of this name, where it has slots.
     fn slots_at(&self, oid: Oid) -> Option<(Oid, usize)>
-        ensures { result ≡ slots_in (get self.now.world.changes oid) }
+        ensures { result ≡ slots_in (get self.now.seen.world.changes oid) }
     {
         let object = self.changes.look(oid.number())?;
         match &object.body {
@@ -137,8 +140,8 @@ impl Parts {
 
     /// Whether an object with so many slots may get one more, with this value.
     fn may_insert(&self, oid: Oid, class: Oid, count: usize, value: &Value) -> bool
-        ensures { result ≡ may_insert (fixed_by self.now.setting self.now.world) oid class count
-            value.now }
+        ensures { result ≡ may_insert (fixed_by self.now.seen.setting self.now.seen.world) oid
+            class count value.now }
     {
         self.knows(value)
             && count < u32::MAX as usize
@@ -149,8 +152,8 @@ impl Parts {
 
     /// Puts a slot at a place.
     pub(crate) fn insert_slot(&mut self, oid: Oid, at: usize, value: Value) -> Result<(), Stop>
-        requires { IsSoundState self.old }
-        ensures { Edited oid (with_slot_more at value) self.old result self.new }
+        requires { IsSoundState self.old.seen }
+        ensures { Edited oid (with_slot_more at value) self.old.seen result self.new.seen }
     {
         let Some(slots) = self.slots_at(oid) else {
             return Ok(());
@@ -165,8 +168,8 @@ impl Parts {
 
     /// Takes a slot away.
     pub(crate) fn remove_slot(&mut self, oid: Oid, at: usize) -> Result<(), Stop>
-        requires { IsSoundState self.old }
-        ensures { Edited oid (without_slot at) self.old result self.new }
+        requires { IsSoundState self.old.seen }
+        ensures { Edited oid (without_slot at) self.old.seen result self.new.seen }
     {
         let Some(slots) = self.slots_at(oid) else {
             return Ok(());
@@ -184,7 +187,7 @@ impl Parts {
     /// Whether there is a written dictionary of this name.
     pub(crate) fn has_pairs(&self, oid: Oid) -> bool
         ensures { result ≡ holds_of (λ object. has_pairs object.body)
-            (get self.now.world.changes oid) }
+            (get self.now.seen.world.changes oid) }
     {
         let Some(object) = self.changes.look(oid.number()) else {
             return false;
@@ -197,8 +200,8 @@ impl Parts {
 
     /// Takes a key's pair away.
     pub(crate) fn remove_at(&mut self, oid: Oid, key: &Value) -> Result<(), Stop>
-        requires { IsSoundState self.old }
-        ensures { Edited oid (without_value_at key.now) self.old result self.new }
+        requires { IsSoundState self.old.seen }
+        ensures { Edited oid (without_value_at key.now) self.old.seen result self.new.seen }
     {
         if !self.has_pairs(oid) {
             return Ok(());

@@ -4,10 +4,13 @@
 
 mod calls;
 mod classes;
+mod direct;
 mod edit;
 mod edits;
 mod entry;
+mod groups;
 pub mod laws;
+mod lists;
 mod makes;
 mod many;
 mod moves;
@@ -17,5 +20,6 @@ mod parts;
 mod puts;
 mod state;
 mod updates;
+mod writes;
 
 pub use state::PlainState;

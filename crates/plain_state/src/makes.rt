@@ -21,8 +21,8 @@ use std::alloc::AllocError;
 impl Parts {
     /// What is found before the objects are made: E17, E16 and E15, in this order.
     fn check_make(&self, objects: &[Object]) -> Result<(), Fault>
-        ensures { result ≡ check_result (make_check (map contents_of objects.now) self.now.world
-            self.now.budget) }
+        ensures { result ≡ check_result (make_check (map contents_of objects.now)
+            self.now.seen.world self.now.seen.budget) }
     {
         if !are_within_limits(objects) {
             return Err(Fault::ObjectTooLarge);
@@ -38,12 +38,12 @@ impl Parts {
 
     /// Makes the objects, of which the first gets this name, and takes their space.
     fn add_all(&mut self, first: Oid, objects: Vec<Object>) -> Result<(), AllocError>
-        requires sound { IsSoundState self.old }
-        requires first { first ≡ next_name self.old.setting self.old.world }
-        requires names { self.old.world.next + length objects.items ≤ COUNTER_LIMIT }
-        requires space { objects_cost (map contents_of objects.items) ≤ self.old.budget.slots }
-        ensures made { OnOk result (self.new ≡ made objects.items self.old) }
-        ensures unchanged { OnErr result (self.new ≡ self.old) }
+        requires sound { IsSoundState self.old.seen }
+        requires first { first ≡ next_name self.old.seen.setting self.old.seen.world }
+        requires names { self.old.seen.world.next + length objects.items ≤ COUNTER_LIMIT }
+        requires space { objects_cost (map contents_of objects.items) ≤ self.old.seen.budget.slots }
+        ensures made { OnOk result (self.new.seen ≡ made objects.items self.old.seen) }
+        ensures unchanged { OnErr result (self.new.seen ≡ self.old.seen) }
     {
         let (count, cost) = (objects.len() as u32, objects_cost(&objects));
         self.changes.put_all(first.number(), objects)?;
@@ -54,10 +54,10 @@ impl Parts {
 
     /// Makes new objects, each at the name after that of the one before it; the name of the first.
     pub(crate) fn make(&mut self, objects: Vec<Object>) -> Result<Oid, Stop>
-        requires sound { IsSoundState self.old }
+        requires sound { IsSoundState self.old.seen }
         requires methods { (name : ℕ)
             → list_all (λ object. methods_fit name object.body) objects.items ≡ true }
-        ensures { Made objects.items self.old result self.new }
+        ensures { Made objects.items self.old.seen result self.new.seen }
     {
         self.check_make(&objects)?;
         let number = (self.serial as u64) * (1 << 24) + self.next as u64;

@@ -16,7 +16,8 @@ use running_objects::Stop;
 impl Parts {
     /// Whether there is a segment of this name.
     pub(crate) fn is_segment(&self, segment: Oid) -> bool
-        ensures { result ≡ is_segment_at (fixed_by self.now.setting self.now.world) segment }
+        ensures { result
+            ≡ is_segment_at (fixed_by self.now.seen.setting self.now.seen.world) segment }
     {
         let Some(object) = self.look(segment) else {
             return false;
@@ -30,9 +31,10 @@ impl Parts {
     /// Whether a written object of this name may be put into that segment.
     #[tactic(auto, unfolding(object_programs::specs::Guard::may_change))]
     fn may_move(&self, oid: Oid, segment: Oid) -> bool
-        ensures { result ≡ holds_of (λ object. may_change oid object self.now.setting self.now.world
-            && is_segment_at (fixed_by self.now.setting self.now.world) segment)
-            (get self.now.world.changes oid) }
+        ensures { result ≡ holds_of (λ object.
+            may_change oid object self.now.seen.setting self.now.seen.world
+            && is_segment_at (fixed_by self.now.seen.setting self.now.seen.world) segment)
+            (get self.now.seen.world.changes oid) }
     {
         match self.changes.look(oid.number()) {
             Some(object) => {
@@ -44,8 +46,8 @@ impl Parts {
 
     /// Puts an object into another segment.
     pub(crate) fn move_to(&mut self, oid: Oid, segment: Oid) -> Result<(), Stop>
-        requires { IsSoundState self.old }
-        ensures { Acted (Move oid segment) self.old result self.new }
+        requires { IsSoundState self.old.seen }
+        ensures { Acted (Move oid segment) self.old.seen result self.new.seen }
     {
         if !self.changes.has(oid.number()) {
             return Ok(());

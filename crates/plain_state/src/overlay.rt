@@ -22,7 +22,7 @@ use std::marker::Model;
 /// objects are, but for the number of the last commit.
 #[derive(Drop)]
 pub(crate) struct Overlay {
-    entries: IndexMap<u64, Entry>,
+    pub(crate) entries: IndexMap<u64, Entry>,
 }
 
 impl Model for Overlay {

@@ -18,8 +18,8 @@ use running_objects::Stop;
 impl Parts {
     /// Puts a value at a key.
     pub(crate) fn put_at(&mut self, oid: Oid, key: Value, value: Value) -> Result<(), Stop>
-        requires { IsSoundState self.old }
-        ensures { Edited oid (with_value_at key value) self.old result self.new }
+        requires { IsSoundState self.old.seen }
+        ensures { Edited oid (with_value_at key value) self.old.seen result self.new.seen }
     {
         if !self.has_pairs(oid) {
             return Ok(());
@@ -35,8 +35,8 @@ impl Parts {
     /// Whether a written dictionary of this name may have this value at this key.
     fn may_put(&self, oid: Oid, key: &Value, value: &Value) -> bool
         ensures { result ≡ holds_of (λ object. may_put
-            (fixed_by self.now.setting self.now.world) key.now value.now object.body)
-            (get self.now.world.changes oid) }
+            (fixed_by self.now.seen.setting self.now.seen.world) key.now value.now object.body)
+            (get self.now.seen.world.changes oid) }
     {
         let Some(object) = self.changes.look(oid.number()) else {
             return false;

@@ -1,12 +1,13 @@
 //! The parts of a plain state, without the claim that its objects are sound.
-ghost use Rattle.std.specs.Prelude.{◌≡◌, option_map, option_copied, is_some, OnOk, OnErr};
+ghost use Rattle.std.specs.Prelude.{◌≡◌, ◌≤◌, ◌+◌, option_map, option_copied, is_some, OnOk, OnErr};
+ghost use Rattle.indexmap.specs.IndexSet.{spare};
 ghost use Rattle.gem_image.specs.Image.{contents_of, objects_in};
 ghost use Rattle.gem_image.specs.Rights.{rights_at, groups_at, right_in, right_on, right_on_segment};
-ghost use Rattle.gem_world.specs.World.{shown_objects, as_of, are_shared, is_made, is_private};
+ghost use Rattle.gem_world.specs.World.{shown_objects, as_of, are_shared, is_made, is_private, with_name};
 ghost use Rattle.gem_world.specs.Access.{a_read, a_write, right_at, is_allowed};
 ghost use Rattle.running_objects.specs.Seen.{object_at};
 ghost use Rattle.running_objects.specs.Acted.{stored_bytes};
-ghost use Rattle.plain_state.specs.Parts.{touched, missed, asked, held, SameObjects};
+ghost use Rattle.plain_state.specs.Parts.{touched, missed, asked, held};
 ghost use Rattle.plain_state.specs.State.{with_whole_budget};
 
 use crate::overlay::Overlay;
@@ -42,35 +43,40 @@ impl Model for Parts {
     ghost use Rattle.gem_object.specs.contracts.object.Object as object;
     ghost use Rattle.gem_object.specs.contracts.body.Body as body;
     ghost use Rattle.gem_update.specs.contracts.update.Update as update;
-    ghost use Rattle.running_objects.specs.Seen.{Seen};
+    ghost use Rattle.indexmap.specs.IndexSet.{spare as room_in};
     ghost use Rattle.running_objects.specs.Codes.{seen_code};
+    ghost use Rattle.plain_state.specs.Room.{SeenWithRoom, with_room_code};
 
-    ghost Value = { Seen };
+    ghost Value = { SeenWithRoom };
 
-    ghost coded = { seen_code object.the_row.coded body.the_row.coded update.the_row.coded };
+    ghost coded = { with_room_code
+        (seen_code object.the_row.coded body.the_row.coded update.the_row.coded) };
 
     ghost view = { λ parts. record {
-      setting = record {
-        place = parts.place;
-        view = parts.view;
-        user = parts.user;
-        serial = parts.serial;
-        first = parts.first;
+      seen = record {
+        setting = record {
+          place = parts.place;
+          view = parts.view;
+          user = parts.user;
+          serial = parts.serial;
+          first = parts.first;
+        };
+        world = record {
+          next = parts.next;
+          changes = parts.changes;
+          updates = parts.updates.items;
+          touched = parts.touched.keys;
+        };
+        budget = record { units = parts.units; slots = parts.slots; text = parts.text.items };
       };
-      world = record {
-        next = parts.next;
-        changes = parts.changes;
-        updates = parts.updates.items;
-        touched = parts.touched.keys;
-      };
-      budget = record { units = parts.units; slots = parts.slots; text = parts.text.items };
+      spare = room_in parts.touched;
     } };
 }
 
 impl Parts {
     /// The object of this name, if there is one, as it is now.
     pub(crate) fn look(&self, oid: Oid) -> Option<&Object>
-        ensures { option_map contents_of (option_copied result) ≡ object_at oid self.now }
+        ensures { option_map contents_of (option_copied result) ≡ object_at oid self.now.seen }
     {
         match self.changes.look(oid.number()) {
             Some(object) => Some(object),
@@ -80,7 +86,7 @@ impl Parts {
 
     /// The name of the user.
     pub(crate) fn user(&self) -> Oid
-        ensures { result ≡ self.now.setting.user }
+        ensures { result ≡ self.now.seen.setting.user }
     {
         self.user
     }
@@ -88,7 +94,7 @@ impl Parts {
     /// The bytes that the fields of the object's body take where it is stored. Of an object that
     /// was written or made they are known without a look at its contents.
     pub(crate) fn stored_bytes(&self, oid: Oid) -> Option<u64>
-        ensures { result ≡ option_map stored_bytes (object_at oid self.now) }
+        ensures { result ≡ option_map stored_bytes (object_at oid self.now.seen) }
     {
         match self.changes.stored_bytes(oid.number()) {
             Some(bytes) => Some(bytes),
@@ -101,7 +107,7 @@ impl Parts {
 
     /// Makes the budget whole.
     pub(crate) fn refill(&mut self)
-        ensures { self.new ≡ with_whole_budget self.old }
+        ensures { self.new.seen ≡ with_whole_budget self.old.seen }
     {
         self.units = UNIT_LIMIT;
         self.slots = SPACE_LIMIT;
@@ -110,7 +116,7 @@ impl Parts {
 
     /// Whether there is an object of this name.
     pub(crate) fn is_there(&self, oid: Oid) -> bool
-        ensures { result ≡ is_some (object_at oid self.now) }
+        ensures { result ≡ is_some (object_at oid self.now.seen) }
     {
         self.look(oid).is_some()
     }
@@ -118,7 +124,7 @@ impl Parts {
     /// Whether the object of this name was made here.
     #[tactic(auto, unfolding(gem_world::specs::World::is_made))]
     pub(crate) fn is_made(&self, oid: Oid) -> bool
-        ensures { result ≡ is_made oid self.now.setting self.now.world }
+        ensures { result ≡ is_made oid self.now.seen.setting self.now.seen.world }
     {
         let start = (self.serial as u64) * (1 << 24);
         start + (self.first as u64) <= oid.number()
@@ -129,51 +135,82 @@ impl Parts {
     /// Whether no touch of the name is recorded.
     #[tactic(auto, unfolding(gem_world::specs::World::is_private))]
     fn is_private(&self, oid: Oid) -> bool
-        ensures { result ≡ is_private oid self.now.setting self.now.world }
+        ensures { result ≡ is_private oid self.now.seen.setting self.now.seen.world }
     {
         self.is_made(oid) || are_shared(&self.place, &self.view, oid)
     }
 
-    /// Touches the name.
+    /// Makes room, so that so many names can be touched without memory.
+    pub(crate) fn reserve(&mut self, touches: usize) -> Result<(), AllocError>
+        ensures unchanged { self.new.seen ≡ self.old.seen }
+        ensures made { OnOk result (touches ≤ self.new.spare) }
+        ensures room { self.old.spare ≤ self.new.spare }
+    {
+        self.touched.reserve(touches)
+    }
+
+    /// Touches the name, where there is room for it. It takes no memory.
     #[tactic(auto, unfolding(gem_world::specs::World::touch))]
-    pub(crate) fn touch(&mut self, oid: Oid) -> Result<(), AllocError>
-        ensures touched { OnOk result (self.new ≡ touched oid self.old) }
-        ensures unchanged { OnErr result (self.new ≡ self.old) }
+    fn touch_within(&mut self, oid: Oid)
+        requires { 1 ≤ self.old.spare }
+        ensures touched { self.new.seen ≡ touched oid self.old.seen }
+        ensures room { self.old.spare ≤ self.new.spare + 1 }
     {
         if !self.is_private(oid) {
-            self.touched.insert(oid.number())?;
+            add_name(&mut self.touched, oid.number());
         }
+    }
+
+    /// Touches the name.
+    pub(crate) fn touch(&mut self, oid: Oid) -> Result<(), AllocError>
+        ensures touched { OnOk result (self.new.seen ≡ touched oid self.old.seen) }
+        ensures unchanged { OnErr result (self.new.seen ≡ self.old.seen) }
+    {
+        self.reserve(1)?;
+        self.touch_within(oid);
         Ok(())
     }
 
     /// Touches a name without an object.
     pub(crate) fn miss(&mut self, oid: Oid) -> Result<(), AllocError>
-        ensures missed { OnOk result (self.new ≡ missed oid self.old) }
-        ensures unchanged { OnErr result (self.new ≡ self.old) }
+        ensures missed { OnOk result (self.new.seen ≡ missed oid self.old.seen) }
+        ensures unchanged { OnErr result (self.new.seen ≡ self.old.seen) }
     {
         self.touched.insert(oid.number())?;
         Ok(())
     }
 
-    /// Touches what an access touches.
+    /// Touches what an access touches, where there is room for it. It takes no memory.
     #[tactic(auto, unfolding(gem_world::specs::World::touch, gem_world::specs::Access::with_touches))]
-    pub(crate) fn ask(&mut self, oid: Oid) -> Result<(), AllocError>
-        ensures asked { OnOk result (self.new ≡ asked oid self.old) }
-        ensures same { OnErr result (SameObjects self.old self.new) }
+    pub(crate) fn ask_within(&mut self, oid: Oid)
+        requires { 3 ≤ self.old.spare }
+        ensures asked { self.new.seen ≡ asked oid self.old.seen }
+        ensures room { self.old.spare ≤ self.new.spare + 3 }
     {
         let Some(object) = self.look(oid) else {
-            return self.touch(oid);
+            self.touch_within(oid);
+            return;
         };
         let (segment, user) = (object.segment, self.user);
-        self.touch(oid)?;
-        self.touch(segment)?;
-        self.touch(user)
+        self.touch_within(oid);
+        self.touch_within(segment);
+        self.touch_within(user);
+    }
+
+    /// Touches what an access touches.
+    pub(crate) fn ask(&mut self, oid: Oid) -> Result<(), AllocError>
+        ensures asked { OnOk result (self.new.seen ≡ asked oid self.old.seen) }
+        ensures unchanged { OnErr result (self.new.seen ≡ self.old.seen) }
+    {
+        self.reserve(3)?;
+        self.ask_within(oid);
+        Ok(())
     }
 
     /// Puts an ordinary object of this name among those that are written.
     pub(crate) fn hold(&mut self, oid: Oid) -> Result<(), AllocError>
-        ensures held { OnOk result (self.new ≡ held oid self.old) }
-        ensures unchanged { OnErr result (self.new ≡ self.old) }
+        ensures held { OnOk result (self.new.seen ≡ held oid self.old.seen) }
+        ensures unchanged { OnErr result (self.new.seen ≡ self.old.seen) }
     {
         if self.changes.has(oid.number()) {
             return Ok(());
@@ -191,7 +228,7 @@ impl Parts {
     /// Whether the user may read the object of this name.
     #[tactic(auto, unfolding(gem_world::specs::Access::is_allowed))]
     pub(crate) fn may_read(&self, oid: Oid) -> bool
-        ensures { result ≡ is_allowed a_read oid self.now.setting self.now.world }
+        ensures { result ≡ is_allowed a_read oid self.now.seen.setting self.now.seen.world }
     {
         may_read(self.right_on(oid))
     }
@@ -199,14 +236,14 @@ impl Parts {
     /// Whether the user may write the object of this name.
     #[tactic(auto, unfolding(gem_world::specs::Access::is_allowed))]
     pub(crate) fn may_write(&self, oid: Oid) -> bool
-        ensures { result ≡ is_allowed a_write oid self.now.setting self.now.world }
+        ensures { result ≡ is_allowed a_write oid self.now.seen.setting self.now.seen.world }
     {
         may_write(self.right_on(oid))
     }
 
     /// The user's right on the object of this name.
     pub(crate) fn right_on(&self, oid: Oid) -> Right
-        ensures { result ≡ right_at oid self.now.setting self.now.world }
+        ensures { result ≡ right_at oid self.now.seen.setting self.now.seen.world }
     {
         let Some(object) = self.look(oid) else {
             return Right::None;
@@ -218,9 +255,9 @@ impl Parts {
     }
 
     // The right that the segment gives the user on the objects that lie in it.
-    fn right_in(&self, segment: Oid) -> Right
-        ensures { result ≡ right_in (shown_objects self.now.setting self.now.world)
-            self.now.setting.user segment }
+    pub(crate) fn right_in(&self, segment: Oid) -> Right
+        ensures { result ≡ right_in (shown_objects self.now.seen.setting self.now.seen.world)
+            self.now.seen.setting.user segment }
     {
         let Some(rights) = self.rights_at(segment) else {
             return Right::None;
@@ -234,7 +271,7 @@ impl Parts {
     // The rights that the segment of this name gives.
     fn rights_at(&self, segment: Oid) -> Option<&Rights<Text>>
         ensures { option_copied result
-            ≡ rights_at (shown_objects self.now.setting self.now.world) segment }
+            ≡ rights_at (shown_objects self.now.seen.setting self.now.seen.world) segment }
     {
         match &self.look(segment)?.body {
             Body::Segment(rights) => Some(rights),
@@ -245,13 +282,24 @@ impl Parts {
     // The groups in which the user of this name is.
     fn groups_at(&self, user: Oid) -> Option<&[Text]>
         ensures { option_copied result
-            ≡ groups_at (shown_objects self.now.setting self.now.world) user }
+            ≡ groups_at (shown_objects self.now.seen.setting self.now.seen.world) user }
     {
         match &self.look(user)?.body {
             Body::User(user) => Some(user.groups.as_slice()),
             _ => None,
         }
     }
+}
+
+// Adds a name that may be there, where there is room for it.
+fn add_name(touched: &mut IndexSet<u64>, name: u64)
+    requires { 1 ≤ spare touched.old }
+    ensures keys { touched.new.keys ≡ with_name touched.old.keys name }
+    ensures room { spare touched.old ≤ spare touched.new + 1 }
+{
+    let Ok(_) = touched.insert(name) else {
+        unreachable!()
+    };
 }
 
 // The right that the user has on a segment that gives these rights.

@@ -26,7 +26,7 @@ impl Parts {
     /// The written object of this name with another body.
     fn with_body(&self, oid: Oid, body: Body) -> Option<Object>
         ensures object { option_map contents_of result
-            ≡ option_map (with_body body) (get self.now.world.changes oid) }
+            ≡ option_map (with_body body) (get self.now.seen.world.changes oid) }
         ensures name { oid < 2 ^ 48 }
     {
         let old = self.changes.look(oid.number())?;
@@ -42,9 +42,10 @@ impl Parts {
     #[tactic(auto, unfolding(object_programs::specs::Guard::may_change, object_programs::specs::Guard::may_replace))]
     fn may_put_body(&self, oid: Oid, new: &Object) -> bool
         requires { methods_fit oid new.now.body ≡ true }
-        ensures { result ≡ holds_of (λ old. may_change oid old self.now.setting self.now.world
-            && may_replace oid old (contents_of new.now) self.now.setting self.now.world)
-            (get self.now.world.changes oid) }
+        ensures { result ≡ holds_of (λ old.
+            may_change oid old self.now.seen.setting self.now.seen.world
+            && may_replace oid old (contents_of new.now) self.now.seen.setting self.now.seen.world)
+            (get self.now.seen.world.changes oid) }
     {
         match self.changes.look(oid.number()) {
             Some(old) => {
@@ -58,18 +59,18 @@ impl Parts {
 
     /// Touches the names at which no object is.
     fn miss_all(&mut self, names: &[u64]) -> Result<(), AllocError>
-        ensures missed { OnOk result (self.new ≡ missed_all names.now self.old) }
-        ensures same { OnErr result (SameObjects self.old self.new) }
+        ensures missed { OnOk result (self.new.seen ≡ missed_all names.now self.old.seen) }
+        ensures same { OnErr result (SameObjects self.old.seen self.new.seen) }
     {
         touch_all(&mut self.touched, names)
     }
 
     /// Touches the names that new objects lack, of which the first has this name.
     pub(crate) fn miss_lacking(&mut self, first: Oid, objects: &[Object]) -> Result<(), AllocError>
-        requires sound { IsSoundState self.old }
+        requires sound { IsSoundState self.old.seen }
         requires names { first + length objects.now ≤ 2 ^ 48 }
-        ensures lacked { OnOk result (self.new ≡ lacked first objects.now self.old) }
-        ensures same { OnErr result (SameObjects self.old self.new) }
+        ensures lacked { OnOk result (self.new.seen ≡ lacked first objects.now self.old.seen) }
+        ensures same { OnErr result (SameObjects self.old.seen self.new.seen) }
     {
         let alloc = *self.text.allocator();
         let missing = missing_names(alloc, self, first, objects)?;
@@ -78,9 +79,9 @@ impl Parts {
 
     /// Puts a body in place of that of a written object.
     pub(crate) fn put(&mut self, oid: Oid, body: Body) -> Result<(), Stop>
-        requires sound { IsSoundState self.old }
+        requires sound { IsSoundState self.old.seen }
         requires methods { methods_fit oid body ≡ true }
-        ensures { Acted (Put oid body) self.old result self.new }
+        ensures { Acted (Put oid body) self.old.seen result self.new.seen }
     {
         let Some(new) = self.with_body(oid, body) else {
             return Ok(());

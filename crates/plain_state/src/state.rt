@@ -18,23 +18,25 @@ use std::marker::Model;
 /// beside the images, which stay as they are.
 #[derive(Drop)]
 pub struct PlainState {
-    parts: Parts,
+    pub(crate) parts: Parts,
 }
 
 impl Model for PlainState {
     ghost use Rattle.gem_object.specs.contracts.object.Object as object;
     ghost use Rattle.gem_object.specs.contracts.body.Body as body;
     ghost use Rattle.gem_update.specs.contracts.update.Update as update;
-    ghost use Rattle.running_objects.specs.Seen.{Seen, IsSoundState};
+    ghost use Rattle.running_objects.specs.Seen.{IsSoundState};
     ghost use Rattle.running_objects.specs.Codes.{seen_code};
+    ghost use Rattle.plain_state.specs.Room.{SeenWithRoom, with_room_code};
 
-    ghost Value = { Seen };
+    ghost Value = { SeenWithRoom };
 
-    ghost coded = { seen_code object.the_row.coded body.the_row.coded update.the_row.coded };
+    ghost coded = { with_room_code
+        (seen_code object.the_row.coded body.the_row.coded update.the_row.coded) };
 
     ghost view = { λ state. state.parts };
 
-    ghost invariant = { λ state. IsSoundState state.parts };
+    ghost invariant = { λ state. IsSoundState state.parts.seen };
 }
 
 impl PlainState {
@@ -50,7 +52,7 @@ impl PlainState {
         first: u32,
     ) -> PlainState
         requires { BeginsSound place view user serial first }
-        ensures { result ≡ begun place view user serial first }
+        ensures { result.seen ≡ begun place view user serial first }
     {
         PlainState {
             parts: Parts {
@@ -73,35 +75,35 @@ impl PlainState {
     /// Begins a chunk: its budget is whole and its transcript empty. The objects stay as they are.
     /// It takes no memory.
     pub fn begin_chunk(&mut self)
-        ensures { self.new ≡ with_whole_budget self.old }
+        ensures { self.new.seen ≡ with_whole_budget self.old.seen }
     {
         self.parts.refill();
     }
 
     /// What the chunk has written on the transcript so far, at most 65,536 bytes.
     pub fn transcript(&self) -> &[u8]
-        ensures { result.now ≡ self.now.budget.text }
+        ensures { result.now ≡ self.now.seen.budget.text }
     {
         self.parts.text.as_slice()
     }
 
     /// The units that the chunk has left, of 1,000,000.
     pub fn units(&self) -> u64
-        ensures { result ≡ self.now.budget.units }
+        ensures { result ≡ self.now.seen.budget.units }
     {
         self.parts.units
     }
 
     /// The space that the chunk has left, in slots, of 4,000,000.
     pub fn slots(&self) -> u64
-        ensures { result ≡ self.now.budget.slots }
+        ensures { result ≡ self.now.seen.budget.slots }
     {
         self.parts.slots
     }
 }
 
 impl Objects for PlainState {
-    ghost seen = { λ state. state };
+    ghost seen = { λ state. state.seen };
 
     fn sound(&self) {
         let _parts = &self.parts;

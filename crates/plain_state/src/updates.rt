@@ -35,8 +35,8 @@ const COUNT_LIMIT: u64 = u32::MAX as u64;
 impl Parts {
     /// Updates a reduced-conflict object, where the user may write it.
     pub(crate) fn note(&mut self, oid: Oid, update: Update) -> Result<(), Stop>
-        requires { IsSoundState self.old }
-        ensures { Acted (Note oid update) self.old result self.new }
+        requires { IsSoundState self.old.seen }
+        ensures { Acted (Note oid update) self.old.seen result self.new.seen }
     {
         let allowed = self.may_write(oid);
         self.ask(oid)?;
@@ -49,9 +49,10 @@ impl Parts {
 
     // Updates the object of this name, if it takes the update and may then stand.
     fn update(&mut self, oid: Oid, update: Update) -> Result<(), AllocError>
-        requires { IsSoundState self.old }
-        ensures updated { OnOk result (self.new ≡ after_allowed_update oid update self.old) }
-        ensures same { OnErr result (SameObjects self.old self.new) }
+        requires { IsSoundState self.old.seen }
+        ensures updated { OnOk result
+            (self.new.seen ≡ after_allowed_update oid update self.old.seen) }
+        ensures same { OnErr result (SameObjects self.old.seen self.new.seen) }
     {
         spelling_stays();
         if !self.fits_update(oid, &update) {
@@ -70,7 +71,7 @@ impl Parts {
     // Whether there is an object of this name whose class has such updates.
     fn fits_update(&self, oid: Oid, update: &Update) -> bool
         ensures { result ≡ holds_of (λ object. fits_update update.now object.body)
-            (object_at oid self.now) }
+            (object_at oid self.now.seen) }
     {
         match self.look(oid) {
             Some(object) => fits_update(update, &object.body),
@@ -81,8 +82,8 @@ impl Parts {
     // Whether the object of this name may stand with the update.
     fn may_update(&self, oid: Oid, update: &Update) -> bool
         ensures { result ≡ holds_of (λ object. may_update
-            (fixed_by self.now.setting self.now.world) update.now object.body)
-            (object_at oid self.now) }
+            (fixed_by self.now.seen.setting self.now.seen.world) update.now object.body)
+            (object_at oid self.now.seen) }
     {
         let Some(object) = self.look(oid) else {
             return false;
@@ -92,7 +93,7 @@ impl Parts {
 
     // Whether the values that the update brings may come into an object.
     fn may_bring(&self, update: &Update) -> bool
-        ensures { result ≡ list_all (may_enter (fixed_by self.now.setting self.now.world))
+        ensures { result ≡ list_all (may_enter (fixed_by self.now.seen.setting self.now.seen.world))
             (new_values update.now) }
     {
         match update {
@@ -107,8 +108,8 @@ impl Parts {
 
     // Touches the names to which the update's new values refer, where there is no object.
     fn miss_update(&mut self, update: &Update) -> Result<(), AllocError>
-        ensures missed { OnOk result (self.new ≡ missed_update update.now self.old) }
-        ensures same { OnErr result (SameObjects self.old self.new) }
+        ensures missed { OnOk result (self.new.seen ≡ missed_update update.now self.old.seen) }
+        ensures same { OnErr result (SameObjects self.old.seen self.new.seen) }
     {
         match update {
             Update::Bag(BagUpdate::Add(item)) => self.miss_value(item),
@@ -121,8 +122,8 @@ impl Parts {
     // Updates the object of this name, and notes the update; neither where the object doesn't
     // take it.
     fn apply_noted(&mut self, oid: Oid, update: Update) -> Result<(), AllocError>
-        ensures updated { OnOk result (self.new ≡ applied_noted oid update self.old) }
-        ensures unchanged { OnErr result (self.new ≡ self.old) }
+        ensures updated { OnOk result (self.new.seen ≡ applied_noted oid update self.old.seen) }
+        ensures unchanged { OnErr result (self.new.seen ≡ self.old.seen) }
     {
         let count = self.updates.len();
         let copy = update.clone()?;
@@ -143,9 +144,9 @@ impl Parts {
     // Updates the object of this name; whether it took the update.
     fn apply(&mut self, oid: Oid, update: Update) -> Result<bool, AllocError>
         ensures taken { IfOk result (λ taken.
-            taken ≡ holds_of (takes update) (object_at oid self.old)) }
-        ensures applied { OnOk result (self.new ≡ applied oid update self.old) }
-        ensures unchanged { OnErr result (self.new ≡ self.old) }
+            taken ≡ holds_of (takes update) (object_at oid self.old.seen)) }
+        ensures applied { OnOk result (self.new.seen ≡ applied oid update self.old.seen) }
+        ensures unchanged { OnErr result (self.new.seen ≡ self.old.seen) }
     {
         if self.changes.has(oid.number()) {
             return self.changes.update(oid.number(), update);

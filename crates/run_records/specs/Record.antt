@@ -3,9 +3,10 @@ use Rattle.std.specs.Prelude.{ℕ, List, map}
 use Rattle.gem_object.specs.declared.object.Object.{Object}
 use Rattle.gem_image.specs.Image.{Contents}
 use Rattle.gem_world.specs.World.{Setting, World}
-use Rattle.gem_world.specs.Changes.{touched_names, written_objects, made_objects, updates_by_name}
+use Rattle.gem_world.specs.Changes.{written_objects, made_objects}
 use Rattle.gem_record.specs.declared.record.TxnRecord.{TxnRecord}
 use Rattle.gem_record.specs.declared.record.Entry.{Entry}
+use Rattle.run_records.specs.Names.{touched_names, updates_by_name}
 
 -- an object that no commit has changed yet
 abbrev pub uncommitted : Contents → Object

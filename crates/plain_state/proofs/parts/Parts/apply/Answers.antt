@@ -24,11 +24,11 @@ returns-then-not-branch-clause-applied c =
 
 pub returns-clause-taken : goal.returns-clause-taken
 returns-clause-taken c =
-    let none : is_some (get c.args.self.now.world.changes c.args.oid) ≡ false =
+    let none : is_some (get c.args.self.now.seen.world.changes c.args.oid) ≡ false =
     rw (← c.self.view_is, ← c.number.ensures.number) (sym c.has.ensures ∙ c.if-has.false) in
-    let before : before_changes c.args.oid c.args.self.now.setting ≡ Some (contents_of c.in-Some.object.now) =
+    let before : before_changes c.args.oid c.args.self.now.seen.setting ≡ Some (contents_of c.in-Some.object.now) =
     rw (← c.self.view_is) (sym c.in-Some.ensures) in
-    taken_before c.args.self.now c.args.oid c.args.update (contents_of c.in-Some.object.now) (contents_of c.in_ok-copy.copy)
+    taken_before c.args.self.now.seen c.args.oid c.args.update (contents_of c.in-Some.object.now) (contents_of c.in_ok-copy.copy)
     (ap contents_of c.in_ok-copy.ensures.cases) none before
     (sym c.in_ok-take_update.ensures.taken ∙ c.if-not-branch.false)
 

@@ -7,9 +7,9 @@ use Rattle.plain_state.proofs.parts.Parts.hold.Goals as goal
 
 pub returns-then-has-clause-held : goal.returns-then-has-clause-held
 returns-then-has-clause-held c =
-    let some : is_some (get c.args.self.now.world.changes c.args.oid) ≡ true =
+    let some : is_some (get c.args.self.now.seen.world.changes c.args.oid) ≡ true =
     rw (← c.self.view_is, ← c.number.ensures.number) (sym c.has.ensures ∙ c.if-has.true) in
-    held_there c.args.self.now c.args.oid some
+    held_there c.args.self.now.seen c.args.oid some
 
 pub returns-clause-held : goal.returns-clause-held
 returns-clause-held c =

@@ -10,11 +10,11 @@ use Rattle.plain_state.proofs.parts.Parts.make.Goals as goal
 
 pub returns-then-all_fit : goal.returns-then-all_fit
 returns-then-all_fit c =
-    let x = c.args.self.now in
+    let x = c.args.self.now.seen in
     let objects = c.args.objects.items in
-    let at : c.in-Some.first ≡ next_name c.args.self.now.setting c.args.self.now.world = search rules in
-    let passes : check_result (make_check (map contents_of c.args.objects.items) c.args.self.now.world c.args.self.now.budget) ≡ Ok tt =
-    ap (λ (some : List Object). check_result (make_check (map contents_of some) c.args.self.now.world c.args.self.now.budget)) (sym c.deref.ensures.value)
+    let at : c.in-Some.first ≡ next_name c.args.self.now.seen.setting c.args.self.now.seen.world = search rules in
+    let passes : check_result (make_check (map contents_of c.args.objects.items) c.args.self.now.seen.world c.args.self.now.seen.budget) ≡ Ok tt =
+    ap (λ (some : List Object). check_result (make_check (map contents_of some) c.args.self.now.seen.world c.args.self.now.seen.budget)) (sym c.deref.ensures.value)
     ∙ sym c.check_make.ensures ∙ c.in_ok-check_make.was in
     made_by_same objects (Ok c.in-Some.first) (make_done objects x passes c.in-Some.first at
     (may_by x objects c.deref-2.result.now c.in-Some.first c.all_fit.result c.deref-2.ensures.value at c.all_fit.ensures ∙ c.if-all_fit.true))
@@ -27,12 +27,12 @@ returns-in_err-miss_lacking c =
 
 pub returns : goal.returns
 returns c =
-    let x = c.args.self.now in
+    let x = c.args.self.now.seen in
     let objects = c.args.objects.items in
-    let at : c.in-Some.first ≡ next_name c.args.self.now.setting c.args.self.now.world = search rules in
-    let passes : check_result (make_check (map contents_of c.args.objects.items) c.args.self.now.world c.args.self.now.budget) ≡ Ok tt =
-    ap (λ (some : List Object). check_result (make_check (map contents_of some) c.args.self.now.world c.args.self.now.budget)) (sym c.deref.ensures.value)
+    let at : c.in-Some.first ≡ next_name c.args.self.now.seen.setting c.args.self.now.seen.world = search rules in
+    let passes : check_result (make_check (map contents_of c.args.objects.items) c.args.self.now.seen.world c.args.self.now.seen.budget) ≡ Ok tt =
+    ap (λ (some : List Object). check_result (make_check (map contents_of some) c.args.self.now.seen.world c.args.self.now.seen.budget)) (sym c.deref.ensures.value)
     ∙ sym c.check_make.ensures ∙ c.in_ok-check_make.was in
     made_by_same objects _ (make_lacks objects x passes c.in-Some.first at
     (may_by x objects c.deref-2.result.now c.in-Some.first c.all_fit.result c.deref-2.ensures.value at c.all_fit.ensures ∙ c.if-all_fit.false))
-    (c.in_ok-miss_lacking.ensures.lacked ∙ ap (λ (some : List Object). lacked c.in-Some.first some c.args.self.now) c.deref-3.ensures.value)
+    (c.in_ok-miss_lacking.ensures.lacked ∙ ap (λ (some : List Object). lacked c.in-Some.first some c.args.self.now.seen) c.deref-3.ensures.value)

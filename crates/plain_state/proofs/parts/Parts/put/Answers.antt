@@ -10,16 +10,16 @@ use Rattle.plain_state.proofs.parts.Parts.put.Goals as goal
 
 pub returns-in_default : goal.returns-in_default
 returns-in_default c =
-    let none : None ≡ option_map (with_body c.args.body) (get c.args.self.now.world.changes c.args.oid) =
+    let none : None ≡ option_map (with_body c.args.body) (get c.args.self.now.seen.world.changes c.args.oid) =
     grind (arith, c.with_body.ensures.object, c.in_default.is, c.in_default.not-Some) in
-    put_absent c.args.self.now c.args.oid c.args.body c.requires.sound none
+    put_absent c.args.self.now.seen c.args.oid c.args.body c.requires.sound none
 
 pub may_put_body-requires : goal.may_put_body-requires
-may_put_body-requires c = new_methods c.args.oid c.in-Some.new c.args.body (get c.args.self.now.world.changes c.args.oid)
+may_put_body-requires c = new_methods c.args.oid c.in-Some.new c.args.body (get c.args.self.now.seen.world.changes c.args.oid)
     c.in-Some.ensures.object c.requires.methods
 
 pub returns-then-may_put_body : goal.returns-then-may_put_body
-returns-then-may_put_body c = acted_by (put_done c.args.self.now c.args.oid c.args.body c.requires.sound (contents_of c.in-Some.new)
+returns-then-may_put_body c = acted_by (put_done c.args.self.now.seen c.args.oid c.args.body c.requires.sound (contents_of c.in-Some.new)
     c.in-Some.ensures.object (sym c.may_put_body.ensures ∙ c.if-may_put_body.true)) c.in_ok-change.ensures.edited
 
 pub returns-in_err-change : goal.returns-in_err-change
@@ -36,6 +36,6 @@ returns-in_err-miss_lacking c =
     rw (p.1, p.2) (put_nothing c.args.oid c.args.body c.in_err-miss_lacking.ensures.same)
 
 pub returns : goal.returns
-returns c = acted_by (put_lacks c.args.self.now c.args.oid c.args.body c.requires.sound c.in-Some.new
+returns c = acted_by (put_lacks c.args.self.now.seen c.args.oid c.args.body c.requires.sound c.in-Some.new
     c.in-Some.ensures.object (sym c.may_put_body.ensures ∙ c.if-may_put_body.false))
-    (c.in_ok-miss_lacking.ensures.lacked ∙ ap (λ objects. lacked c.args.oid objects c.args.self.now) c.from_ref.ensures.value)
+    (c.in_ok-miss_lacking.ensures.lacked ∙ ap (λ objects. lacked c.args.oid objects c.args.self.now.seen) c.from_ref.ensures.value)

@@ -8,12 +8,12 @@ use Rattle.plain_state.proofs.Keys.{removal_done, no_removal}
 use Rattle.plain_state.proofs.parts.Parts.remove_at.Goals as goal
 
 pub returns-then-not-has_pairs : goal.returns-then-not-has_pairs
-returns-then-not-has_pairs c = no_removal c.args.self.now c.args.oid c.args.key.now c.requires
+returns-then-not-has_pairs c = no_removal c.args.self.now.seen c.args.oid c.args.key.now c.requires
     (sym c.has_pairs.ensures ∙ c.if-not-has_pairs.true)
 
 pub returns : goal.returns
 returns c = edited_as c.args.oid (without_value_at c.args.key.now)
-    (removal_done c.args.self.now c.args.oid c.args.key.now c.requires
+    (removal_done c.args.self.now.seen c.args.oid c.args.key.now c.requires
     (sym c.has_pairs.ensures ∙ c.if-not-has_pairs.false))
     (c.in_ok-change.ensures.edited
-    ∙ ap (λ key. edited_in c.args.oid (edited_by (RemoveAt key)) c.args.self.now) c.in_ok-key.ensures.cases)
+    ∙ ap (λ key. edited_in c.args.oid (edited_by (RemoveAt key)) c.args.self.now.seen) c.in_ok-key.ensures.cases)

@@ -8,19 +8,19 @@ use Rattle.plain_state.proofs.parts.Parts.remove_slot.Goals as goal
 
 pub returns-in_default : goal.returns-in_default
 returns-in_default c =
-    let none : slots_in (get c.args.self.now.world.changes c.args.oid) ≡ None = grind (arith, c.slots_at.ensures, c.in_default.is, c.in_default.not-Some) in
-    no_slot_less c.args.self.now c.args.oid c.args.at c.requires none
+    let none : slots_in (get c.args.self.now.seen.world.changes c.args.oid) ≡ None = grind (arith, c.slots_at.ensures, c.in_default.is, c.in_default.not-Some) in
+    no_slot_less c.args.self.now.seen c.args.oid c.args.at c.requires none
 
 pub returns-then-at-slots : goal.returns-then-at-slots
-returns-then-at-slots c = slot_past c.args.self.now c.args.oid c.args.at c.requires c.in-Some.slots.0 c.in-Some.slots.1
+returns-then-at-slots c = slot_past c.args.self.now.seen c.args.oid c.args.at c.requires c.in-Some.slots.0 c.in-Some.slots.1
     (sym c.in-Some.ensures) c.if-at-slots.true
 
 pub returns-then-not-accepts_slots : goal.returns-then-not-accepts_slots
-returns-then-not-accepts_slots c = slot_less_lacks c.args.self.now c.args.oid c.args.at c.requires c.in-Some.slots.0 c.in-Some.slots.1
+returns-then-not-accepts_slots c = slot_less_lacks c.args.self.now.seen c.args.oid c.args.at c.requires c.in-Some.slots.0 c.in-Some.slots.1
     (sym c.in-Some.ensures) (omega (arith, c.if-at-slots.false)) (sym c.accepts_slots.ensures ∙ c.if-not-accepts_slots.true)
 
 pub returns : goal.returns
 returns c = edited_as c.args.oid (without_slot c.args.at)
-    (slot_less c.args.self.now c.args.oid c.args.at c.requires c.in-Some.slots.0 c.in-Some.slots.1
+    (slot_less c.args.self.now.seen c.args.oid c.args.at c.requires c.in-Some.slots.0 c.in-Some.slots.1
     (sym c.in-Some.ensures) (omega (arith, c.if-at-slots.false)) (sym c.accepts_slots.ensures ∙ c.if-not-accepts_slots.false))
     c.in_ok-change.ensures.edited

@@ -6,11 +6,11 @@ use Rattle.plain_state.proofs.Slots.{byte_set, byte_lacks, no_byte, edited_nothi
 use Rattle.plain_state.proofs.parts.Parts.set_byte.Goals as goal
 
 pub returns-then-not-has_byte : goal.returns-then-not-has_byte
-returns-then-not-has_byte c = no_byte c.args.self.now c.args.oid c.args.at c.args.byte c.requires
+returns-then-not-has_byte c = no_byte c.args.self.now.seen c.args.oid c.args.at c.args.byte c.requires
     (sym c.has_byte.ensures ∙ c.if-not-has_byte.true)
 
 pub returns-then-byte-ge128 : goal.returns-then-byte-ge128
-returns-then-byte-ge128 c = byte_lacks c.args.self.now c.args.oid c.args.at c.args.byte c.requires
+returns-then-byte-ge128 c = byte_lacks c.args.self.now.seen c.args.oid c.args.at c.args.byte c.requires
     (sym c.has_byte.ensures ∙ c.if-not-has_byte.false) (le-ltb c.args.byte 128 (omega (arith, c.if-byte-ge128.true)))
 
 pub returns-in_err-change : goal.returns-in_err-change
@@ -20,6 +20,6 @@ returns-in_err-change c =
 
 pub returns : goal.returns
 returns c = edited_as c.args.oid (with_byte c.args.at c.args.byte)
-    (byte_set c.args.self.now c.args.oid c.args.at c.args.byte c.requires
+    (byte_set c.args.self.now.seen c.args.oid c.args.at c.args.byte c.requires
     (sym c.has_byte.ensures ∙ c.if-not-has_byte.false) (lt-ltb c.args.byte 128 (omega (arith, c.if-byte-ge128.false))))
     c.in_ok-change.ensures.edited

@@ -5,7 +5,7 @@ use Rattle.plain_state.proofs.Slots.{slot_set, slot_lacks, no_slot, edited_nothi
 use Rattle.plain_state.proofs.parts.Parts.set_slot.Goals as goal
 
 pub returns-then-not-has_slot : goal.returns-then-not-has_slot
-returns-then-not-has_slot c = no_slot c.args.self.now c.args.oid c.args.at c.args.value c.requires
+returns-then-not-has_slot c = no_slot c.args.self.now.seen c.args.oid c.args.at c.args.value c.requires
     (sym c.has_slot.ensures ∙ c.if-not-has_slot.true)
 
 pub returns-in_err-change : goal.returns-in_err-change
@@ -15,7 +15,7 @@ returns-in_err-change c =
 
 pub returns-then-may_enter : goal.returns-then-may_enter
 returns-then-may_enter c = edited_as c.args.oid (with_slot c.args.at c.args.value)
-    (slot_set c.args.self.now c.args.oid c.args.at c.args.value c.requires
+    (slot_set c.args.self.now.seen c.args.oid c.args.at c.args.value c.requires
     (sym c.has_slot.ensures ∙ c.if-not-has_slot.false) (sym c.may_enter.ensures ∙ c.if-may_enter.true))
     c.in_ok-change.ensures.edited
 
@@ -26,6 +26,6 @@ returns-in_err-miss_value c =
 
 pub returns : goal.returns
 returns c = edited_as c.args.oid (with_slot c.args.at c.args.value)
-    (slot_lacks c.args.self.now c.args.oid c.args.at c.args.value c.requires
+    (slot_lacks c.args.self.now.seen c.args.oid c.args.at c.args.value c.requires
     (sym c.has_slot.ensures ∙ c.if-not-has_slot.false) (sym c.may_enter.ensures ∙ c.if-may_enter.false))
     c.in_ok-miss_value.ensures.missed

@@ -1,14 +1,14 @@
 use Rattle.std.proofs.Common.{◌∙◌, sym, subst}
 use Rattle.gem_object.specs.Edits.{without_value_at}
-use Rattle.running_objects.specs.Seen.{Seen}
+use Rattle.plain_state.specs.Room.{SeenWithRoom}
 use Rattle.running_objects.specs.Acted.{Edited}
 use Rattle.plain_state.proofs.Sound.{edited_sound}
 use Rattle.plain_state.proofs.state.PlainStateObjects.remove_at.Goals as goal
 
 pub invariant_of-self : goal.invariant_of-self
-invariant_of-self c = edited_sound c.args.oid (without_value_at c.args.key.now) c.self.inside.parts c.remove_at.new.self c.remove_at.result
+invariant_of-self c = edited_sound c.args.oid (without_value_at c.args.key.now) c.self.inside.parts.seen c.remove_at.new.self.seen c.remove_at.result
     (sym c.is_there.ensures ∙ c.if-not-is_there.false) c.self.invariant c.remove_at.ensures
 
 pub returns : goal.returns
-returns c = subst (λ (s : Seen). Edited c.args.oid (without_value_at c.args.key.now) s c.remove_at.result c.remove_at.new.self)
+returns c = subst (λ (s : SeenWithRoom). Edited c.args.oid (without_value_at c.args.key.now) s.seen c.remove_at.result c.remove_at.new.self.seen)
     c.self.view_is c.remove_at.ensures
