@@ -1,0 +1,4 @@
+mod Ends
+mod Bodies
+mod Listed
+mod Takes

@@ -1,0 +1,5 @@
+use Rattle.session_view.proofs.Bodies.{begun_shows}
+use Rattle.session_view.proofs.laws.image_stays.Goals as goal
+
+pub returns-clause-begun : goal.returns-clause-begun
+returns-clause-begun c = begun_shows
