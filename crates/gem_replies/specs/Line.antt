@@ -8,7 +8,7 @@ use Rattle.lock_table.specs.declared.lock.LockKind.{LockKind}
 use Rattle.lock_table.specs.declared.lock.LockKind.TheVariants.{Read, Write}
 use Rattle.gem_replies.specs.Escapes.{escaped}
 use Rattle.gem_replies.specs.declared.reply.Line.{Line}
-use Rattle.gem_replies.specs.declared.reply.Line.TheVariants.{NoUser, NotLoggedIn, Login, NoMemory, Parse, NotBuilt, Show, Error, Ran, Printed, Method, Spoiled, Unchanged, Refused, Committed, Aborted, Logout, NoName, NotObject, NotCommitted, NoRight, Denied, Locked, NotHeld, Unlocked}
+use Rattle.gem_replies.specs.declared.reply.Line.TheVariants.{NoUser, NotLoggedIn, Login, NoMemory, Parse, Show, Error, Ran, Printed, Method, Spoiled, Unchanged, Refused, Committed, Aborted, Logout, NoName, NotObject, NotCommitted, NoRight, Denied, Locked, NotHeld, Unlocked}
 
 -- how a lock's kind is named
 abbrev pub kind_name : LockKind → Bytes
@@ -27,7 +27,6 @@ reply_words NotLoggedIn = codes "not logged in"
 reply_words (Login view) = codes "login view " ++ decimal view
 reply_words NoMemory = codes "no memory"
 reply_words (Parse at rule) = codes "parse P" ++ decimal rule ++ codes " at " ++ decimal at
-reply_words NotBuilt = codes "not built"
 reply_words (Show text) = codes "show "
 reply_words (Error kind detail) = codes "error E" ++ decimal kind ++ codes " "
 reply_words Ran = codes "ok"

@@ -9,7 +9,7 @@ use Rattle.gem_value.specs.Conflict.{kind_number}
 use Rattle.gem_value.specs.declared.conflict.Conflict.{Conflict}
 use Rattle.gem_value.specs.declared.conflict.ConflictKind.{ConflictKind}
 use Rattle.gem_value.specs.declared.conflict.ConflictKind.TheVariants.{WriteReadLock, WriteWriteLock}
-use Rattle.gem_value.specs.declared.record.Entry.{Entry}
+use Rattle.gem_record.specs.declared.record.Entry.{Entry}
 use Rattle.gem_replies.specs.Line.{reply_text, conflicts_of}
 use Rattle.gem_replies.specs.declared.reply.Reply.{Reply}
 use Rattle.gem_replies.specs.declared.reply.Transcript.{Transcript}

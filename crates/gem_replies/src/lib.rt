@@ -6,5 +6,5 @@ pub mod laws;
 mod reply;
 mod report;
 
-pub use reply::{Line, Replies, Reply, RunBook, Transcript, Transcripts};
+pub use reply::{History, Line, Replies, Reply, RunBook, Transcript, Transcripts};
 pub use report::report_text;

@@ -1,5 +1,6 @@
 //! What sessions reply, and the book that a run leaves.
-use gem_value::{Conflicts, History, Oid, Sequence};
+use gem_record::Entry;
+use gem_value::{Conflicts, Oid, Sequence};
 use lock_table::LockKind;
 use texts::Text;
 
@@ -20,8 +21,6 @@ pub enum Line {
         at: u32,
         rule: u8,
     },
-    /// `not built`: the command asks for what isn't run yet.
-    NotBuilt,
     /// `show T`: what the chunk or method wrote to the transcript, where that isn't empty. The
     /// reply that says how it ended comes next, with the same number.
     Show(Text),
@@ -108,6 +107,9 @@ pub struct Transcript {
 
 /// The transcripts of a run, in the order of the script. A contract sees the list.
 pub type Transcripts = Sequence<Transcript>;
+
+/// What was committed, in order. A contract sees the list.
+pub type History = Sequence<Entry>;
 
 /// What a run leaves: what its sessions replied, and what was committed.
 #[derive(Debug, Drop)]

@@ -8,7 +8,8 @@ ghost use Rattle.texts.specs.Lines.{text_of_lines};
 ghost use Rattle.gem_replies.specs.Report.{shown_name, conflict_text, reply_lines, transcript_lines, entry_text, history_lines, commit_lines, report_of};
 
 use crate::reply::{Line, Reply, RunBook, Transcript};
-use gem_value::{Conflict, ConflictKind, Entry, Oid};
+use gem_record::Entry;
+use gem_value::{Conflict, ConflictKind, Oid};
 use lock_table::LockKind;
 use std::alloc::{AllocError, Global};
 
@@ -84,7 +85,6 @@ fn words(alloc: Global, line: &Line) -> Result<String, AllocError>
         Line::Login(view) => format!(in alloc; "login view {view}"),
         Line::NoMemory => format!(in alloc; "no memory"),
         Line::Parse { at, rule } => format!(in alloc; "parse P{rule} at {at}"),
-        Line::NotBuilt => format!(in alloc; "not built"),
         Line::Show(_) => format!(in alloc; "show "),
         Line::Error { kind, .. } => format!(in alloc; "error E{kind} "),
         Line::Ran => format!(in alloc; "ok"),
