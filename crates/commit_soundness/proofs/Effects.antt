@@ -14,7 +14,7 @@ use Rattle.gem_record.specs.declared.record.Entry.{Entry}
 use Rattle.kept_set.specs.Kept.{IsKept}
 use Rattle.commit_check.specs.Conflicts.{merged_objects}
 use Rattle.commit_check.specs.Table.{IsMerged}
-use Rattle.object_meaning.specs.Effect.{changed_objects, stamped, effect_at}
+use Rattle.gem_meaning.specs.Effect.{changed_objects, stamped, effect_at}
 use Rattle.commit_soundness.proofs.Lists.{all_weaker, all_both, all_mapped, all_two}
 use Rattle.commit_soundness.proofs.Entries.{found_left, found_right, found_mapped, named_all, named_found, put_which, put_stays, put_there}
 use Rattle.commit_soundness.proofs.Records.{done, Stands, written_is, roots, kept, Leads, written_lead, kept_is, kept_found}

@@ -16,12 +16,13 @@ use Rattle.gem_update.specs.References.{names_in_update}
 use Rattle.gem_update.specs.declared.update.Update.{Update}
 use Rattle.gem_image.specs.Image.{Contents, contents_of}
 use Rattle.gem_world.specs.World.{Setting, World, is_made}
-use Rattle.gem_world.specs.Changes.{was_made, was_written, made_objects, written_objects, ascending, update_on, updates_on}
+use Rattle.gem_world.specs.Changes.{was_made, was_written, made_objects, written_objects, update_on, updates_on}
 use Rattle.gem_record.specs.Names.{under}
 use Rattle.gem_record.specs.declared.record.Entry.{Entry}
 use Rattle.gem_record.specs.declared.record.TxnRecord.{TxnRecord}
 use Rattle.kept_set.specs.Kept.{object_of, roots_of, IsKept, root, reached, dropped, kept_of}
 use Rattle.kept_set.proofs.Leads.{kept_names}
+use Rattle.run_records.specs.Names.{ascending}
 use Rattle.run_records.specs.Record.{uncommitted, record_of}
 use Rattle.commit_soundness.proofs.Lists.{from_each, all_weaker, all_of, all_two, all_left, all_right, all_mapped, all_passed, each_given}
 use Rattle.commit_soundness.proofs.Entries.{entries_found, listed_found, find_mapped}

@@ -11,7 +11,7 @@ use Rattle.object_programs.specs.Laws.{Stays, begun_at}
 use Rattle.gem_language.specs.Commands.{Command}
 use Rattle.gem_language.specs.Transaction.{transaction}
 use Rattle.run_records.specs.Record.{record_of}
-use Rattle.object_meaning.specs.Effect.{effect_at}
+use Rattle.gem_meaning.specs.Effect.{effect_at}
 
 -- Commands that are run at a place, and the number of the commit there.
 pub record Placing : Type 0 where

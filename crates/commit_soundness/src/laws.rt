@@ -6,7 +6,7 @@ ghost use Rattle.gem_object.specs.declared.object.Object.{Object};
 ghost use Rattle.gem_image.specs.Image.{IsImage, objects_in};
 ghost use Rattle.gem_sound.specs.Sound.{IsSoundFor, IsSoundImage};
 ghost use Rattle.object_programs.specs.Laws.{Stays};
-ghost use Rattle.object_meaning.specs.Effect.{MergesFit};
+ghost use Rattle.gem_meaning.specs.Effect.{MergesFit};
 ghost use Rattle.commit_soundness.specs.Placing.{Placing, left_by, record_placed, effect_placed, image_made, CanRun, IsDrawnIn};
 
 use commit_check::laws::exactly_the_merged;

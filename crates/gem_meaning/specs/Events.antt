@@ -1,31 +1,24 @@
--- What the Stone was opened with, the events that changed it since, and what stands after them.
-use Rattle.std.specs.Prelude.{◌≡◌, ℕ, ℤ, ◌+◌, ◌-◌, ◌==◌, List, [], ◌∷◌, ◌++◌, take, drop, Option, Some, None, nat_lt, if◌then◌else◌, get_or}
-use Rattle.std.specs.List.{fold, filter, filter_map, slice_get}
-use Rattle.texts.specs.Bytes.{Bytes}
-use Rattle.gem_value.specs.Image.{Image}
-use Rattle.gem_value.specs.declared.record.Entry.{Entry}
-use Rattle.gem_value.specs.declared.conflict.Conflict.{Conflict}
-use Rattle.gem_value.specs.declared.conflict.ConflictKind.TheVariants.{WriteWrite}
+-- What stands after the events of a Stone.
+use Rattle.std.specs.Prelude.{◌≡◌, ◌≤◌, ◌<◌, ℕ, ◌+◌, ◌-◌, ◌==◌, List, [], ◌∷◌, ◌++◌, Option, Some, None, get_or}
+use Rattle.std.specs.List.{fold, filter, filter_map}
+use Rattle.std.specs.Ordering.{nat_cmp}
+use Rattle.std.specs.FinMap.{FinMap, get, insert, empty}
+use Rattle.std.specs.Option.{unwrap_or}
 use Rattle.gem_value.specs.Oid.{oid_number}
-use Rattle.profile.specs.declared.kernel.TheConstants.{FIRST_SERIAL, KERNEL_SERIAL, GLOBALS_COUNTER}
-use Rattle.gem_value.specs.Writes.{with_written}
-use Rattle.shell_words.specs.Script.{SessionCommands}
-use Rattle.shell_words.specs.declared.script.Command.{Command}
+use Rattle.gem_object.specs.declared.object.Object.{Object}
+use Rattle.gem_image.specs.Image.{Image, with_objects}
+use Rattle.gem_value.specs.declared.conflict.Conflict.{Conflict}
+use Rattle.gem_record.specs.declared.record.Entry.{Entry}
+use Rattle.gem_record.specs.declared.record.TxnRecord.{TxnRecord}
+use Rattle.lock_table.specs.Locks.{LockSet, after_held, after_dropped, after_left}
+use Rattle.commit_check.specs.Conflicts.{conflicts_of}
+use Rattle.object_programs.specs.declared.limits.TheConstants.{COUNTER_LIMIT}
+use Rattle.gem_language.specs.Transaction.{Transaction}
+use Rattle.run_records.specs.Record.{record_of}
 use Rattle.gem_meaning.specs.declared.event.What.{What}
-use Rattle.gem_meaning.specs.declared.event.What.TheVariants.{Placed}
-use Rattle.gem_meaning.specs.Transaction.{Run, transaction, written_of}
-
--- What the Stone was opened with: an image, the number of commits in it, and the script that is
--- served.
-pub record Opened : Type 0 where
-  pub image : Image
-  pub number : ℕ
-  pub script : List SessionCommands
-
--- The serial of the first session: one more than the largest in the opened image. In this stage no
--- object of a session has been made before.
-abbrev pub base_serial : Opened → ℕ
-base_serial o = FIRST_SERIAL
+use Rattle.gem_meaning.specs.declared.event.What.TheVariants.{Placed, Held, Dropped, Left}
+use Rattle.gem_meaning.specs.Opened.{Opened, session_serial, entry_setting, run_at, record_on}
+use Rattle.gem_meaning.specs.Effect.{effect_at}
 
 -- an event: the number of the session that made it, and what it was
 abbrev pub Event : Type 0
@@ -48,52 +41,70 @@ pub record Standing : Type 0 where
   pub earlier : List Image
   -- the number of commits in the image
   pub number : ℕ
-
-abbrev pub commands_or_none : Option SessionCommands → List Command
-commands_or_none (Some session) = session.commands
-commands_or_none None = []
-
--- the commands of the session with this number, which counts from 1
-abbrev pub commands_of : List SessionCommands → ℕ → List Command
-commands_of script session = commands_or_none (slice_get script (session - 1))
-
--- the commands of a transaction: from its first to its last one, whose numbers count from 1
-abbrev pub entry_commands : List SessionCommands → Entry → List Command
-entry_commands script e =
-    drop (e.first_command - 1) (take e.last_command (commands_of script e.session))
+  -- the locks that sessions hold
+  pub locks : LockSet
+  -- for each session that committed, the counter after those of the names that its commits drew
+  pub drawn : FinMap nat_cmp ℕ
 
 -- The image with so many commits, up to the number that stands. For a number without an image it is
 -- the one that stands.
 abbrev pub image_at : Standing → ℕ → Image
 image_at s number = get_or (s.image ∷ s.earlier) (s.number - number) s.image
 
--- The entry's transaction, run where ordinary objects are those of `place` and reduced-conflict
--- objects those of `view`.
-abbrev pub run_at : Opened → Entry → (place view : Image) → Run
-run_at o e place view = transaction (entry_commands o.script e) place view
+-- the counter after those of the names that the session's commits drew; names count from 1
+abbrev pub next_counter : Standing → (session : ℕ) → ℕ
+next_counter s session = unwrap_or (get s.drawn session) 1
 
--- the transaction run at its place, which is where all that stands is there
-unfoldable pub run_at_place : Opened → Standing → Entry → Run
+-- No object has a name of the session's serial from the counter on after those that its commits
+-- drew.
+abbrev pub NamesAreFree : Opened → Standing → (session : ℕ) → Type 0
+NamesAreFree o s session = (counter : ℕ) → next_counter s session ≤ counter
+    → counter < COUNTER_LIMIT
+    → get s.image (oid_number (session_serial o session) counter) ≡ None
+
+-- the transaction run at its place, which is where all that stands is there, but that
+-- reduced-conflict objects are read as of its view
+unfoldable pub run_at_place : Opened → Standing → Entry → Transaction
 run_at_place o s e = run_at o e s.image (image_at s e.view)
 
 -- the transaction run where all stands as at its view
-unfoldable pub run_on_view : Opened → Standing → Entry → Run
+unfoldable pub run_on_view : Opened → Standing → Entry → Transaction
 run_on_view o s e = run_at o e (image_at s e.view) (image_at s e.view)
 
--- the effect of a commit: what its transaction, run at this place, writes
-abbrev pub effect_of : Opened → Standing → Entry → List (Bytes × ℤ)
-effect_of o s e = written_of (run_at_place o s e)
+-- the record of the transaction run at its place
+unfoldable pub record_at_place : Opened → Standing → Entry → TxnRecord
+record_at_place o s e = record_of e (entry_setting o e s.image (image_at s e.view))
+    (run_at_place o s e).world
 
--- A commit sets what its effect says.
+-- the record of the transaction run where all stands as at its view
+abbrev pub record_on_view : Opened → Standing → Entry → TxnRecord
+record_on_view o s e = record_on o e (image_at s e.view)
+
+-- the effect of a commit: what its transaction, run at this place, changes there
+unfoldable pub effect_of : Opened → Standing → Entry → List (ℕ × Object)
+effect_of o s e = effect_at s.image (s.number + 1) (record_at_place o s e)
+
+-- A commit sets what its effect says, and its names are drawn. The other events are about locks.
 abbrev pub after_event : Opened → Standing → Event → Standing
 after_event o s (session, Placed e) = record s {
-  image = with_written (effect_of o s e) s.image;
+  image = with_objects s.image (effect_of o s e);
   earlier = s.image ∷ s.earlier;
   number = s.number + 1;
+  drawn = insert s.drawn session (run_at_place o s e).world.next;
 }
+after_event o s (session, Held oid kind) =
+    record s { locks = after_held s.locks session oid kind }
+after_event o s (session, Dropped oid) = record s { locks = after_dropped s.locks session oid }
+after_event o s (session, Left) = record s { locks = after_left s.locks session }
 
 abbrev pub before_events : Opened → Standing
-before_events o = record { image = o.image; earlier = []; number = o.number }
+before_events o = record {
+  image = o.image;
+  earlier = [];
+  number = o.number;
+  locks = empty;
+  drawn = empty;
+}
 
 -- what stands after these events, in their order
 unfoldable pub after_events : Opened → List Event → Standing
@@ -105,6 +116,7 @@ standing t = after_events t.opened t.events
 
 abbrev pub placed_entry : Event → Option Entry
 placed_entry (session, Placed e) = Some e
+placed_entry (session, _) = None
 
 -- the history: the entries of the commits, in order
 abbrev pub entries_of : List Event → List Entry
@@ -123,14 +135,6 @@ abbrev pub OthersCame : ℕ → List Event → List Event → Type 0
 OthersCame session before after =
     (others : List Event) × (events_of session others ≡ []) × (after ≡ before ++ others)
 
--- the object that every global of this stage lies in: the dictionary Globals, 0:27
-abbrev pub globals : ℕ
-globals = oid_number KERNEL_SERIAL GLOBALS_COUNTER
-
--- The conflicts of a transaction that wrote something, where this stands and it ran so on its view.
--- C1: in this stage there is one, and only where a commit came after the view.
-abbrev pub conflicts_at : Opened → Standing → Entry → Run → List Conflict
-conflicts_at o s e run =
-    if nat_lt e.view s.number
-    then record { oid = globals; kind = WriteWrite; shown = s.number } ∷ []
-    else []
+-- the conflicts that stand against the commit of this record, where this stands
+abbrev pub conflicts_at : Standing → TxnRecord → List Conflict
+conflicts_at s done = conflicts_of (record { image = s.image; locks = s.locks }) done

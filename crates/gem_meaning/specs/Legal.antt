@@ -1,21 +1,22 @@
 -- A legal run: the book of a run, by what the Stone was opened with and all its events.
-use Rattle.std.specs.Prelude.{◌≡◌, ◌≢◌, ℕ, ◌+◌, ◌++◌, nat_lt, List, [], ◌∷◌}
+use Rattle.std.specs.Prelude.{◌≡◌, ◌≢◌, ℕ, ◌+◌, ◌++◌, nat_lt, List, [], ◌∷◌, length}
 use Rattle.std.specs.List.{filter, AllByRecursion}
 use Rattle.shell_words.specs.Script.{SessionCommands}
 use Rattle.gem_replies.specs.declared.reply.Line.TheVariants.{NoMemory}
 use Rattle.gem_replies.specs.declared.reply.Reply.{Reply}
-use Rattle.gem_replies.specs.declared.reply.Transcript.{Transcript}
 use Rattle.gem_replies.specs.declared.reply.RunBook.{RunBook}
-use Rattle.gem_meaning.specs.Events.{Event, Told, base_serial, entries_of, events_of, standing}
+use Rattle.gem_replies.specs.declared.reply.Transcript.{Transcript}
+use Rattle.gem_meaning.specs.Opened.{base_serial}
+use Rattle.gem_meaning.specs.Events.{Event, Told, entries_of, events_of}
 use Rattle.gem_meaning.specs.Serial.{IsConsistent}
-use Rattle.gem_meaning.specs.Session.{Says, TellsLogin}
+use Rattle.gem_meaning.specs.Session.{Says}
 
--- the transcript is what the session with this number says
+-- the transcript is what the session with this number says, whatever had come before it
 pub record IsTranscript (t : Told) (number : ℕ) (session : SessionCommands)
     (transcript : Transcript) : Type 0 where
   pub session_is : transcript.session ≡ number
   pub user_is : transcript.user ≡ session.user
-  pub says : Says t number session transcript.replies
+  pub says : Says t number 0 session transcript.replies
 
 -- a transcript for each session, in the order of the script, whose numbers go on from this one
 abbrev pub AreTranscripts : Told → ℕ → List SessionCommands → List Transcript → Type 0
@@ -52,14 +53,14 @@ events_before session events = filter (λ event. nat_lt event.0 session) events
 abbrev pub told_before : ℕ → Told → Told
 told_before session t = record t { events = events_before session t.events }
 
--- A session's turn: its events follow those of the sessions before it, its login tells the number
--- that stands after these, and what it says it says by these and its own alone.
+-- A session's turn: its events follow those of the sessions before it, its login saw all these, and
+-- what it says it says by these and its own alone.
 pub record IsTurn (t : Told) (session : ℕ) (script : SessionCommands)
     (transcript : Transcript) : Type 0 where
   pub order : events_before (session + 1) t.events
       ≡ events_before session t.events ++ events_of session t.events
-  pub login : TellsLogin (standing (told_before session t)).number transcript.replies
-  pub says : Says (told_before (session + 1) t) session script transcript.replies
+  pub says : Says (told_before (session + 1) t) session
+      (length (events_before session t.events)) script transcript.replies
 
 -- The sessions, whose numbers go on from this one, took turns in the order of the script.
 abbrev pub AreInTurn : Told → ℕ → List SessionCommands → List Transcript → Type 0

@@ -1,30 +1,85 @@
--- What a transaction works on: the globals of its view, and what it wrote itself.
-use Rattle.std.specs.Prelude.{ℤ, Option}
-use Rattle.std.specs.Option.{option_or}
-use base.Stored.{Coded, coded×, coded_via}
-use Rattle.std.specs.FinMap as map
-use Rattle.texts.specs.Bytes.{Bytes}
-use Rattle.gem_value.specs.Image.{Image, image_code}
+-- What a session carries from command to command.
+use Rattle.std.specs.Prelude.{ℕ, ◌+◌, ◌-◌, Bool, false, List, take}
+use Rattle.gem_record.specs.declared.record.Entry.{Entry}
+use Rattle.gem_record.specs.declared.record.TxnRecord.{TxnRecord}
+use Rattle.gem_language.specs.Transaction.{Transaction}
+use Rattle.gem_meaning.specs.Opened.{Opened}
+use Rattle.gem_meaning.specs.Events.{Event, Told, after_events, run_on_view, record_on_view}
 
-pub record State : Type 0 where
-  -- the globals of the view
-  pub base : Image
-  -- the globals that the transaction wrote, each with what it gave it last
-  pub written : Image
+-- What a session carries.
+pub record SessionState : Type 0 where
+  -- the number of the session
+  pub session : ℕ
+  -- the object of its user
+  pub user : ℕ
+  -- the number of its view
+  pub view : ℕ
+  -- the number of its transaction, from 1
+  pub transaction : ℕ
+  -- the number of the transaction's first command
+  pub first_command : ℕ
+  -- the counter of the first name that the transaction draws, and of the one that is drawn next
+  pub first_name : ℕ
+  pub next_name : ℕ
+  -- whether one of the transaction's commands found no memory
+  pub spoiled : Bool
 
-abbrev pub state_code : Coded State
-state_code =
-    coded_via (coded× image_code image_code) (λ s. (s.base, s.written))
-    (λ s t e i. record { base = (e i).0; written = (e i).1 })
+-- a session with its first transaction, at this view
+abbrev pub first_transaction : (session user view : ℕ) → SessionState
+first_transaction session user view = record {
+  session = session;
+  user = user;
+  view = view;
+  transaction = 1;
+  first_command = 1;
+  first_name = 1;
+  next_name = 1;
+  spoiled = false;
+}
 
--- nothing is written yet
-abbrev pub state_at_start : Image → State
-state_at_start image = record { base = image; written = map.empty }
+-- the session's next transaction, at this view, which begins after the command with this number
+abbrev pub next_transaction : SessionState → (view number : ℕ) → SessionState
+next_transaction s view number = record s {
+  view = view;
+  transaction = s.transaction + 1;
+  first_command = number + 1;
+  first_name = s.next_name;
+  spoiled = false;
+}
 
--- the integer of a global as the transaction sees it
-abbrev pub global_shown : State → Bytes → Option ℤ
-global_shown s n = option_or (map.get s.written n) (map.get s.base n)
+-- the entry of the transaction, with this command as its last one
+abbrev pub entry_to : ℕ → SessionState → Entry
+entry_to number s = record {
+  session = s.session;
+  transaction = s.transaction;
+  user = s.user;
+  first_command = s.first_command;
+  last_command = number;
+  first_name = s.first_name;
+  view = s.view;
+}
 
--- the state after a global was set
-abbrev pub with_global : Bytes → ℤ → State → State
-with_global n z s = record s { written = map.insert s.written n z }
+-- What the transaction has said and done when it comes to this command, where all stands as at its
+-- view.
+abbrev pub run_so_far : Opened → List Event → ℕ → SessionState → Transaction
+run_so_far o events number s = run_on_view o (after_events o events) (entry_to (number - 1) s)
+
+-- the record of the transaction with the commit that has this number
+abbrev pub record_to : Opened → List Event → ℕ → SessionState → TxnRecord
+record_to o events number s = record_on_view o (after_events o events) (entry_to number s)
+
+-- Where a command is replied to: its number, and the events before and after it.
+pub record CommandPlace : Type 0 where
+  pub opened : Opened
+  pub number : ℕ
+  pub before : List Event
+  pub after : List Event
+
+-- the place of a command between two points of all events
+abbrev pub place_between : Told → (number p q : ℕ) → CommandPlace
+place_between t number p q = record {
+  opened = t.opened;
+  number = number;
+  before = take p t.events;
+  after = take q t.events;
+}

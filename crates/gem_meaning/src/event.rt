@@ -1,4 +1,7 @@
-use gem_value::Entry;
+//! What happens to the Stone.
+use gem_record::Entry;
+use gem_value::Oid;
+use lock_table::LockKind;
 
 /// What happened to the Stone. Each event has the number of the session that made it beside it.
 #[derive(Clone, Copy, Debug, PartialEq, Eq)]
@@ -6,4 +9,10 @@ pub enum What {
     /// The session's commit was placed: the image has one commit more, and this is its entry in the
     /// history.
     Placed(Entry),
+    /// The session was granted a lock on the object. The kind is the one in which it then holds it.
+    Held(Oid, LockKind),
+    /// The session gave its lock on the object back.
+    Dropped(Oid),
+    /// The session ended, and all its locks are gone.
+    Left,
 }

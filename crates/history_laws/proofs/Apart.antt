@@ -8,10 +8,10 @@ use Rattle.gem_sound.specs.Parts.{user_at}
 use Rattle.gem_record.specs.History.{entry_of}
 use Rattle.gem_record.specs.declared.record.TxnRecord.{TxnRecord}
 use Rattle.gem_record.specs.declared.record.Entry.{Entry}
-use Rattle.object_meaning.specs.declared.event.What.TheVariants.{Placed, Held, Dropped, Left}
-use Rattle.object_meaning.specs.Opened.{Opened, run_at, record_on}
-use Rattle.object_meaning.specs.Events.{Event, Told, Standing, told_more, next_counter, run_at_place, run_on_view, record_on_view, after_event, after_events, events_of}
-use Rattle.object_meaning.specs.Serial.{EndedBefore, MayBeginAt, IsRecorded}
+use Rattle.gem_meaning.specs.declared.event.What.TheVariants.{Placed, Held, Dropped, Left}
+use Rattle.gem_meaning.specs.Opened.{Opened, run_at, record_on}
+use Rattle.gem_meaning.specs.Events.{Event, Told, Standing, told_more, next_counter, run_at_place, run_on_view, record_on_view, after_event, after_events, events_of}
+use Rattle.gem_meaning.specs.Serial.{EndedBefore, MayBeginAt, IsRecorded}
 use Rattle.history_laws.proofs.Views.{after_more, views_stay, number_stays}
 use Rattle.history_laws.proofs.Turns.{not_taken}
 use Rattle.history_laws.proofs.Histories.{IsCounterNow, counter_after}

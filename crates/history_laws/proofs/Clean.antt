@@ -18,10 +18,10 @@ use Rattle.lock_table.specs.declared.lock.LockKind.TheVariants.{Read, Write}
 use Rattle.commit_check.specs.Conflicts.{Place, changed_of, last_change}
 use Rattle.commit_check.specs.Table.{IsTouched, IsWritten, IsUpdated, Stands, write_write, read_write, write_read_lock, write_write_lock, merge_refused}
 use Rattle.commit_check.proofs.Stood.{listed_stands}
-use Rattle.object_meaning.specs.declared.event.What.TheVariants.{Placed, Held, Dropped, Left}
-use Rattle.object_meaning.specs.Opened.{Opened}
-use Rattle.object_meaning.specs.Events.{Event, Told, Standing, after_event, after_events, standing, conflicts_at}
-use Rattle.object_meaning.specs.Serial.{IsPlaced, IsSerialEvent, IsSerialFrom, IsSerial, CanServe}
+use Rattle.gem_meaning.specs.declared.event.What.TheVariants.{Placed, Held, Dropped, Left}
+use Rattle.gem_meaning.specs.Opened.{Opened}
+use Rattle.gem_meaning.specs.Events.{Event, Told, Standing, after_event, after_events, standing, conflicts_at}
+use Rattle.gem_meaning.specs.Serial.{IsPlaced, IsSerialEvent, IsSerialFrom, IsSerial, CanServe}
 use Rattle.history_laws.specs.Clean.{HoldsThrough, OwnIsUpTo, OwnAreUpTo, IsHeldClean}
 use Rattle.history_laws.proofs.Views.{after_one_more}
 use Rattle.history_laws.proofs.Unchanged.{IsPlacedAt, after_placed}

@@ -2,7 +2,7 @@
 use Rattle.gem_image.specs.Image.{IsImage}
 use Rattle.gem_sound.specs.Sound.{IsSoundImage}
 use Rattle.object_programs.specs.Laws.{Stays}
-use Rattle.object_meaning.specs.Effect.{MergesFit}
+use Rattle.gem_meaning.specs.Effect.{MergesFit}
 use Rattle.commit_soundness.specs.Placing.{Placing, record_placed, image_made, CanRun}
 
 -- A commit whose merged objects can be stored makes a sound image, which can be stored; and every

@@ -15,7 +15,7 @@ use Rattle.commit_check.specs.Conflicts.{merged_objects}
 use Rattle.commit_check.specs.Table.{IsUpdated}
 use Rattle.commit_check.proofs.Members.{IsOneOf, contained, in_either}
 use Rattle.commit_check.proofs.MergedObjects.{listed_merged}
-use Rattle.object_meaning.specs.Effect.{kept_objects, changed_objects, stamped, effect_at}
+use Rattle.gem_meaning.specs.Effect.{kept_objects, changed_objects, stamped, effect_at}
 
 -- ---- lists of pairs
 

@@ -10,11 +10,10 @@ use Rattle.gem_image.specs.Image.{IsImage}
 use Rattle.gem_record.specs.declared.record.Entry.{Entry}
 use Rattle.gem_sound.specs.Sound.{IsSoundImage}
 use Rattle.object_programs.specs.Laws.{Stays}
-use Rattle.object_meaning.specs.declared.event.What.TheVariants.{Placed, Held, Dropped, Left}
-use Rattle.object_meaning.specs.Opened.{Opened, base_serial, session_serial}
-use Rattle.object_meaning.specs.Events.{Event, Told, Standing, image_at, next_counter, run_at_place, after_event, before_events, after_events, standing}
-use Rattle.object_meaning.specs.Serial.{IsPlaced, IsSerialEvent, IsSerialFrom, IsSerial, IsConsistent, CanServe}
-use Rattle.history_laws.specs.Names.{NamesAreFree}
+use Rattle.gem_meaning.specs.declared.event.What.TheVariants.{Placed, Held, Dropped, Left}
+use Rattle.gem_meaning.specs.Opened.{Opened, base_serial, session_serial}
+use Rattle.gem_meaning.specs.Events.{Event, Told, Standing, image_at, next_counter, NamesAreFree, run_at_place, after_event, before_events, after_events, standing}
+use Rattle.gem_meaning.specs.Serial.{IsPlaced, IsSerialEvent, IsSerialFrom, IsSerial, IsConsistent, CanServe}
 use Rattle.history_laws.proofs.Views.{IsGrown, image_stays, image_now, is_grown, after_one_more, number_at_least}
 use Rattle.history_laws.proofs.Effects.{tied}
 use Rattle.history_laws.proofs.Stays.{stays_itself, stays_along}

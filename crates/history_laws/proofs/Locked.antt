@@ -14,10 +14,10 @@ use Rattle.lock_table.proofs.Denied.{free_from_none, lowest_is_value}
 use Rattle.commit_check.specs.Conflicts.{Place, conflicts_of}
 use Rattle.commit_check.specs.Table.{IsWritten, IsUpdated, write_read_lock, write_write_lock}
 use Rattle.run_records.specs.Record.{record_of}
-use Rattle.object_meaning.specs.declared.event.What.TheVariants.{Placed, Held, Dropped, Left}
-use Rattle.object_meaning.specs.Opened.{Opened}
-use Rattle.object_meaning.specs.Events.{Event, Standing, record_at_place, effect_of, after_event, before_events, after_events}
-use Rattle.object_meaning.specs.Serial.{IsPlaced, IsSerialEvent, IsSerialFrom, CanServe}
+use Rattle.gem_meaning.specs.declared.event.What.TheVariants.{Placed, Held, Dropped, Left}
+use Rattle.gem_meaning.specs.Opened.{Opened}
+use Rattle.gem_meaning.specs.Events.{Event, Standing, record_at_place, effect_of, after_event, before_events, after_events}
+use Rattle.gem_meaning.specs.Serial.{IsPlaced, IsSerialEvent, IsSerialFrom, CanServe}
 use Rattle.history_laws.proofs.Views.{is_grown, after_one_more}
 use Rattle.history_laws.proofs.Effects.{IsChangedBy, by_write, by_make, by_update, under_one}
 use Rattle.history_laws.proofs.Unchanged.{IsPlacedAt, after_placed}

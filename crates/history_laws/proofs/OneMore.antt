@@ -9,18 +9,18 @@ use Rattle.gem_record.specs.History.{entry_of}
 use Rattle.gem_record.specs.declared.record.TxnRecord.{TxnRecord}
 use Rattle.gem_record.specs.declared.record.Entry.{Entry}
 use Rattle.lock_table.specs.LockKind.{is_write, kind_granted}
-use Rattle.lock_table.specs.Locks.{LockSet, holding_cmp, holding, kind_held, LockEvent, denied_for, IsInTheWay}
+use Rattle.lock_table.specs.Locks.{LockSet, holding_cmp, holding, kind_held, denied_for}
 use Rattle.lock_table.specs.Locks as locks
 use Rattle.lock_table.specs.Granted.{IsExclusive}
 use Rattle.lock_table.specs.declared.lock.LockKind.{LockKind}
 use Rattle.lock_table.specs.declared.lock.LockKind.TheVariants.{Read, Write}
 use Rattle.lock_table.proofs.Denied.{free_from_none, none_from_free}
 use Rattle.lock_table.proofs.Exclusive.{exclusive_event}
-use Rattle.object_meaning.specs.declared.event.What.TheVariants.{Placed, Held, Dropped, Left}
-use Rattle.object_meaning.specs.Opened.{Opened}
-use Rattle.object_meaning.specs.Effect.{MergesFit}
-use Rattle.object_meaning.specs.Events.{Event, Told, told_more, after_event, before_events, after_events, standing, conflicts_at, placed_entry, entries_of}
-use Rattle.object_meaning.specs.Serial.{IsSerialEvent, IsSerialFrom, IsSerial, IsOfScript, IsConsistent, IsRecorded, HoldsSome, CanServe}
+use Rattle.gem_meaning.specs.declared.event.What.TheVariants.{Placed, Held, Dropped, Left}
+use Rattle.gem_meaning.specs.Opened.{Opened}
+use Rattle.gem_meaning.specs.Effect.{MergesFit}
+use Rattle.gem_meaning.specs.Events.{Event, Told, told_more, after_event, before_events, after_events, standing, conflicts_at, placed_entry, entries_of}
+use Rattle.gem_meaning.specs.Serial.{IsSerialEvent, IsSerialFrom, IsSerial, IsOfScript, IsConsistent, IsRecorded, HoldsSome, CanServe}
 use Rattle.history_laws.proofs.Views.{after_one_more}
 use Rattle.history_laws.proofs.Commits.{CommitsKeep}
 use Rattle.history_laws.proofs.Placed.{placed_as_recorded}

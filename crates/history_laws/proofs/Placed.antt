@@ -12,11 +12,11 @@ use Rattle.gem_language.specs.Transaction.{Transaction}
 use Rattle.gem_language.proofs.Lists as lists
 use Rattle.run_records.specs.Record.{record_of}
 use Rattle.commit_check.specs.Conflicts.{is_touched}
-use Rattle.object_meaning.specs.Commands.{object_commands}
-use Rattle.object_meaning.specs.Opened.{Opened, session_serial, entry_commands, entry_setting, record_on}
-use Rattle.object_meaning.specs.Effect.{MergesFit, effect_at}
-use Rattle.object_meaning.specs.Events.{Told, Standing, image_at, run_at_place, run_on_view, record_at_place, record_on_view, effect_of, standing, conflicts_at}
-use Rattle.object_meaning.specs.Serial.{IsPlaced, IsRecorded, IsSerial, CanServe}
+use Rattle.gem_meaning.specs.Commands.{object_commands}
+use Rattle.gem_meaning.specs.Opened.{Opened, session_serial, entry_commands, entry_setting, record_on}
+use Rattle.gem_meaning.specs.Effect.{MergesFit, effect_at}
+use Rattle.gem_meaning.specs.Events.{Told, Standing, image_at, run_at_place, run_on_view, record_at_place, record_on_view, effect_of, standing, conflicts_at}
+use Rattle.gem_meaning.specs.Serial.{IsPlaced, IsRecorded, IsSerial, CanServe}
 use Rattle.history_laws.proofs.Unchanged.{IsUnchangedSince, unchanged_since}
 use Rattle.history_laws.proofs.Commits.{CommitsKeep}
 use Rattle.history_laws.proofs.Histories.{all_sound}

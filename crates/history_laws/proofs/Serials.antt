@@ -8,7 +8,7 @@ use Rattle.std.proofs.lemmas.Bool.{false≢true}
 use Rattle.gem_object.specs.declared.object.Object.{Object}
 use Rattle.gem_image.specs.Image.{Image}
 use Rattle.gem_value.specs.Oid.{oid_number, serial_of}
-use Rattle.object_meaning.specs.Opened.{Opened, largest_serial, base_serial, session_serial}
+use Rattle.gem_meaning.specs.Opened.{Opened, largest_serial, base_serial, session_serial}
 use Rattle.history_laws.proofs.Effects.{tied}
 
 pub serial_is : (serial counter : ℕ) → counter < 2 ^ 24 → serial_of (oid_number serial counter) ≡ serial

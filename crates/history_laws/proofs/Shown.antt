@@ -1,5 +1,5 @@
--- What a conflict shows that isn't of a lock is a commit after the view.
-use Rattle.std.proofs.Common.{◌≡◌, ◌≢◌, ℕ, ◌<◌, inl, inr, Bool, true, false, cond, if◌then◌else◌, List, [], ◌∷◌, map, Contains, Option, Some, None, is_some, option_map, Ordering, Less, Equal, Greater, nat_cmp, refl, sym, ap, ◌∙◌, arith}
+-- What a conflict shows that isn't of a lock is a commit after the view, and one that stands.
+use Rattle.std.proofs.Common.{◌≡◌, ◌≢◌, ℕ, ◌<◌, ◌≤◌, inl, inr, Bool, true, false, cond, if◌then◌else◌, List, [], ◌∷◌, map, Contains, Option, Some, None, is_some, option_map, Ordering, Less, Equal, Greater, nat_cmp, refl, sym, ap, ◌∙◌, arith}
 use Rattle.std.specs.Ordering.{is_eq}
 use Rattle.std.specs.Option.{option_or}
 use Rattle.std.specs.FinMap.{get}
@@ -29,12 +29,12 @@ use Rattle.run_records.specs.Record.{record_of}
 use Rattle.commit_check.specs.Conflicts.{last_change}
 use Rattle.commit_check.specs.Table.{IsRefused, Stands, write_write, read_write, write_read_lock, write_write_lock, merge_refused}
 use Rattle.commit_check.proofs.Stood.{listed_stands}
-use Rattle.object_meaning.specs.Commands.{object_commands}
-use Rattle.object_meaning.specs.Opened.{Opened, entry_commands, entry_setting, record_on}
-use Rattle.object_meaning.specs.Events.{Told, Standing, image_at, run_on_view, record_on_view, standing, conflicts_at}
-use Rattle.object_meaning.specs.Serial.{IsTransaction, MayBeginAt, IsRecorded, IsSerial, CanServe}
+use Rattle.gem_meaning.specs.Commands.{object_commands}
+use Rattle.gem_meaning.specs.Opened.{Opened, entry_commands, entry_setting, record_on}
+use Rattle.gem_meaning.specs.Events.{Told, Standing, image_at, run_on_view, record_on_view, standing, conflicts_at}
+use Rattle.gem_meaning.specs.Serial.{IsTransaction, MayBeginAt, IsRecorded, IsSerial, CanServe}
 use Rattle.history_laws.proofs.Views.{IsGrown, is_grown}
-use Rattle.history_laws.proofs.Unchanged.{IsUnchangedSince, unchanged_since}
+use Rattle.history_laws.proofs.Unchanged.{IsUnchangedSince, AreNumbered, unchanged_since, are_numbered}
 use Rattle.history_laws.proofs.Drawn.{drawn_counter}
 use Rattle.history_laws.proofs.Commits.{CommitsKeep}
 use Rattle.history_laws.proofs.Sound.{AllSound, at_view, sound_on_view, free_at_view}
@@ -202,4 +202,23 @@ shown_after_view t done law serves serial recorded c listed no_read no_write =
     shown_later t.opened s done serves (is_grown t.opened t.events)
     (all_sound t law serves serial) (unchanged_since t.opened t.events) recorded.of_script
     recorded.begins recorded.is c
+    (listed_stands (record { image = s.image; locks = s.locks }) done c listed) no_read no_write
+
+-- ---- the commits that are shown stand
+
+stands_shown : (s : Standing) (done : TxnRecord) → AreNumbered s → (c : Conflict)
+    → Stands (record { image = s.image; locks = s.locks }) done c
+    → c.kind ≢ WriteReadLock → c.kind ≢ WriteWriteLock → c.shown ≤ s.number
+stands_shown s done numbered c (write_write oid written since) no_read no_write = numbered oid
+stands_shown s done numbered c (read_write oid touched not_written since) no_read no_write = numbered oid
+stands_shown s done numbered c (write_read_lock oid holder changed lowest) no_read no_write = absurd (no_read refl)
+stands_shown s done numbered c (write_write_lock oid holder changed lowest) no_read no_write = absurd (no_write refl)
+stands_shown s done numbered c (merge_refused oid kind refused) no_read no_write = numbered oid
+
+pub shown_stands : (t : Told) (done : TxnRecord) → CanServe t.opened → (c : Conflict)
+    → Contains (conflicts_at (standing t) done) c → c.kind ≢ WriteReadLock → c.kind ≢ WriteWriteLock
+    → c.shown ≤ (standing t).number
+shown_stands t done serves c listed no_read no_write =
+    let s = standing t in
+    stands_shown s done (are_numbered t.opened t.events serves.changed) c
     (listed_stands (record { image = s.image; locks = s.locks }) done c listed) no_read no_write

@@ -15,13 +15,12 @@ use Rattle.object_programs.proofs.Admits.{admits_image}
 use Rattle.object_programs.proofs.AtPlace.{sound_at}
 use Rattle.gem_language.proofs.Lists.{listed, next_grows}
 use Rattle.commit_check.proofs.Members.{IsOneOf}
-use Rattle.object_meaning.specs.Commands.{object_commands}
-use Rattle.object_meaning.specs.Opened.{Opened, session_serial, entry_commands}
-use Rattle.object_meaning.specs.Effect.{MergesFit}
-use Rattle.object_meaning.specs.Events.{Standing, image_at, next_counter, run_at_place, run_on_view, record_at_place, effect_of}
-use Rattle.object_meaning.specs.Serial.{IsTransaction, MayBeginAt, CanServe}
+use Rattle.gem_meaning.specs.Commands.{object_commands}
+use Rattle.gem_meaning.specs.Opened.{Opened, session_serial, entry_commands}
+use Rattle.gem_meaning.specs.Effect.{MergesFit}
+use Rattle.gem_meaning.specs.Events.{Standing, image_at, next_counter, NamesAreFree, run_at_place, run_on_view, record_at_place, effect_of}
+use Rattle.gem_meaning.specs.Serial.{IsTransaction, MayBeginAt, CanServe}
 use Rattle.commit_soundness.specs.Placing.{Placing, record_placed, CanRun}
-use Rattle.history_laws.specs.Names.{NamesAreFree}
 use Rattle.history_laws.proofs.Views.{IsGrown, image_now}
 use Rattle.history_laws.proofs.Effects.{IsChangedBy}
 use Rattle.history_laws.proofs.Unchanged.{IsPlacedAt, after_placed}

@@ -1,16 +1,17 @@
 -- What a record's transaction touched, and what the absence of conflicts says of it.
-use Rattle.std.proofs.Common.{◌≡◌, ℕ, ◌≤◌, ◌<◌, Bool, true, false, ◌||◌, inl, inr, List, [], ◌∷◌, Contains, Option, Some, None, nat_eq, refl, sym, ap, ap₂, subst, ◌∙◌, arith}
+use Rattle.std.proofs.Common.{◌≡◌, ℕ, ◌≤◌, ◌<◌, Bool, true, false, ◌||◌, inl, inr, List, [], ◌∷◌, map, Contains, Option, Some, None, is_some, nat_eq, refl, sym, ap, ap₂, subst, ◌∙◌, arith}
 use Rattle.std.specs.Ordering.{nat_cmp, eq_by_cmp}
 use Rattle.std.specs.Cmp.{nat_cmp_total, unsigned_tied}
 use Rattle.std.specs.List.{list_any}
-use Rattle.std.specs.FinMap.{get}
-use Rattle.std.specs.FinSet.{from_list, contains-items, contains-from_list}
+use Rattle.std.specs.FinMap.{get, from_entries, contains_key-keys, get-from_entries}
+use Rattle.std.specs.FinMap.Entries.{is_some-find}
 use Rattle.std.proofs.lemmas.Bool.{false≢true, cases_lt}
 use Rattle.gem_object.specs.declared.object.Object.{Object}
 use Rattle.gem_record.specs.declared.record.TxnRecord.{TxnRecord}
 use Rattle.gem_record.specs.declared.record.Entry.{Entry}
 use Rattle.gem_value.specs.declared.conflict.Conflict.{Conflict}
 use Rattle.gem_world.specs.World.{Setting, World, is_among}
+use Rattle.run_records.specs.Names.{marked, ascending}
 use Rattle.run_records.specs.Record.{record_of}
 use Rattle.commit_check.specs.Conflicts.{Place, changed_of, last_change, conflicts_of, is_touched, is_written}
 use Rattle.commit_check.specs.Table.{IsTouched, IsChangedSince, Stands, write_write, read_write}
@@ -23,13 +24,25 @@ pub same_tests : (name : ℕ) (names : List ℕ)
 same_tests name [] = refl
 same_tests name (first ∷ rest) = ap₂ ◌||◌ (unsigned_tied name first) (same_tests name rest)
 
+marked_names : (names : List ℕ) → map (λ (entry : ℕ × Unit {0}). entry.0) (marked names) ≡ names
+marked_names [] = refl
+marked_names (first ∷ rest) = ap (λ names. first ∷ names) (marked_names rest)
+
+-- the names in order are the same names
+pub ascending_has : (name : ℕ) (names : List ℕ)
+    → list_any (eq_by_cmp nat_cmp name) (ascending names) ≡ list_any (nat_eq name) names
+ascending_has name names =
+    sym (contains_key-keys (from_entries {R = nat_cmp} (marked names)) name)
+    ∙ ap is_some (get-from_entries nat_cmp_total (marked names) name)
+    ∙ is_some-find nat_cmp name (marked names)
+    ∙ ap (list_any (eq_by_cmp nat_cmp name)) (marked_names names)
+    ∙ same_tests name names
+
 -- the record has the names that the run touched
 pub touched_in_record : (e : Entry) (setting : Setting) (world : World) (name : ℕ)
     → is_touched (record_of e setting world) name ≡ is_among name world.touched
 unfolding record_of
-touched_in_record e setting world name =
-    sym (contains-items (from_list {R = nat_cmp} world.touched) name)
-    ∙ (contains-from_list nat_cmp_total world.touched name ∙ same_tests name world.touched)
+touched_in_record e setting world name = ascending_has name world.touched
 
 pub is_contained : (done : TxnRecord) (name : ℕ) → is_touched done name ≡ true → IsTouched done name
 is_contained done name is = contained name done.touched (from_any name done.touched is)

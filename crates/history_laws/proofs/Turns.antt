@@ -3,8 +3,8 @@ use Rattle.std.proofs.Common.{◌≡◌, ◌≢◌, ◌∙◌, refl, sym, ap, su
 use Rattle.std.specs.List.{AllByRecursion}
 use Rattle.std.proofs.lemmas.List.{append_cancel_left}
 use Rattle.std.proofs.lemmas.List.Elements.{filter-append}
-use Rattle.object_meaning.specs.Events.{Event, events_of, OthersCame}
-use Rattle.object_meaning.specs.Legal.{events_before}
+use Rattle.gem_meaning.specs.Events.{Event, events_of, OthersCame}
+use Rattle.gem_meaning.specs.Legal.{events_before}
 
 -- what holds of all items of a list holds of those of its front, and of its back
 module _ {X : Type 0} (P : X → Type 0) where

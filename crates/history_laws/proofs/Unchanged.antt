@@ -7,9 +7,9 @@ use Rattle.gem_object.specs.declared.object.Object.{Object}
 use Rattle.gem_image.specs.Image.{with_objects}
 use Rattle.gem_record.specs.declared.record.Entry.{Entry}
 use Rattle.commit_check.specs.Conflicts.{changed_of, last_change}
-use Rattle.object_meaning.specs.declared.event.What.TheVariants.{Placed, Held, Dropped, Left}
-use Rattle.object_meaning.specs.Opened.{Opened}
-use Rattle.object_meaning.specs.Events.{Event, Standing, image_at, effect_of, record_at_place, after_event, before_events, after_events}
+use Rattle.gem_meaning.specs.declared.event.What.TheVariants.{Placed, Held, Dropped, Left}
+use Rattle.gem_meaning.specs.Opened.{Opened}
+use Rattle.gem_meaning.specs.Events.{Event, Standing, image_at, effect_of, record_at_place, after_event, before_events, after_events}
 use Rattle.history_laws.proofs.Views.{IsGrown, grown_by, image_stays, image_now}
 use Rattle.history_laws.proofs.Effects.{IsChangedBy, after_commit}
 
@@ -73,3 +73,37 @@ unfolding after_events
 unchanged_since o events = since_from o (before_events o) events (omega arith)
     (λ view name from to old. ap (λ image. get image name)
     (sym (image_now (before_events o) view (omega (arith, from, to)))))
+
+-- ---- the numbers of last change
+
+-- each object was last changed by one of the commits that stand
+abbrev pub AreNumbered : Standing → Type 0
+AreNumbered s = (oid : ℕ) → last_change s.image oid ≤ s.number
+
+numbered_at : (o : Opened) (s : Standing) (e : Entry) (oid : ℕ) → AreNumbered s → IsPlacedAt o s e oid
+    → last_change (with_objects s.image (effect_of o s e)) oid ≤ s.number + 1
+numbered_at o s e oid old (inl same) =
+    let last : last_change (with_objects s.image (effect_of o s e)) oid ≡ last_change s.image oid = ap changed_of same in
+    let before = old oid in
+    omega (arith, last, before)
+numbered_at o s e oid old (inr found) =
+    let changed = found.2 in
+    let last : last_change (with_objects s.image (effect_of o s e)) oid ≡ found.0.changed = ap changed_of found.1 in
+    omega (arith, changed, last)
+
+numbered_event : (o : Opened) (s : Standing) (event : Event) → AreNumbered s
+    → AreNumbered (after_event o s event)
+numbered_event o s (session, Placed e) old oid = numbered_at o s e oid old (after_placed o s e oid)
+numbered_event o s (session, Held name kind) old oid = old oid
+numbered_event o s (session, Dropped name) old oid = old oid
+numbered_event o s (session, Left) old oid = old oid
+
+numbered_from : (o : Opened) (s : Standing) (events : List Event) → AreNumbered s
+    → AreNumbered (fold (after_event o) s events)
+numbered_from o s [] old = old
+numbered_from o s (e ∷ es) old = numbered_from o (after_event o s e) es (numbered_event o s e old)
+
+pub are_numbered : (o : Opened) (events : List Event) → AreNumbered (before_events o)
+    → AreNumbered (after_events o events)
+unfolding after_events
+are_numbered o events first = numbered_from o (before_events o) events first

@@ -1,23 +1,22 @@
 -- What a transaction wrote or updated its user might write, in one of the moments of its run.
 use Rattle.std.proofs.Common.{◌≡◌, ℕ, true, ◌⊎◌, inl, inr, ⊎_elim, List, [], ◌∷◌, map, is_some, refl, sym, ap, subst, ◌∙◌, arith}
 use Rattle.std.specs.FinMap.{get, get-empty}
-use Rattle.std.specs.FinSet.{from_list, contains-items, contains-from_list}
-use Rattle.std.specs.Cmp.{nat_cmp_total}
 use Rattle.std.specs.Ordering.{nat_cmp}
 use Rattle.std.proofs.lemmas.Bool.{false≢true}
 use Rattle.gem_record.specs.declared.record.Entry.{Entry}
 use Rattle.gem_world.specs.World.{Setting, World, untouched}
-use Rattle.gem_world.specs.Changes.{written_objects, updates_on, ascending}
+use Rattle.gem_world.specs.Changes.{written_objects, updates_on}
+use Rattle.run_records.specs.Names.{ascending}
 use Rattle.run_records.specs.Record.{record_of}
 use Rattle.commit_check.specs.Conflicts.{names_of}
 use Rattle.commit_check.specs.Table.{IsWritten, IsUpdated}
 use Rattle.commit_check.proofs.Members.{IsOneOf, contained}
 use Rattle.commit_check.proofs.Used.{named, to_any}
-use Rattle.object_meaning.specs.Commands.{object_commands}
-use Rattle.object_meaning.specs.Opened.{Opened, entry_commands, entry_setting}
-use Rattle.object_meaning.specs.Events.{Standing, image_at, run_at_place, record_at_place}
+use Rattle.gem_meaning.specs.Commands.{object_commands}
+use Rattle.gem_meaning.specs.Opened.{Opened, entry_commands, entry_setting}
+use Rattle.gem_meaning.specs.Events.{Standing, image_at, run_at_place, record_at_place}
 use Rattle.history_laws.specs.Accesses.{command_moments, moments_at_place, MightWrite}
-use Rattle.history_laws.proofs.Touched.{same_tests}
+use Rattle.history_laws.proofs.Touched.{ascending_has}
 use Rattle.history_laws.proofs.Drawn.{uncommitted_one, was_changed}
 use Rattle.history_laws.proofs.Gains.{gains_all}
 use Rattle.history_laws.proofs.ChangedObjects.{IsChanged, changed_gains}
@@ -48,9 +47,7 @@ module _ (e : Entry) (setting : Setting) (world : World) where
       let us = map (λ entry. entry.0) world.updates in
       let there = subst (IsOneOf name)
       (names_again (λ n. updates_on n world.updates) (ascending us)) (named name _ is_updated) in
-      sym (same_tests name us)
-      ∙ (sym (contains-from_list nat_cmp_total us name)
-      ∙ (contains-items (from_list {R = nat_cmp} us) name ∙ to_any name (ascending us) there))
+      sym (ascending_has name us) ∙ to_any name (ascending us) there
 
 -- whoever wrote or updated an object might write it, by what was seen in a moment of the run
 pub might_write : (o : Opened) (s : Standing) (e : Entry) (name : ℕ)

@@ -9,9 +9,9 @@ use Rattle.object_programs.specs.Atom.{Atom, Ask, Own, Kind, Made, Who, Put, Mov
 use Rattle.object_programs.specs.Run.{Run, give, fail, return_to, atom, seeing, become, and_then, ending, Ending, gives, returns, fails, State, perform}
 use Rattle.gem_language.specs.Commands.{Command, command_reply}
 use Rattle.gem_language.specs.Transaction.{begin_command, command_outcome}
-use Rattle.object_meaning.specs.Commands.{object_commands}
-use Rattle.object_meaning.specs.Opened.{Opened, entry_commands, entry_setting}
-use Rattle.object_meaning.specs.Events.{Standing, image_at}
+use Rattle.gem_meaning.specs.Commands.{object_commands}
+use Rattle.gem_meaning.specs.Opened.{Opened, entry_commands, entry_setting}
+use Rattle.gem_meaning.specs.Events.{Standing, image_at}
 
 -- A moment of a run: what is there before one of its atoms, and its access, where it is one.
 pub record Moment : Type 0 where

@@ -2,9 +2,9 @@
 use Rattle.std.specs.Prelude.{◌≡◌, ◌≤◌, ℕ, ◌+◌, List, [], ◌∷◌, ◌++◌, IsSome}
 use Rattle.lock_table.specs.Locks.{kind_held}
 use Rattle.commit_check.specs.Conflicts.{last_change}
-use Rattle.object_meaning.specs.declared.event.What.TheVariants.{Placed}
-use Rattle.object_meaning.specs.Opened.{Opened}
-use Rattle.object_meaning.specs.Events.{Event, Standing, after_event, after_events}
+use Rattle.gem_meaning.specs.declared.event.What.TheVariants.{Placed}
+use Rattle.gem_meaning.specs.Opened.{Opened}
+use Rattle.gem_meaning.specs.Events.{Event, Standing, after_event, after_events}
 
 -- the session holds the object where this stands, and still after each of the events
 abbrev pub HoldsThrough : Opened → Standing → List Event → (session oid : ℕ) → Type 0

@@ -1,3 +1,2 @@
-pub mod Names
 pub mod Clean
 pub mod Accesses

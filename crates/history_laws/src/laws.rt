@@ -1,6 +1,6 @@
 //! What follows from the definitions alone. Each law is the contract of a function that does
 //! nothing.
-ghost use Rattle.std.specs.Prelude.{◌≡◌, ◌≢◌, ◌⊎◌, ◌≤◌, ◌<◌, ◌+◌, ◌^◌, ◌++◌, ◌∷◌, [], ℕ, List, length, None, Some, IsSome, true};
+ghost use Rattle.std.specs.Prelude.{◌≡◌, ◌≢◌, ◌⊎◌, ◌≤◌, ◌<◌, ◌+◌, ◌∷◌, [], ℕ, List, length, None, Some, IsSome};
 ghost use Rattle.std.specs.FinMap.{get};
 ghost use Rattle.std.specs.List.{AllByRecursion, Contains};
 ghost use Rattle.gem_image.specs.Image.{IsImage};
@@ -17,12 +17,11 @@ ghost use Rattle.lock_table.specs.declared.lock.LockKind.{LockKind};
 ghost use Rattle.commit_check.specs.Conflicts.{last_change};
 ghost use Rattle.commit_check.specs.Table.{IsTouched, IsWritten, IsUpdated};
 ghost use Rattle.object_programs.specs.Laws.{Stays};
-ghost use Rattle.object_meaning.specs.declared.event.What.TheVariants.{Placed, Held, Dropped, Left};
-ghost use Rattle.object_meaning.specs.Opened.{Opened, entry_setting};
-ghost use Rattle.object_meaning.specs.Effect.{MergesFit, effect_at};
-ghost use Rattle.object_meaning.specs.Events.{Event, Told, Standing, told_more, image_at, next_counter, record_at_place, effect_of, after_events, standing, events_of, conflicts_at};
-ghost use Rattle.object_meaning.specs.Serial.{IsPlaced, IsOfScript, IsConsistent, IsSerial, IsRecorded, HoldsSome, CanServe};
-ghost use Rattle.history_laws.specs.Names.{NamesAreFree};
+ghost use Rattle.gem_meaning.specs.declared.event.What.TheVariants.{Placed, Held, Dropped, Left};
+ghost use Rattle.gem_meaning.specs.Opened.{Opened, entry_setting};
+ghost use Rattle.gem_meaning.specs.Effect.{MergesFit, effect_at};
+ghost use Rattle.gem_meaning.specs.Events.{Event, Told, Standing, told_more, image_at, next_counter, NamesAreFree, record_at_place, effect_of, after_events, standing, events_of, conflicts_at};
+ghost use Rattle.gem_meaning.specs.Serial.{IsPlaced, IsOfScript, IsConsistent, IsSerial, IsRecorded, HoldsSome, CanServe};
 ghost use Rattle.history_laws.specs.Accesses.{IsAllowed, MightWrite, moments_at_place};
 ghost use Rattle.history_laws.specs.Clean.{IsHeldClean};
 
@@ -149,12 +148,17 @@ pub fn clean_locks()
 }
 
 /// A conflict that isn't one of locks shows a commit after the view: what no commit has changed
-/// since is as the transaction saw it, and there its updates are accepted.
+/// since is as the transaction saw it, and there its updates are accepted. It is one of the commits
+/// that stand.
 pub fn shown_after_view()
-    ensures { (t : Told) (done : TxnRecord) → CanServe t.opened → IsSerial t
+    ensures after { (t : Told) (done : TxnRecord) → CanServe t.opened → IsSerial t
         → IsRecorded t done → (conflict : Conflict) → Contains (conflicts_at (standing t) done) conflict
         → conflict.kind ≢ WriteReadLock → conflict.kind ≢ WriteWriteLock
         → done.view < conflict.shown }
+    ensures stands { (t : Told) (done : TxnRecord) → CanServe t.opened
+        → (conflict : Conflict) → Contains (conflicts_at (standing t) done) conflict
+        → conflict.kind ≢ WriteReadLock → conflict.kind ≢ WriteWriteLock
+        → conflict.shown ≤ (standing t).number }
 {
     commits_keep_images_sound();
 }

@@ -4,6 +4,4 @@
 #![tactic(auto)]
 
 #[cfg(test)]
-mod gem_meaning_tests;
-#[cfg(test)]
 mod object_programs_tests;

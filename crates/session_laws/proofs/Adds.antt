@@ -15,18 +15,18 @@ use Rattle.gem_replies.specs.declared.reply.Reply.{Reply}
 use Rattle.shell_words.specs.Script.{is_logout}
 use Rattle.shell_words.specs.declared.script.Command.{Command}
 use Rattle.shell_words.specs.declared.script.Command.TheVariants.{Chunk, Method, Commit, Abort, Logout, Lock, Unlock}
-use Rattle.object_meaning.specs.declared.event.What.{What}
-use Rattle.object_meaning.specs.declared.event.What.TheVariants.{Placed, Held, Dropped, Left}
-use Rattle.object_meaning.specs.Lines.{show_lines, reply_line, said_lines}
-use Rattle.object_meaning.specs.Opened.{Opened}
-use Rattle.object_meaning.specs.Names.{Found, no_name, found as found_value, find_name}
-use Rattle.object_meaning.specs.Events.{Event, Standing, after_events, events_of, OthersCame}
-use Rattle.object_meaning.specs.State.{SessionState, CommandPlace, entry_to, next_transaction}
-use Rattle.object_meaning.specs.Runs.{setting_of, world_so_far, ObjectSays}
-use Rattle.object_meaning.specs.Commits.{CommitPlaced, CommitReply, AbortReply}
-use Rattle.object_meaning.specs.Locks.{Target, replies as by_itself, asks, target_of, access_of, lockable, unlock_target, lock_target, IsTarget, so_far, spoiled as of_spoiled, LockGranted, LockAnswer, LockDropped, UnlockAnswer, TargetReply, kind_asked, leaving, LogsOut}
-use Rattle.object_meaning.specs.Session.{CommandSays, reply_with, replies_with}
-use Rattle.object_meaning.specs.Claims.{Claim, commits, claimed_by, Reader, begins_next, leaving_claim, claims_from}
+use Rattle.gem_meaning.specs.declared.event.What.{What}
+use Rattle.gem_meaning.specs.declared.event.What.TheVariants.{Placed, Held, Dropped, Left}
+use Rattle.gem_meaning.specs.Lines.{show_lines, reply_line, said_lines}
+use Rattle.gem_meaning.specs.Opened.{Opened}
+use Rattle.gem_meaning.specs.Names.{Found, no_name, found as found_value, find_name}
+use Rattle.gem_meaning.specs.Events.{Event, Standing, after_events, events_of, OthersCame}
+use Rattle.gem_meaning.specs.State.{SessionState, CommandPlace, entry_to, next_transaction}
+use Rattle.gem_meaning.specs.Runs.{setting_of, world_so_far, ObjectSays}
+use Rattle.gem_meaning.specs.Commits.{CommitPlaced, CommitReply, AbortReply}
+use Rattle.gem_meaning.specs.Locks.{Target, replies as by_itself, asks, target_of, access_of, lockable, unlock_target, lock_target, IsTarget, so_far, spoiled as of_spoiled, LockGranted, LockOutcome, LockDropped, UnlockOutcome, TargetReply, kind_asked, leaving, LogsOut}
+use Rattle.gem_meaning.specs.Session.{CommandSays, reply_with, replies_with}
+use Rattle.gem_meaning.specs.Claims.{Claim, commits, claimed_by, Reader, begins_next, leaving_claim, claims_from}
 use Rattle.history_laws.proofs.Views.{after_one_more}
 use Rattle.session_laws.proofs.Own.{came_others, came_one, held_apart, dropped_apart, left_apart}
 use Rattle.session_laws.proofs.Held.{has, has_first, without, AreHeld, held_more, held_less, held_stays}
@@ -370,7 +370,7 @@ module _ (at : CommandPlace) (s : SessionState) (c : Command) (s' : SessionState
             });
       }
 
-  lock_adds : (asked : LockKind) (oid : ℕ) (line : Line) → LockAnswer at s asked oid line
+  lock_adds : (asked : LockKind) (oid : ℕ) (line : Line) → LockOutcome at s asked oid line
       → Adds at s c (line ∷ []) s' r
   lock_adds asked oid (Locked kind name clean) answer =
       subst (λ (n : ℕ). Adds at s c (Locked kind n clean ∷ []) s' r) (sym answer.0)
@@ -408,7 +408,7 @@ module _ (at : CommandPlace) (s : SessionState) (c : Command) (s' : SessionState
             });
       }
 
-  unlock_adds : (oid : ℕ) (line : Line) → UnlockAnswer at s oid line → Adds at s c (line ∷ []) s' r
+  unlock_adds : (oid : ℕ) (line : Line) → UnlockOutcome at s oid line → Adds at s c (line ∷ []) s' r
   unlock_adds oid (Unlocked name) answer =
       subst (λ (n : ℕ). Adds at s c (Unlocked n ∷ []) s' r) (sym answer.0)
       (dropped_adds oid answer.1)
@@ -504,7 +504,7 @@ command_adds at s Logout lines s' r knows says =
 command_adds at s (Lock write name) lines s' r knows says =
     let reply = says.2 in
     one_adds at s (Lock write name) lines says.0 s' r says.1
-    (target_adds at s (Lock write name) s' r knows reply.stays (LockAnswer at s (kind_asked write))
+    (target_adds at s (Lock write name) s' r knows reply.stays (LockOutcome at s (kind_asked write))
     (lock_adds at s (Lock write name) s' r knows reply.stays (kind_asked write))
     reply.target says.0
     (target_is_quiet (lock_target (kind_asked write) name) at s reply.target
@@ -513,7 +513,7 @@ command_adds at s (Lock write name) lines s' r knows says =
 command_adds at s (Unlock name) lines s' r knows says =
     let reply = says.2 in
     one_adds at s (Unlock name) lines says.0 s' r says.1
-    (target_adds at s (Unlock name) s' r knows reply.stays (UnlockAnswer at s)
+    (target_adds at s (Unlock name) s' r knows reply.stays (UnlockOutcome at s)
     (unlock_adds at s (Unlock name) s' r knows reply.stays)
     reply.target says.0
     (target_is_quiet (unlock_target name) at s reply.target (quiet_unlock name) reply.is_target)

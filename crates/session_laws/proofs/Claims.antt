@@ -5,12 +5,12 @@ use Rattle.gem_replies.specs.declared.reply.Line.{Line}
 use Rattle.gem_replies.specs.declared.reply.Reply.{Reply}
 use Rattle.shell_words.specs.Script.{SessionCommands, is_logout}
 use Rattle.shell_words.specs.declared.script.Command.{Command}
-use Rattle.object_meaning.specs.Opened.{Opened}
-use Rattle.object_meaning.specs.Names.{user_in}
-use Rattle.object_meaning.specs.Events.{Event, Told, after_events, events_of, OthersCame}
-use Rattle.object_meaning.specs.State.{SessionState, first_transaction, place_between}
-use Rattle.object_meaning.specs.Session.{CommandsSay, replies_with, until_logout, SaysOf, Says}
-use Rattle.object_meaning.specs.Claims.{Claim, claimed_by, Reader, at_login, claims_from, claims_of}
+use Rattle.gem_meaning.specs.Opened.{Opened}
+use Rattle.gem_meaning.specs.Names.{user_in}
+use Rattle.gem_meaning.specs.Events.{Event, Told, after_events, events_of, OthersCame}
+use Rattle.gem_meaning.specs.State.{SessionState, first_transaction, place_between}
+use Rattle.gem_meaning.specs.Session.{CommandsSay, replies_with, until_logout, SaysOf, Says}
+use Rattle.gem_meaning.specs.Claims.{Claim, claimed_by, Reader, at_login, claims_from, claims_of}
 use Rattle.session_laws.proofs.Own.{came_others, up_to}
 use Rattle.session_laws.proofs.Held.{none_held}
 use Rattle.session_laws.proofs.Adds.{Knows, knows_after, Adds, command_adds}

@@ -7,9 +7,9 @@ use Rattle.std.proofs.lemmas.Bool.Decides.{eqb_tells}
 use Rattle.lock_table.specs.Locks.{LockSet, holding_cmp, holding, kind_held, after_held, after_dropped}
 use Rattle.lock_table.specs.declared.lock.LockKind.{LockKind}
 use Rattle.lock_table.proofs.Changes.{held_this, held_others, dropped_this, dropped_others, left_others}
-use Rattle.object_meaning.specs.declared.event.What.TheVariants.{Placed, Held, Dropped, Left}
-use Rattle.object_meaning.specs.Opened.{Opened}
-use Rattle.object_meaning.specs.Events.{Event, Standing, after_event, after_events, events_of, OthersCame}
+use Rattle.gem_meaning.specs.declared.event.What.TheVariants.{Placed, Held, Dropped, Left}
+use Rattle.gem_meaning.specs.Opened.{Opened}
+use Rattle.gem_meaning.specs.Events.{Event, Standing, after_event, after_events, events_of, OthersCame}
 use Rattle.history_laws.proofs.Views.{after_more}
 use Rattle.history_laws.proofs.Turns.{not_taken}
 

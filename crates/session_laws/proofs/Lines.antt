@@ -7,10 +7,10 @@ use Rattle.std.proofs.lemmas.List.Elements.{filter-append}
 use Rattle.gem_replies.specs.declared.reply.Line.{Line}
 use Rattle.gem_replies.specs.declared.reply.Reply.{Reply}
 use Rattle.shell_words.specs.declared.script.Command.{Command}
-use Rattle.object_meaning.specs.Events.{Told}
-use Rattle.object_meaning.specs.State.{SessionState}
-use Rattle.object_meaning.specs.Session.{CommandsSay, reply_with, replies_with}
-use Rattle.object_meaning.specs.Claims.{lines_of}
+use Rattle.gem_meaning.specs.Events.{Told}
+use Rattle.gem_meaning.specs.State.{SessionState}
+use Rattle.gem_meaning.specs.Session.{CommandsSay, reply_with, replies_with}
+use Rattle.gem_meaning.specs.Claims.{lines_of}
 
 pub lines_of_both : (n : ℕ) (xs ys : List Reply)
     → lines_of n (xs ++ ys) ≡ lines_of n xs ++ lines_of n ys

@@ -9,13 +9,14 @@ use Rattle.gem_replies.specs.declared.reply.Reply.{Reply}
 use Rattle.gem_replies.specs.declared.reply.Transcript.{Transcript}
 use Rattle.shell_words.specs.Script.{SessionCommands}
 use Rattle.shell_words.specs.declared.script.Command.{Command}
-use Rattle.object_meaning.specs.Opened.{Opened, base_serial}
-use Rattle.object_meaning.specs.Names.{user_in}
-use Rattle.object_meaning.specs.Events.{Event, Told, after_events, events_of, entries_of, OthersCame}
-use Rattle.object_meaning.specs.State.{SessionState, first_transaction}
-use Rattle.object_meaning.specs.Session.{SaysOf, Says, until_logout, reply_with, not_logged_in}
-use Rattle.object_meaning.specs.Serial.{IsOfScript}
-use Rattle.object_meaning.specs.Legal.{Book, AreTranscripts, IsLegal, HadMemory, NeverShort, events_before, IsTurn, AreInTurn}
+use Rattle.gem_meaning.specs.Opened.{Opened, base_serial}
+use Rattle.gem_meaning.specs.Names.{user_in}
+use Rattle.gem_meaning.specs.Events.{Event, Told, after_events, events_of, entries_of, OthersCame}
+use Rattle.gem_meaning.specs.State.{SessionState, first_transaction}
+use Rattle.gem_meaning.specs.Session.{SaysOf, Says, until_logout, reply_with, not_logged_in}
+use Rattle.gem_meaning.specs.Serial.{IsOfScript}
+use Rattle.gem_replies.specs.declared.reply.RunBook.{RunBook}
+use Rattle.gem_meaning.specs.Legal.{AreTranscripts, IsLegal, HadMemory, NeverShort, events_before, IsTurn, AreInTurn}
 use Rattle.history_laws.proofs.Turns.{all_take, all_weaker, IsOf, AreOf, own_are_of, none_are_of, all_before, none_before}
 use Rattle.session_laws.proofs.Own.{of_both, came_others}
 use Rattle.session_laws.proofs.Replay.{number_after, Replay, replay_commands, replay_login, replay_session, transcript_of, ReplayOfAll, replay_sessions, replay, told_by, book_by}
@@ -198,7 +199,7 @@ all_at_last t made =
     (all_weaker (IsOfScript t.opened.script) (λ (event : Event). event.0 < 1 + last)
     (λ event is. omega (arith, is.1)) t.events made)
 
-book_is : (book : Book) (o : Opened) (r : ReplayOfAll) → book.first ≡ o.number
+book_is : (book : RunBook) (o : Opened) (r : ReplayOfAll) → book.first ≡ o.number
     → book.base ≡ base_serial o → book.transcripts ≡ r.transcripts
     → book.history ≡ entries_of r.events → book ≡ book_by o r
 book_is book o r first base transcripts history =
@@ -207,7 +208,7 @@ book_is book o r first base transcripts history =
     record (book_by o r) { transcripts = ts; history = es }) transcripts history
 
 -- A legal run is the replay of its script.
-is_replay : (t : Told) (book : Book) → IsLegal t book
+is_replay : (t : Told) (book : RunBook) → IsLegal t book
     → AreInTurn t 1 t.opened.script book.transcripts → NeverShort book
     → (t ≡ told_by t.opened (replay t.opened)) × (book ≡ book_by t.opened (replay t.opened))
 is_replay t book legal turns had =
@@ -227,7 +228,7 @@ is_replay t book legal turns had =
           (legal.history ∙ ap entries_of events),
     )
 
-pub one_report : (t t' : Told) (book book' : Book) → t.opened ≡ t'.opened
+pub one_report : (t t' : Told) (book book' : RunBook) → t.opened ≡ t'.opened
     → IsLegal t book → IsLegal t' book' → AreInTurn t 1 t.opened.script book.transcripts
     → AreInTurn t' 1 t'.opened.script book'.transcripts → NeverShort book → NeverShort book'
     → (t ≡ t') × (book ≡ book')

@@ -4,9 +4,9 @@ use Rattle.std.proofs.lemmas.Bool.{cond-true}
 use Rattle.std.proofs.lemmas.List.Elements.{filter-append}
 use Rattle.gem_record.specs.declared.record.Entry.{Entry}
 use Rattle.lock_table.specs.declared.lock.LockKind.{LockKind}
-use Rattle.object_meaning.specs.declared.event.What.{What}
-use Rattle.object_meaning.specs.declared.event.What.TheVariants.{Placed, Held, Dropped, Left}
-use Rattle.object_meaning.specs.Events.{Event, events_of, OthersCame}
+use Rattle.gem_meaning.specs.declared.event.What.{What}
+use Rattle.gem_meaning.specs.declared.event.What.TheVariants.{Placed, Held, Dropped, Left}
+use Rattle.gem_meaning.specs.Events.{Event, events_of, OthersCame}
 
 -- the session's events in two lists are those in both together
 pub of_both : (session : ℕ) (es fs : List Event)

@@ -13,19 +13,20 @@ use Rattle.gem_replies.specs.declared.reply.Transcript.{Transcript}
 use Rattle.shell_words.specs.Script.{SessionCommands, is_logout}
 use Rattle.shell_words.specs.declared.script.Command.{Command}
 use Rattle.shell_words.specs.declared.script.Command.TheVariants.{Chunk, Method, Commit, Abort, Logout, Lock, Unlock}
-use Rattle.object_meaning.specs.declared.event.What.{What}
-use Rattle.object_meaning.specs.declared.event.What.TheVariants.{Placed, Left}
-use Rattle.object_meaning.specs.Commands.{object_command, is_run}
-use Rattle.object_meaning.specs.Lines.{said_lines}
-use Rattle.object_meaning.specs.Opened.{Opened, commands_or_none, commands_of}
-use Rattle.object_meaning.specs.Names.{user_in}
-use Rattle.object_meaning.specs.Events.{Event, Told, run_at_place, after_events, events_of, OthersCame}
-use Rattle.object_meaning.specs.Serial.{IsPlaced, IsSerialFrom, IsSerial, IsOfScript}
-use Rattle.object_meaning.specs.State.{SessionState, entry_to, first_transaction, place_between}
-use Rattle.object_meaning.specs.Locks.{leaving}
-use Rattle.object_meaning.specs.Session.{CommandsSay, reply_with, replies_with, until_logout, SaysOf, Says}
-use Rattle.object_meaning.specs.Legal.{Book, IsLegal, IsTranscript, AreTranscripts}
-use Rattle.object_meaning.specs.Claims.{Reader, at_login, lines_of}
+use Rattle.gem_meaning.specs.declared.event.What.{What}
+use Rattle.gem_meaning.specs.declared.event.What.TheVariants.{Placed, Left}
+use Rattle.gem_meaning.specs.Commands.{object_command, is_run}
+use Rattle.gem_meaning.specs.Lines.{said_lines}
+use Rattle.gem_meaning.specs.Opened.{Opened, commands_or_none, commands_of}
+use Rattle.gem_meaning.specs.Names.{user_in}
+use Rattle.gem_meaning.specs.Events.{Event, Told, run_at_place, after_events, events_of, OthersCame}
+use Rattle.gem_meaning.specs.Serial.{IsPlaced, IsSerialFrom, IsSerial, IsOfScript}
+use Rattle.gem_meaning.specs.State.{SessionState, entry_to, first_transaction, place_between}
+use Rattle.gem_meaning.specs.Locks.{leaving}
+use Rattle.gem_meaning.specs.Session.{CommandsSay, reply_with, replies_with, until_logout, SaysOf, Says}
+use Rattle.gem_replies.specs.declared.reply.RunBook.{RunBook}
+use Rattle.gem_meaning.specs.Legal.{IsLegal, IsTranscript, AreTranscripts}
+use Rattle.gem_meaning.specs.Claims.{Reader, at_login, lines_of}
 use Rattle.session_laws.specs.Places.{runs_before}
 use Rattle.session_laws.proofs.Own.{of_both, came_others, up_to, own_event, left_apart}
 use Rattle.session_laws.proofs.Adds.{Knows, IsOwn, Adds, left_came, command_adds}
@@ -345,7 +346,7 @@ run_is Logout run = absurd (true≢false (sym run))
 run_is (Lock write name) run = absurd (true≢false (sym run))
 run_is (Unlock name) run = absurd (true≢false (sym run))
 
-pub printed_is : (t : Told) (book : Book) (before more : List Event) (session : ℕ) (e : Entry)
+pub printed_is : (t : Told) (book : RunBook) (before more : List Event) (session : ℕ) (e : Entry)
     (transcript : Transcript) (n : ℕ) (c : Command) → IsLegal t book
     → t.events ≡ before ++ (session, Placed e) ∷ more
     → slice_get book.transcripts (session - 1) ≡ Some transcript

@@ -15,17 +15,17 @@ use Rattle.gem_replies.specs.declared.reply.Transcript.{Transcript}
 use Rattle.shell_words.specs.Script.{SessionCommands}
 use Rattle.shell_words.specs.declared.script.Command.{Command}
 use Rattle.shell_words.specs.declared.script.Command.TheVariants.{Chunk, Method, Commit, Abort, Logout, Lock, Unlock}
-use Rattle.object_meaning.specs.declared.event.What.TheVariants.{Placed, Held, Dropped}
-use Rattle.object_meaning.specs.Commands.{object_command}
-use Rattle.object_meaning.specs.Opened.{Opened, base_serial}
-use Rattle.object_meaning.specs.Names.{user_in}
-use Rattle.object_meaning.specs.Events.{Event, Told, Standing, after_events, entries_of}
-use Rattle.object_meaning.specs.State.{SessionState, first_transaction, next_transaction, entry_to, run_so_far, record_to}
-use Rattle.object_meaning.specs.Runs.{setting_of, lines_in, next_in}
-use Rattle.object_meaning.specs.Commits.{conflicts_found}
-use Rattle.object_meaning.specs.Locks.{Target, replies as by_itself, asks, unlock_target, lock_target, kind_asked, is_clean, leaving}
-use Rattle.object_meaning.specs.Session.{reply_with, replies_with, until_logout, not_logged_in}
-use Rattle.object_meaning.specs.Legal.{Book}
+use Rattle.gem_meaning.specs.declared.event.What.TheVariants.{Placed, Held, Dropped}
+use Rattle.gem_meaning.specs.Commands.{object_command}
+use Rattle.gem_meaning.specs.Opened.{Opened, base_serial}
+use Rattle.gem_meaning.specs.Names.{user_in}
+use Rattle.gem_meaning.specs.Events.{Event, Told, Standing, after_events, entries_of}
+use Rattle.gem_meaning.specs.State.{SessionState, first_transaction, next_transaction, entry_to, run_so_far, record_to}
+use Rattle.gem_meaning.specs.Runs.{setting_of, lines_in, next_in}
+use Rattle.gem_meaning.specs.Commits.{conflicts_found}
+use Rattle.gem_meaning.specs.Locks.{Target, replies as by_itself, asks, unlock_target, lock_target, kind_asked, is_clean, leaving}
+use Rattle.gem_meaning.specs.Session.{reply_with, replies_with, until_logout, not_logged_in}
+use Rattle.gem_replies.specs.declared.reply.RunBook.{RunBook}
 
 -- the number that stands after these events
 abbrev pub number_after : Opened → List Event → ℕ
@@ -221,7 +221,7 @@ replay o = replay_sessions o [] 1 o.script
 abbrev pub told_by : Opened → ReplayOfAll → Told
 told_by o r = record { opened = o; events = r.events }
 
-abbrev pub book_by : Opened → ReplayOfAll → Book
+abbrev pub book_by : Opened → ReplayOfAll → RunBook
 book_by o r = record {
   first = o.number;
   base = base_serial o;

@@ -13,16 +13,16 @@ use Rattle.gem_replies.specs.declared.reply.Line.TheVariants.{NoMemory, Spoiled,
 use Rattle.gem_replies.specs.declared.reply.Reply.{Reply}
 use Rattle.shell_words.specs.declared.script.Command.{Command}
 use Rattle.shell_words.specs.declared.script.Command.TheVariants.{Chunk, Method, Commit, Abort, Logout, Lock, Unlock}
-use Rattle.object_meaning.specs.declared.event.What.TheVariants.{Placed, Held, Dropped, Left}
-use Rattle.object_meaning.specs.Effect.{IsUnchanged}
-use Rattle.object_meaning.specs.Events.{Event, Told, Standing, after_events, events_of}
-use Rattle.object_meaning.specs.Serial.{HoldsSome}
-use Rattle.object_meaning.specs.State.{SessionState, CommandPlace, place_between, next_transaction, entry_to, record_to}
-use Rattle.object_meaning.specs.Runs.{setting_of, world_so_far, ObjectSays}
-use Rattle.object_meaning.specs.Commits.{CommitReply, AbortReply, HasChanged, conflicts_found}
-use Rattle.object_meaning.specs.Locks.{Target, replies as by_itself, asks, lock_target, unlock_target, IsTarget, so_far, spoiled as of_spoiled, is_clean, LockGranted, LockAnswer, UnlockAnswer, TargetReply, kind_asked, leaving, LogsOut}
-use Rattle.object_meaning.specs.Session.{CommandSays, CommandsSay, replies_with}
-use Rattle.object_meaning.specs.Legal.{HadMemory}
+use Rattle.gem_meaning.specs.declared.event.What.TheVariants.{Placed, Held, Dropped, Left}
+use Rattle.gem_meaning.specs.Effect.{IsUnchanged}
+use Rattle.gem_meaning.specs.Events.{Event, Told, Standing, after_events, events_of}
+use Rattle.gem_meaning.specs.Serial.{HoldsSome}
+use Rattle.gem_meaning.specs.State.{SessionState, CommandPlace, place_between, next_transaction, entry_to, record_to}
+use Rattle.gem_meaning.specs.Runs.{setting_of, world_so_far, ObjectSays}
+use Rattle.gem_meaning.specs.Commits.{CommitReply, AbortReply, HasChanged, conflicts_found}
+use Rattle.gem_meaning.specs.Locks.{Target, replies as by_itself, asks, lock_target, unlock_target, IsTarget, so_far, spoiled as of_spoiled, is_clean, LockGranted, LockOutcome, UnlockOutcome, TargetReply, kind_asked, leaving, LogsOut}
+use Rattle.gem_meaning.specs.Session.{CommandSays, CommandsSay, replies_with}
+use Rattle.gem_meaning.specs.Legal.{HadMemory}
 use Rattle.history_laws.proofs.Turns.{all_front, all_back, all_take, all_drop, IsOf, AreOf, OwnCame, nothing_came, one_came}
 use Rattle.session_laws.proofs.Replay.{number_after, CommandReplay, replay_plain, replay_run, nothing_in, replay_by, nothing_done, replay_commit, replay_abort, replay_target, kind_then, replay_asked, replay_lock, replay_given, replay_unlock, takes_locks, replay_logout, replay_command, Replay, with_replies, replay_commands}
 
@@ -260,7 +260,7 @@ module _ (at : CommandPlace) (s next : SessionState) (own : OwnCame s.session at
       })
 
   lock_is : (asked : LockKind) (oid : ℕ) (line : Line) → line ≢ NoMemory
-      → LockAnswer at s asked oid line
+      → LockOutcome at s asked oid line
       → IsCommandReplay at s (line ∷ []) next (replay_lock at.opened at.before s asked oid)
   lock_is asked oid (Locked kind name unchanged) had answer =
       subst (λ (n : ℕ). IsCommandReplay at s (Locked kind n unchanged ∷ []) next
@@ -281,7 +281,7 @@ module _ (at : CommandPlace) (s next : SessionState) (own : OwnCame s.session at
   lock_is asked oid NoMemory had answer = absurd (had refl)
   lock_is asked oid _ had answer = absurd answer
 
-  unlock_is : (oid : ℕ) (line : Line) → line ≢ NoMemory → UnlockAnswer at s oid line
+  unlock_is : (oid : ℕ) (line : Line) → line ≢ NoMemory → UnlockOutcome at s oid line
       → IsCommandReplay at s (line ∷ []) next (replay_unlock at.opened at.before s oid)
   unlock_is oid (Unlocked name) had answer =
       let dropped = answer.1 in
@@ -421,7 +421,7 @@ command_is at s (Lock write name) lines next own clean had says =
     (subst (λ (target : Target). IsCommandReplay at s (says.0 ∷ []) next
     (replay_target target (replay_lock at.opened at.before s asked) at.before s))
     (target_is (lock_target asked name) at s reply.target clean reply.is_target)
-    (asked_is at s next own clean reply.stays (LockAnswer at s asked)
+    (asked_is at s next own clean reply.stays (LockOutcome at s asked)
     (replay_lock at.opened at.before s asked) (lock_is at s next own clean reply.stays asked)
     reply.target says.0 (one_had lines says.0 says.1 had) reply.reply))
 command_is at s (Unlock name) lines next own clean had says =
@@ -431,7 +431,7 @@ command_is at s (Unlock name) lines next own clean had says =
     (subst (λ (target : Target). IsCommandReplay at s (says.0 ∷ []) next
     (replay_target target (replay_unlock at.opened at.before s) at.before s))
     (target_is (unlock_target name) at s reply.target clean reply.is_target)
-    (asked_is at s next own clean reply.stays (UnlockAnswer at s)
+    (asked_is at s next own clean reply.stays (UnlockOutcome at s)
     (replay_unlock at.opened at.before s) (unlock_is at s next own clean reply.stays)
     reply.target says.0 (one_had lines says.0 says.1 had) reply.reply))
 

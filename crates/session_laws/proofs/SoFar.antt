@@ -16,15 +16,15 @@ use Rattle.gem_replies.specs.declared.reply.Line.TheVariants.{NoMemory, Login, S
 use Rattle.gem_replies.specs.declared.reply.Reply.{Reply}
 use Rattle.shell_words.specs.declared.script.Command.{Command}
 use Rattle.shell_words.specs.declared.script.Command.TheVariants.{Chunk, Method, Commit, Abort, Logout, Lock, Unlock}
-use Rattle.object_meaning.specs.Commands.{object_command, object_commands}
-use Rattle.object_meaning.specs.Lines.{said_lines}
-use Rattle.object_meaning.specs.Opened.{commands_of, entry_commands, entry_setting, run_at}
-use Rattle.object_meaning.specs.Events.{Event, Told, image_at, run_on_view, after_events, standing}
-use Rattle.object_meaning.specs.State.{SessionState, CommandPlace, place_between, entry_to, first_transaction, next_transaction, run_so_far}
-use Rattle.object_meaning.specs.Runs.{setting_of, world_so_far, ObjectSays, lines_in, next_in}
-use Rattle.object_meaning.specs.Commits.{CommitReply, AbortReply}
-use Rattle.object_meaning.specs.Session.{CommandSays, reply_with, replies_with}
-use Rattle.object_meaning.specs.Claims.{lines_of}
+use Rattle.gem_meaning.specs.Commands.{object_command, object_commands}
+use Rattle.gem_meaning.specs.Lines.{said_lines}
+use Rattle.gem_meaning.specs.Opened.{commands_of, entry_commands, entry_setting, run_at}
+use Rattle.gem_meaning.specs.Events.{Event, Told, image_at, run_on_view, after_events, standing}
+use Rattle.gem_meaning.specs.State.{SessionState, CommandPlace, place_between, entry_to, first_transaction, next_transaction, run_so_far}
+use Rattle.gem_meaning.specs.Runs.{setting_of, world_so_far, ObjectSays, lines_in, next_in}
+use Rattle.gem_meaning.specs.Commits.{CommitReply, AbortReply}
+use Rattle.gem_meaning.specs.Session.{CommandSays, reply_with, replies_with}
+use Rattle.gem_meaning.specs.Claims.{lines_of}
 use Rattle.history_laws.proofs.Views.{views_stay, number_stays}
 use Rattle.session_laws.specs.Places.{runs_before}
 use Rattle.session_laws.proofs.Lines.{other_lines, lines_stay, lines_come}

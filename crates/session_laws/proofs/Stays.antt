@@ -5,12 +5,12 @@ use Rattle.shell_words.specs.Script.{SessionCommands}
 use Rattle.shell_words.specs.declared.script.Command.{Command}
 use Rattle.gem_replies.specs.declared.reply.Reply.{Reply}
 use Rattle.gem_replies.specs.declared.reply.Transcript.{Transcript}
-use Rattle.object_meaning.specs.Names.{user_in}
-use Rattle.object_meaning.specs.Events.{Event, Told, told_more, after_events, events_of}
-use Rattle.object_meaning.specs.State.{SessionState, first_transaction}
-use Rattle.object_meaning.specs.Commits.{SeesNumber}
-use Rattle.object_meaning.specs.Session.{until_logout, CommandSays, CommandsSay, SaysOf, Says}
-use Rattle.object_meaning.specs.Legal.{IsTranscript, AreTranscripts}
+use Rattle.gem_meaning.specs.Names.{user_in}
+use Rattle.gem_meaning.specs.Events.{Event, Told, told_more, after_events, events_of}
+use Rattle.gem_meaning.specs.State.{SessionState, first_transaction}
+use Rattle.gem_meaning.specs.Commits.{SeesNumber}
+use Rattle.gem_meaning.specs.Session.{until_logout, CommandSays, CommandsSay, SaysOf, Says}
+use Rattle.gem_meaning.specs.Legal.{IsTranscript, AreTranscripts}
 use Rattle.history_laws.proofs.Turns.{none_of}
 
 -- a point of a list is one of the longer list

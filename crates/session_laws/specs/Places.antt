@@ -2,8 +2,8 @@
 use Rattle.std.specs.Prelude.{ℕ, ◌-◌, List, length}
 use Rattle.shell_words.specs.Script.{SessionCommands}
 use Rattle.gem_record.specs.declared.record.Entry.{Entry}
-use Rattle.object_meaning.specs.Commands.{object_commands}
-use Rattle.object_meaning.specs.Opened.{entry_commands}
+use Rattle.gem_meaning.specs.Commands.{object_commands}
+use Rattle.gem_meaning.specs.Opened.{entry_commands}
 
 -- the number of chunks and methods of the transaction before the command with this number
 abbrev pub runs_before : List SessionCommands → Entry → (command : ℕ) → ℕ

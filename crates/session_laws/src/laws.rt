@@ -8,14 +8,15 @@ ghost use Rattle.shell_words.specs.declared.script.Command.{Command};
 ghost use Rattle.gem_record.specs.declared.record.Entry.{Entry};
 ghost use Rattle.gem_replies.specs.declared.reply.Reply.{Reply};
 ghost use Rattle.gem_replies.specs.declared.reply.Transcript.{Transcript};
-ghost use Rattle.object_meaning.specs.declared.event.What.TheVariants.{Placed};
-ghost use Rattle.object_meaning.specs.Commands.{is_run};
-ghost use Rattle.object_meaning.specs.Lines.{said_lines};
-ghost use Rattle.object_meaning.specs.Opened.{commands_of};
-ghost use Rattle.object_meaning.specs.Events.{Event, Told, told_more, run_at_place, after_events, events_of};
-ghost use Rattle.object_meaning.specs.Session.{Says};
-ghost use Rattle.object_meaning.specs.Legal.{Book, IsLegal, NeverShort, AreInTurn};
-ghost use Rattle.object_meaning.specs.Claims.{claimed_by, claims_of, lines_of};
+ghost use Rattle.gem_meaning.specs.declared.event.What.TheVariants.{Placed};
+ghost use Rattle.gem_meaning.specs.Commands.{is_run};
+ghost use Rattle.gem_meaning.specs.Lines.{said_lines};
+ghost use Rattle.gem_meaning.specs.Opened.{commands_of};
+ghost use Rattle.gem_meaning.specs.Events.{Event, Told, told_more, run_at_place, after_events, events_of};
+ghost use Rattle.gem_meaning.specs.Session.{Says};
+ghost use Rattle.gem_replies.specs.declared.reply.RunBook.{RunBook};
+ghost use Rattle.gem_meaning.specs.Legal.{IsLegal, NeverShort, AreInTurn};
+ghost use Rattle.gem_meaning.specs.Claims.{claimed_by, claims_of, lines_of};
 ghost use Rattle.session_laws.specs.Places.{runs_before};
 
 /// What a session says by some events it says by them with later events of other sessions, too.
@@ -37,7 +38,7 @@ pub fn claimed_once()
 /// What a transcript replies to a chunk or a method of a placed transaction is what that command
 /// says when the transaction is run at its place.
 pub fn printed_at_place()
-    ensures { (t : Told) (book : Book) (before more : List Event) (session : ℕ) (e : Entry)
+    ensures { (t : Told) (book : RunBook) (before more : List Event) (session : ℕ) (e : Entry)
         (transcript : Transcript) (n : ℕ) (c : Command) → IsLegal t book →
         t.events ≡ before ++ (session, Placed e) ∷ more →
         slice_get book.transcripts (session - 1) ≡ Some transcript →
@@ -51,7 +52,7 @@ pub fn printed_at_place()
 /// Two legal runs of one script over one opened image, in which the sessions took turns and none
 /// was short of memory, have the same events and the same book, and so the same report.
 pub fn one_report()
-    ensures { (t t' : Told) (book book' : Book) → t.opened ≡ t'.opened →
+    ensures { (t t' : Told) (book book' : RunBook) → t.opened ≡ t'.opened →
         IsLegal t book → IsLegal t' book' →
         AreInTurn t 1 t.opened.script book.transcripts →
         AreInTurn t' 1 t'.opened.script book'.transcripts →

@@ -1,5 +1,5 @@
-use Rattle.object_meaning.specs.Opened.{entry_setting}
-use Rattle.object_meaning.specs.Events.{image_at}
+use Rattle.gem_meaning.specs.Opened.{entry_setting}
+use Rattle.gem_meaning.specs.Events.{image_at}
 use Rattle.history_laws.specs.Accesses.{moments_at_place}
 use Rattle.history_laws.proofs.Rights.{all_judged}
 use Rattle.history_laws.proofs.Writes.{might_write}

@@ -3,11 +3,11 @@ use Rattle.std.specs.Prelude.{◌≡◌, ◌≢◌, ℕ, ◌+◌, true, false, L
 use Rattle.gem_value.specs.declared.conflict.Conflict.{Conflict}
 use Rattle.gem_replies.specs.declared.reply.Line.{Line}
 use Rattle.gem_replies.specs.declared.reply.Line.TheVariants.{NoMemory, Spoiled, Unchanged, Refused, Committed, Aborted}
-use Rattle.object_meaning.specs.declared.event.What.TheVariants.{Placed}
-use Rattle.object_meaning.specs.Opened.{Opened}
-use Rattle.object_meaning.specs.Effect.{IsUnchanged}
-use Rattle.object_meaning.specs.Events.{Event, after_events, events_of, OthersCame, conflicts_at}
-use Rattle.object_meaning.specs.State.{SessionState, CommandPlace, next_transaction, entry_to, record_to}
+use Rattle.gem_meaning.specs.declared.event.What.TheVariants.{Placed}
+use Rattle.gem_meaning.specs.Opened.{Opened}
+use Rattle.gem_meaning.specs.Effect.{IsUnchanged}
+use Rattle.gem_meaning.specs.Events.{Event, after_events, events_of, OthersCame, conflicts_at}
+use Rattle.gem_meaning.specs.State.{SessionState, CommandPlace, next_transaction, entry_to, record_to}
 
 -- only events of others came, and this is the number that stands
 abbrev pub SeesNumber : Opened → ℕ → (before after : List Event) → ℕ → Type 0

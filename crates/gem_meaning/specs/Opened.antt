@@ -1,5 +1,5 @@
 -- What a Stone was opened with, and the transactions of its script.
-use Rattle.std.specs.Prelude.{ℕ, ◌+◌, ◌-◌, max, List, [], ◌∷◌, take, drop, Option, Some, None, map}
+use Rattle.std.specs.Prelude.{ℕ, ◌+◌, ◌-◌, max, List, [], take, drop, Option, Some, None}
 use Rattle.std.specs.List.{fold, slice_get}
 use Rattle.std.specs.FinMap.{entries}
 use Rattle.gem_value.specs.Oid.{serial_of}
@@ -12,7 +12,7 @@ use Rattle.gem_language.specs.Transaction.{Transaction, transaction}
 use Rattle.run_records.specs.Record.{record_of}
 use Rattle.shell_words.specs.Script.{SessionCommands}
 use Rattle.shell_words.specs.declared.script.Command.{Command}
-use Rattle.object_meaning.specs.Commands.{object_commands}
+use Rattle.gem_meaning.specs.Commands.{object_commands}
 
 -- What the Stone was opened with: an image, the number of commits in it, and the script that is
 -- served.

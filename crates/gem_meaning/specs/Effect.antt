@@ -1,7 +1,7 @@
 -- What a commit changes in the image.
 use Rattle.std.specs.Prelude.{◌≡◌, ◌<◌, ◌^◌, ℕ, List, [], ◌++◌, map, All}
 use Rattle.std.specs.Ordering.{nat_cmp}
-use Rattle.std.specs.FinMap.{FinMap, entries, from_entries}
+use Rattle.std.specs.FinMap.{entries, from_entries}
 use Rattle.gem_object.specs.declared.object.Object.{Object}
 use Rattle.gem_image.specs.Image.{Image}
 use Rattle.gem_update.specs.Spelling.{entries_of}

@@ -1,15 +1,15 @@
 -- What a session says to chunks and methods, and the objects that its transaction sees.
-use Rattle.std.specs.Prelude.{◌≡◌, ◌⊎◌, ℕ, ◌+◌, ◌*◌, ◌≤◌, Bool, true, false, List, [], ◌∷◌, Option, Some, None}
+use Rattle.std.specs.Prelude.{◌≡◌, ◌⊎◌, ℕ, ◌+◌, ◌≤◌, true, false, List, [], ◌∷◌, Option, Some, None}
 use Rattle.gem_world.specs.World.{Setting, World}
-use Rattle.object_programs.specs.declared.limits.TheConstants.{SPACE_LIMIT}
+use Rattle.object_programs.specs.declared.limits.TheConstants.{SPACE_LIMIT, COUNTER_LIMIT}
 use Rattle.gem_language.specs.Commands.{Command as ObjectCommand}
 use Rattle.gem_language.specs.Transaction.{command_outcome, said_of}
 use Rattle.gem_replies.specs.declared.reply.Line.{Line}
 use Rattle.gem_replies.specs.declared.reply.Line.TheVariants.{NoMemory}
-use Rattle.object_meaning.specs.Lines.{said_lines}
-use Rattle.object_meaning.specs.Opened.{Opened, entry_setting}
-use Rattle.object_meaning.specs.Events.{Event, image_at, after_events}
-use Rattle.object_meaning.specs.State.{SessionState, CommandPlace, entry_to, run_so_far}
+use Rattle.gem_meaning.specs.Lines.{said_lines}
+use Rattle.gem_meaning.specs.Opened.{Opened, entry_setting}
+use Rattle.gem_meaning.specs.Events.{Event, image_at, after_events}
+use Rattle.gem_meaning.specs.State.{SessionState, CommandPlace, entry_to, run_so_far}
 
 -- what the session's transaction runs on, where all stands as at its view
 abbrev pub setting_of : Opened → List Event → SessionState → Setting
@@ -28,15 +28,17 @@ lines_in command setting world = said_lines (said_of (command_outcome command se
 abbrev pub next_in : ObjectCommand → Setting → World → ℕ
 next_in command setting world = (command_outcome command setting world).state.world.next
 
--- A command draws at most as many names as a chunk has space.
+-- A command draws at most as many names as a chunk has space, and none from the end of the counters
+-- on.
 pub record DrawsNames (before after : ℕ) : Type 0 where
   pub grows : before ≤ after
   pub most : after ≤ before + SPACE_LIMIT
+  pub end : after ≤ COUNTER_LIMIT
 
 -- The replies of a chunk or a method are what it means on what the transaction has done so far.
 pub record MeantSoFar (command : ObjectCommand) (at : CommandPlace) (s : SessionState)
     (lines : List Line) (s' : SessionState) : Type 0 where
-  pub sound : s.spoiled ≡ false
+  pub unspoiled : s.spoiled ≡ false
   pub lines_are : lines ≡ lines_in command (setting_of at.opened at.before s) (world_so_far at s)
   pub state : s' ≡ record s {
     next_name = next_in command (setting_of at.opened at.before s) (world_so_far at s);

@@ -1,9 +1,7 @@
 -- What a session says to locks, unlocks and its logout.
-use Rattle.std.specs.Prelude.{◌≡◌, ◌↔◌, ℕ, Bool, true, false, if◌then◌else◌, IsTrue, nat_le, List, [], ◌∷◌, ◌++◌, Option, Some, None, is_some}
+use Rattle.std.specs.Prelude.{◌≡◌, ◌↔◌, ℕ, Bool, true, false, if◌then◌else◌, IsTrue, nat_le, List, [], ◌∷◌, ◌++◌, Some, None, is_some}
 use Rattle.texts.specs.Bytes.{Bytes as Text}
-use Rattle.gem_object.specs.declared.value.Value.{Value}
 use Rattle.gem_object.specs.declared.value.Value.TheVariants.{Ref}
-use Rattle.gem_object.specs.References.{reference_of}
 use Rattle.gem_world.specs.World.{Setting, World, is_made}
 use Rattle.gem_world.specs.Access.{Access, a_read, a_write, is_allowed}
 use Rattle.commit_check.specs.Conflicts.{last_change}
@@ -13,13 +11,12 @@ use Rattle.lock_table.specs.declared.lock.LockKind.{LockKind}
 use Rattle.lock_table.specs.declared.lock.LockKind.TheVariants.{Read, Write}
 use Rattle.gem_replies.specs.declared.reply.Line.{Line}
 use Rattle.gem_replies.specs.declared.reply.Line.TheVariants.{NoMemory, NoName, NotObject, NotCommitted, NoRight, Denied, Locked, NotHeld, Unlocked}
-use Rattle.object_meaning.specs.declared.event.What.TheVariants.{Held, Dropped, Left}
-use Rattle.object_meaning.specs.Opened.{Opened}
-use Rattle.object_meaning.specs.Names.{Found, no_name, found, find_name}
-use Rattle.object_meaning.specs.Events.{Event, Standing, after_events, events_of, OthersCame}
-use Rattle.object_meaning.specs.Serial.{HoldsSome}
-use Rattle.object_meaning.specs.State.{SessionState, CommandPlace}
-use Rattle.object_meaning.specs.Runs.{setting_of, world_so_far}
+use Rattle.gem_meaning.specs.declared.event.What.TheVariants.{Held, Dropped, Left}
+use Rattle.gem_meaning.specs.Names.{Found, no_name, found, find_name}
+use Rattle.gem_meaning.specs.Events.{Event, Standing, after_events, events_of, OthersCame}
+use Rattle.gem_meaning.specs.Serial.{HoldsSome}
+use Rattle.gem_meaning.specs.State.{SessionState, CommandPlace}
+use Rattle.gem_meaning.specs.Runs.{setting_of, world_so_far}
 
 -- ---- what is found without the Stone
 
@@ -88,15 +85,16 @@ pub record LockDenied (at : CommandPlace) (s : SessionState) (asked : LockKind) 
   pub in_the_way : denied_for (after_events at.opened at.after).locks s.session oid asked
       ≡ Some (holder, kind)
 
--- the reply to a lock that the Stone was asked for
-abbrev pub LockAnswer : CommandPlace → SessionState → (asked : LockKind) → (oid : ℕ) → Line → Type 0
-LockAnswer at s asked oid (Locked kind name clean) =
+-- how a lock ended for which the Stone was asked, as it is replied
+abbrev pub LockOutcome : CommandPlace → SessionState → (asked : LockKind) → (oid : ℕ) → Line
+    → Type 0
+LockOutcome at s asked oid (Locked kind name clean) =
     (name ≡ oid) × LockGranted at s asked oid kind clean
-LockAnswer at s asked oid (Denied kind name holder held) = (kind ≡ asked) × (name ≡ oid)
+LockOutcome at s asked oid (Denied kind name holder held) = (kind ≡ asked) × (name ≡ oid)
     × LockDenied at s asked oid holder held
-LockAnswer at s asked oid NoMemory = OthersCame s.session at.before at.after
+LockOutcome at s asked oid NoMemory = OthersCame s.session at.before at.after
     × (denied_for (after_events at.opened at.after).locks s.session oid asked ≡ None)
-LockAnswer at s asked oid _ = ⊥
+LockOutcome at s asked oid _ = ⊥
 
 -- The session gave the object back, as its own event; it held it.
 pub record LockDropped (at : CommandPlace) (s : SessionState) (oid : ℕ) : Type 0 where
@@ -106,16 +104,17 @@ pub record LockDropped (at : CommandPlace) (s : SessionState) (oid : ℕ) : Type
   pub held : is_some
       (kind_held (after_events at.opened (at.before ++ others)).locks s.session oid) ≡ true
 
-abbrev pub UnlockAnswer : CommandPlace → SessionState → (oid : ℕ) → Line → Type 0
-UnlockAnswer at s oid (Unlocked name) = (name ≡ oid) × LockDropped at s oid
-UnlockAnswer at s oid (NotHeld name) = (name ≡ oid) × OthersCame s.session at.before at.after
+-- how an unlock ended for which the Stone was asked, as it is replied
+abbrev pub UnlockOutcome : CommandPlace → SessionState → (oid : ℕ) → Line → Type 0
+UnlockOutcome at s oid (Unlocked name) = (name ≡ oid) × LockDropped at s oid
+UnlockOutcome at s oid (NotHeld name) = (name ≡ oid) × OthersCame s.session at.before at.after
     × (kind_held (after_events at.opened at.after).locks s.session oid ≡ None)
-UnlockAnswer at s oid _ = ⊥
+UnlockOutcome at s oid _ = ⊥
 
 -- a reply that comes of the target: its own, without a look at the Stone, or the Stone's
 abbrev pub TargetReply : CommandPlace → ((oid : ℕ) → Line → Type 0) → Target → Line → Type 0
-TargetReply at Answer (replies reply) line = (line ≡ reply) × (at.after ≡ at.before)
-TargetReply at Answer (asks oid) line = Answer oid line
+TargetReply at Outcome (replies reply) line = (line ≡ reply) × (at.after ≡ at.before)
+TargetReply at Outcome (asks oid) line = Outcome oid line
 
 abbrev pub kind_asked : (write : Bool) → LockKind
 kind_asked true = Write
@@ -126,7 +125,7 @@ pub record LockReply (at : CommandPlace) (s : SessionState) (write : Bool) (name
     (line : Line) (s' : SessionState) : Type 0 where
   pub target : Target
   pub is_target : IsTarget (lock_target (kind_asked write) name) at s target
-  pub reply : TargetReply at (LockAnswer at s (kind_asked write)) target line
+  pub reply : TargetReply at (LockOutcome at s (kind_asked write)) target line
   pub stays : s' ≡ s
 
 -- The reply to an unlock.
@@ -134,7 +133,7 @@ pub record UnlockReply (at : CommandPlace) (s : SessionState) (name : Text) (lin
     (s' : SessionState) : Type 0 where
   pub target : Target
   pub is_target : IsTarget (unlock_target name) at s target
-  pub reply : TargetReply at (UnlockAnswer at s) target line
+  pub reply : TargetReply at (UnlockOutcome at s) target line
   pub stays : s' ≡ s
 
 -- ---- the end of a session
