@@ -1,61 +1,156 @@
 -- What the calls of a Stone that is alone say.
-use Rattle.std.proofs.Common.{◌≡◌, ◌∙◌, refl, sym, ap, subst, true, ℕ, [], ◌++◌, append-nil}
-use Rattle.gem_value.specs.Entry.{entry_of}
-use Rattle.gem_value.specs.Image.{Image}
-use Rattle.gem_value.specs.declared.record.TxnRecord.{TxnRecord}
-use Rattle.gem_meaning.specs.Events.{Told, after_events, standing, events_of}
-use Rattle.gem_meaning.specs.Serial.{IsConsistent}
+use Rattle.std.proofs.Common.{◌≡◌, ◌≢◌, ◌↔◌, ◌==◌, ℕ, Bool, true, false, is_some, IsTrue, IfOk, Result, Ok, Err, List, [], ◌∷◌, ◌++◌, refl, sym, ap, subst, ◌∙◌, arith, append-nil}
+use Rattle.std.proofs.lemmas.Bool.Decides.{nat_tests}
+use Rattle.std.proofs.lemmas.List.Elements.{filter-append}
+use Rattle.gem_image.specs.Image.{Image}
+use Rattle.gem_sound.specs.Sound.{IsSoundImage}
+use Rattle.gem_record.specs.declared.record.TxnRecord.{TxnRecord}
+use Rattle.lock_table.specs.Locks.{kind_held}
+use Rattle.lock_table.specs.declared.lock.LockKind.{LockKind}
+use Rattle.gem_meaning.specs.declared.event.What.{What}
+use Rattle.gem_meaning.specs.Events.{Event, Told, Standing, told_more, after_events, standing, events_of, NamesAreFree}
+use Rattle.gem_meaning.specs.Serial.{IsConsistent, CanServe, HoldsSome}
+use Rattle.gem_meaning.specs.Locks.{leaving}
 use Rattle.stone_core.specs.declared.port.CommitAnswer.{CommitAnswer}
-use Rattle.stone_core.specs.Port.{event_of_answer, AnswerFits, BeginSays, CommitSays, PortState, GoesOn}
-use Rattle.stone_core.proofs.Alone.{others_unmoved}
+use Rattle.stone_core.specs.declared.port.CommitAnswer.TheVariants.{ReadOnly, Conflicts, Placed as PlacedAt, NoMemory}
+use Rattle.stone_core.specs.declared.port.LockAnswer.{LockAnswer}
+use Rattle.stone_core.specs.declared.port.LockAnswer.TheVariants.{Granted, Denied, NoMemory as NoMemoryForLock}
+use Rattle.std.specs.declared.alloc.AllocError.{AllocError}
+use Rattle.stone_core.specs.declared.port.Begun.{Begun}
+use Rattle.stone_core.specs.Stone.{is_session}
+use Rattle.stone_core.specs.Port.{PortState, BeginSays, CommitSays, LockSays, UnlockSays, LogoutSays, GoesOn, AnswerFits, LockFits, event_of_answer, event_of_lock, dropping}
+use Rattle.stone_core.proofs.OneMore.{session_bounds}
 
 -- a Stone that nobody else uses, as a port
 abbrev pub alone : Told → PortState
-alone t = record { told = t; serves = λ session. true; alone = true }
+alone t = record { told = t; serves = is_session t.opened.script; alone = true }
 
-pub commit_alone : (before after : Told) (r : TxnRecord) (answer : CommitAnswer)
-    → after ≡ record before { events = before.events ++ event_of_answer (standing before) r.session (entry_of r) answer }
-    → AnswerFits before.opened (standing before) r answer
-    → CommitSays before.opened before.events after.events r answer
-commit_alone before after r answer is fits =
-    let none = sym (append-nil before.events) in
-    record {
-      others = [];
-      are_others = refl;
-      events = ap (λ (t : Told). t.events) is
-          ∙ ap (λ es. es ++ event_of_answer (after_events before.opened es) r.session (entry_of r) answer) none;
-      fits = subst (λ es. AnswerFits before.opened (after_events before.opened es) r answer) none fits;
-    }
+-- no other session made one of the events
+abbrev pub AreOwn : ℕ → List Event → Type 0
+AreOwn session events = (other : ℕ) → other ≢ session → events_of other events ≡ []
 
-pub goes_on_alone : (before after : Told) (r : TxnRecord) (answer : CommitAnswer)
-    → after ≡ record before { events = before.events ++ event_of_answer (standing before) r.session (entry_of r) answer }
-    → IsConsistent after → GoesOn r.session (alone before) (alone after)
-goes_on_alone before after r answer is consistent = record {
+not_same : (session other : ℕ) → other ≢ session → (session == other) ≡ false
+not_same session other different = grind (arith, nat_tests)
+
+own_one : (session : ℕ) (what : What) → AreOwn session ((session, what) ∷ [])
+own_one session what other different = rw (not_same session other different) refl
+
+pub own_answer : (done : TxnRecord) (answer : CommitAnswer) → AreOwn done.session (event_of_answer done answer)
+own_answer done (ReadOnly number) other different = refl
+own_answer done (Conflicts found) other different = refl
+own_answer done (PlacedAt number) other different = own_one done.session _ other different
+own_answer done NoMemory other different = refl
+
+pub own_lock : (session oid : ℕ) (answer : LockAnswer) → AreOwn session (event_of_lock session oid answer)
+own_lock session oid (Granted kind changed) other different = own_one session _ other different
+own_lock session oid (Denied holder held) other different = refl
+own_lock session oid NoMemoryForLock other different = refl
+
+pub own_dropping : (held : Bool) (session oid : ℕ) → AreOwn session (dropping held session oid)
+own_dropping true session oid other different = own_one session _ other different
+own_dropping false session oid other different = refl
+
+pub own_leaving : (holds : Bool) (session : ℕ) → AreOwn session (leaving holds session)
+own_leaving true session other different = own_one session _ other different
+own_leaving false session other different = refl
+
+-- what every call keeps
+pub goes_on_alone : (session : ℕ) (before after : Told) (events : List Event) → after ≡ told_more before events
+    → AreOwn session events → IsConsistent after → GoesOn session (alone before) (alone after)
+goes_on_alone session before after events is own consistent = record {
   opened = ap (λ (t : Told). t.opened) is;
-  extends = (event_of_answer (standing before) r.session (entry_of r) answer, ap (λ (t : Told). t.events) is);
-  serves = λ other served. refl;
+  extends = (events, ap (λ (t : Told). t.events) is);
+  serves = λ other served. ap (λ (t : Told). is_session t.opened.script other) is ∙ served;
   alone = λ _. (
     refl,
     λ other different.
         ap (λ (t : Told). events_of other t.events) is
-        ∙ others_unmoved (standing before) r.session other (entry_of r) answer before.events different,
+        ∙ filter-append (λ event. event.0 == other) before.events events
+        ∙ ap (λ more. events_of other before.events ++ more) (own other different)
+        ∙ append-nil (events_of other before.events),
   );
   consistent = consistent;
 }
 
-pub began_alone : (session : ℕ) (t : Told) → IsConsistent t → GoesOn session (alone t) (alone t)
-began_alone session t consistent = record {
-  opened = refl;
-  extends = ([], sym (append-nil t.events));
-  serves = λ other served. refl;
-  alone = λ _. (refl, λ other different. refl);
-  consistent = consistent;
-}
+-- the same where nothing came
+pub stays_alone : (session : ℕ) (t : Told) → IsConsistent t → GoesOn session (alone t) (alone t)
+stays_alone session t consistent =
+    goes_on_alone session t t [] (ap (λ es. record t { events = es }) (sym (append-nil t.events))) (λ other different. refl) consistent
 
-pub begins_alone : (session : ℕ) (t : Told) (image : Image) (number : ℕ) → image ≡ (standing t).image → number ≡ (standing t).number
-    → BeginSays t.opened session t.events t.events image number
-begins_alone session t image number image_is number_is = record {
-  others_came = ([], refl, sym (append-nil t.events));
-  image_is = image_is;
-  number_is = number_is;
-}
+module _ (before : Told) where
+  own_come : (after : Told) (events : List Event) → after ≡ told_more before events
+      → after.events ≡ (before.events ++ []) ++ events
+  own_come after events is = ap (λ (t : Told). t.events) is ∙ ap (λ es. es ++ events) (sym (append-nil before.events))
+
+  -- where no others' events came the same stands
+  then_stands : (P : Standing → Type 0) → P (standing before) → P (after_events before.opened (before.events ++ []))
+  then_stands P holds = subst (λ es. P (after_events before.opened es)) (sym (append-nil before.events)) holds
+
+  module _ (session : ℕ) (opening : CanServe before.opened) (sound : IsSoundImage (standing before).image)
+      (free : NamesAreFree before.opened (standing before) session)
+      (serves : is_session before.opened.script session ≡ true) where
+    begins_alone : (image : Image) (number : ℕ) → image ≡ (standing before).image → number ≡ (standing before).number
+        → BeginSays before.opened session before.events before.events image number
+    begins_alone image number image_is number_is =
+        let bounds = session_bounds before.opened session serves in
+        record {
+          others_came = ([], refl, sym (append-nil before.events));
+          image_is = image_is;
+          number_is = number_is;
+          sound = subst IsSoundImage (sym image_is) sound;
+          serial_bound =
+              let serials = opening.serials in
+              let first = bounds.0 in
+              let last = bounds.1 in
+              omega (arith, serials, first, last);
+          free = free;
+        }
+
+    pub begun_alone : (result : Result Begun AllocError)
+        → IfOk result (λ (b : Begun). b.image ≡ (standing before).image)
+        → IfOk result (λ (b : Begun). b.number ≡ (standing before).number)
+        → IfOk result (λ (b : Begun). BeginSays before.opened session before.events before.events b.image b.number)
+    begun_alone (Ok b) image_is number_is = begins_alone b.image b.number image_is number_is
+    begun_alone (Err e) image_is number_is = tt
+
+  pub commit_alone : (after : Told) (done : TxnRecord) (answer : CommitAnswer) → after ≡ told_more before (event_of_answer done answer)
+      → AnswerFits (standing before) done answer
+      → CommitSays before.opened before.events after.events done answer
+  commit_alone after done answer is fits = record {
+    others = [];
+    are_others = refl;
+    events = own_come after (event_of_answer done answer) is;
+    fits = then_stands (λ s. AnswerFits s done answer) fits;
+  }
+
+  pub lock_alone : (after : Told) (session oid : ℕ) (asked : LockKind) (answer : LockAnswer)
+      → after ≡ told_more before (event_of_lock session oid answer)
+      → LockFits (standing before) session oid asked answer
+      → LockSays before.opened before.events after.events session oid asked answer
+  lock_alone after session oid asked answer is fits = record {
+    others = [];
+    are_others = refl;
+    events = own_come after (event_of_lock session oid answer) is;
+    fits = then_stands (λ s. LockFits s session oid asked answer) fits;
+  }
+
+  pub unlock_alone : (after : Told) (session oid : ℕ) (held : Bool) → after ≡ told_more before (dropping held session oid)
+      → held ≡ is_some (kind_held (standing before).locks session oid)
+      → UnlockSays before.opened before.events after.events session oid held
+  unlock_alone after session oid held is held_is = record {
+    others = [];
+    are_others = refl;
+    events = own_come after (dropping held session oid) is;
+    held_is = then_stands (λ s. held ≡ is_some (kind_held s.locks session oid)) held_is;
+  }
+
+  pub logout_alone : (after : Told) (session : ℕ) (holds : Bool) → after ≡ told_more before (leaving holds session)
+      → IsTrue holds ↔ HoldsSome (standing before) session
+      → LogoutSays before.opened before.events after.events session
+  logout_alone after session holds is exactly = record {
+    others = [];
+    are_others = refl;
+    holds = holds;
+    events = own_come after (leaving holds session) is;
+    exactly = then_stands (λ s. IsTrue holds ↔ HoldsSome s session) exactly;
+  }

@@ -1,5 +1,8 @@
-pub mod OneMore
-pub mod Apart
-pub mod Later
-pub mod Alone
-pub mod Calls
+mod ByName
+mod Kept
+mod Largest
+mod Spelled
+mod Fits
+mod OneMore
+mod Calls
+mod First

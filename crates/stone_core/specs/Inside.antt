@@ -1,4 +1,5 @@
 -- From the fields of a Stone to what contracts see.
+use Rattle.std.specs.Vec.{vec_capacity}
 use Rattle.gem_meaning.specs.Events.{Told}
 use Rattle.stone_core.specs.Stone.{IsStone}
 use Rattle.stone_core.specs.declared.stone.Stone.TheInside.{Inside}
@@ -14,4 +15,5 @@ told_by stone = record {
 }
 
 abbrev pub IsWholeStone : Inside → Type 0
-IsWholeStone stone = IsStone (told_by stone) stone.image stone.number stone.history.items
+IsWholeStone stone = IsStone (told_by stone) stone.image stone.number stone.locks
+    stone.history.items (vec_capacity stone.events)

@@ -1,3 +1,4 @@
 pub mod Port
+pub mod Effects
 pub mod Stone
 pub mod Inside

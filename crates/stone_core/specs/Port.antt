@@ -1,57 +1,113 @@
 -- What each call of a Stone answers, by the events before and after it. Events of other sessions
 -- may come first; then the call's own one. Each answer is judged when the others' events have come.
-use Rattle.std.specs.Prelude.{◌≡◌, ◌≢◌, ℕ, ◌+◌, Bool, true, List, [], ◌∷◌, ◌++◌}
-use Rattle.gem_value.specs.Image.{Image}
-use Rattle.gem_value.specs.declared.conflict.Conflict.{Conflict}
-use Rattle.gem_value.specs.declared.record.TxnRecord.{TxnRecord}
-use Rattle.gem_value.specs.declared.record.Entry.{Entry}
-use Rattle.gem_value.specs.Entry.{entry_of}
-use Rattle.gem_meaning.specs.declared.event.What.TheVariants.{Placed}
-use Rattle.gem_meaning.specs.Events.{Opened, Event, Told, Standing, run_on_view, after_events, events_of, Extends, OthersCame, conflicts_at}
-use Rattle.gem_meaning.specs.Serial.{IsConsistent}
+use Rattle.std.specs.Prelude.{◌≡◌, ◌≢◌, ◌↔◌, ◌<◌, ℕ, ◌+◌, Bool, true, IsTrue, List, [], ◌∷◌, ◌++◌, Some, None, is_some}
+use Rattle.gem_image.specs.Image.{Image}
+use Rattle.gem_sound.specs.Sound.{IsSoundImage}
+use Rattle.gem_record.specs.declared.record.TxnRecord.{TxnRecord}
+use Rattle.gem_record.specs.History.{entry_of}
+use Rattle.commit_check.specs.Conflicts.{last_change}
+use Rattle.lock_table.specs.LockKind.{kind_granted}
+use Rattle.lock_table.specs.Locks.{kind_held, denied_for}
+use Rattle.lock_table.specs.declared.lock.LockKind.{LockKind}
+use Rattle.gem_meaning.specs.declared.event.What.TheVariants.{Placed, Held, Dropped}
+use Rattle.gem_meaning.specs.Opened.{Opened, session_serial}
+use Rattle.gem_meaning.specs.Effect.{IsUnchanged}
+use Rattle.gem_meaning.specs.Events.{Event, Told, Standing, NamesAreFree, after_events, events_of, Extends, OthersCame, conflicts_at}
+use Rattle.gem_meaning.specs.Serial.{HoldsSome, IsConsistent, serial_limit}
+use Rattle.gem_meaning.specs.Locks.{leaving}
 use Rattle.stone_core.specs.declared.port.CommitAnswer.{CommitAnswer}
 use Rattle.stone_core.specs.declared.port.CommitAnswer.TheVariants.{ReadOnly, Conflicts, Placed as PlacedAt, NoMemory}
+use Rattle.stone_core.specs.declared.port.LockAnswer.{LockAnswer}
+use Rattle.stone_core.specs.declared.port.LockAnswer.TheVariants.{Granted, Denied, NoMemory as NoMemoryForLock}
 
--- the record's transaction wrote nothing
-abbrev pub IsUnchangedRecord : TxnRecord → Type 0
-IsUnchangedRecord r = r.written ≡ []
+-- ---- the beginning of a transaction
 
--- the conflicts of the record's transaction, where this stands
-abbrev pub conflicts_of_record : Opened → Standing → TxnRecord → List Conflict
-conflicts_of_record o s r = conflicts_at o s (entry_of r) (run_on_view o s (entry_of r))
-
--- the event that an answer makes, where this stands
-abbrev pub event_of_answer : Standing → (session : ℕ) → Entry → CommitAnswer → List Event
-event_of_answer s session e (PlacedAt number) = (session, Placed e) ∷ []
-event_of_answer s session e _ = []
-
--- Where nothing was written, the commit is read only. Otherwise it is refused where it has
--- conflicts at this point, and else placed, with the next number. Where something was written memory
--- may be wanting instead.
-abbrev pub AnswerFits : Opened → Standing → TxnRecord → CommitAnswer → Type 0
-AnswerFits o s r (ReadOnly number) = IsUnchangedRecord r × (number ≡ r.view)
-AnswerFits o s r (Conflicts found) =
-    (IsUnchangedRecord r → ⊥) × (found ≢ []) × (found ≡ conflicts_of_record o s r)
-AnswerFits o s r (PlacedAt number) =
-    (IsUnchangedRecord r → ⊥) × (conflicts_of_record o s r ≡ []) × (number ≡ s.number + 1)
-AnswerFits o s r NoMemory = IsUnchangedRecord r → ⊥
-
--- What a commit says: others' events came, then the one that its answer makes.
-pub record CommitSays (o : Opened) (before after : List Event) (r : TxnRecord)
-    (answer : CommitAnswer) : Type 0 where
-  pub others : List Event
-  pub are_others : events_of r.session others ≡ []
-  pub events : after ≡ (before ++ others)
-      ++ event_of_answer (after_events o (before ++ others)) r.session (entry_of r) answer
-  pub fits : AnswerFits o (after_events o (before ++ others)) r answer
-
--- What the beginning of a transaction says: others' events came, and the image and the number are
--- those that stand then.
+-- Others' events came, and the image and the number are those that stand then. The image is sound,
+-- and the session's further names are free in it.
 pub record BeginSays (o : Opened) (session : ℕ) (before after : List Event) (image : Image)
     (number : ℕ) : Type 0 where
   pub others_came : OthersCame session before after
   pub image_is : image ≡ (after_events o after).image
   pub number_is : number ≡ (after_events o after).number
+  pub sound : IsSoundImage image
+  pub serial_bound : session_serial o session < serial_limit
+  pub free : NamesAreFree o (after_events o after) session
+
+-- ---- a commit
+
+-- the event that an answer makes
+abbrev pub event_of_answer : TxnRecord → CommitAnswer → List Event
+event_of_answer done (PlacedAt number) = (done.session, Placed (entry_of done)) ∷ []
+event_of_answer done _ = []
+
+-- Where nothing was written or updated, the commit is read only. Otherwise it is refused where it
+-- has conflicts at this point, and else placed, with the next number. Where something was changed
+-- memory may be wanting instead.
+abbrev pub AnswerFits : Standing → TxnRecord → CommitAnswer → Type 0
+AnswerFits s done (ReadOnly number) = IsUnchanged done × (number ≡ done.view)
+AnswerFits s done (Conflicts found) =
+    (IsUnchanged done → ⊥) × (found ≢ []) × (found ≡ conflicts_at s done)
+AnswerFits s done (PlacedAt number) =
+    (IsUnchanged done → ⊥) × (conflicts_at s done ≡ []) × (number ≡ s.number + 1)
+AnswerFits s done NoMemory = IsUnchanged done → ⊥
+
+-- What a commit says: others' events came, then the one that its answer makes.
+pub record CommitSays (o : Opened) (before after : List Event) (done : TxnRecord)
+    (answer : CommitAnswer) : Type 0 where
+  pub others : List Event
+  pub are_others : events_of done.session others ≡ []
+  pub events : after ≡ (before ++ others) ++ event_of_answer done answer
+  pub fits : AnswerFits (after_events o (before ++ others)) done answer
+
+-- ---- locks
+
+-- the event that an answer to a lock makes
+abbrev pub event_of_lock : (session oid : ℕ) → LockAnswer → List Event
+event_of_lock session oid (Granted kind changed) = (session, Held oid kind) ∷ []
+event_of_lock session oid _ = []
+
+-- A lock is denied exactly where another session's is in the way: then the lowest such session is
+-- named, with its kind. Else it is granted, in the greater of the kinds held and asked for, with
+-- the number of the last commit that changed the object; or memory is wanting.
+abbrev pub LockFits : Standing → (session oid : ℕ) → LockKind → LockAnswer → Type 0
+LockFits s session oid asked (Granted kind changed) = (denied_for s.locks session oid asked ≡ None)
+    × (kind ≡ kind_granted (kind_held s.locks session oid) asked)
+    × (changed ≡ last_change s.image oid)
+LockFits s session oid asked (Denied holder held) =
+    denied_for s.locks session oid asked ≡ Some (holder, held)
+LockFits s session oid asked NoMemoryForLock = denied_for s.locks session oid asked ≡ None
+
+-- What a lock says.
+pub record LockSays (o : Opened) (before after : List Event) (session oid : ℕ) (asked : LockKind)
+    (answer : LockAnswer) : Type 0 where
+  pub others : List Event
+  pub are_others : events_of session others ≡ []
+  pub events : after ≡ (before ++ others) ++ event_of_lock session oid answer
+  pub fits : LockFits (after_events o (before ++ others)) session oid asked answer
+
+-- the event of an unlock, where the session held the object
+abbrev pub dropping : (held : Bool) → (session oid : ℕ) → List Event
+dropping true session oid = (session, Dropped oid) ∷ []
+dropping _ session oid = []
+
+-- What an unlock says: whether the session held the object.
+pub record UnlockSays (o : Opened) (before after : List Event) (session oid : ℕ) (held : Bool)
+    : Type 0 where
+  pub others : List Event
+  pub are_others : events_of session others ≡ []
+  pub events : after ≡ (before ++ others) ++ dropping held session oid
+  pub held_is : held
+      ≡ is_some (kind_held (after_events o (before ++ others)).locks session oid)
+
+-- What a logout says: the session leaves, as its own event, exactly where it holds a lock.
+pub record LogoutSays (o : Opened) (before after : List Event) (session : ℕ) : Type 0 where
+  pub others : List Event
+  pub are_others : events_of session others ≡ []
+  pub holds : Bool
+  pub events : after ≡ (before ++ others) ++ leaving holds session
+  pub exactly : IsTrue holds ↔ HoldsSome (after_events o (before ++ others)) session
+
+-- ---- ports
 
 -- A port as contracts see it: what its Stone was opened with and the events that it has seen, which
 -- sessions it serves, and whether nobody else uses the Stone as long as the port is there.

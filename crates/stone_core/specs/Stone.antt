@@ -1,20 +1,25 @@
 -- What holds of every Stone.
-use Rattle.std.specs.Prelude.{◌≡◌, ◌≤◌, ◌^◌, ℕ, List}
-use Rattle.gem_value.specs.Image.{Image}
-use Rattle.gem_value.specs.declared.record.Entry.{Entry}
+use Rattle.std.specs.Prelude.{◌≡◌, ◌≤◌, ◌+◌, ℕ, Bool, nat_le, ◌&&◌, List, length}
+use Rattle.std.specs.FinMap.{len}
+use Rattle.gem_image.specs.Image.{Image}
+use Rattle.gem_record.specs.declared.record.Entry.{Entry}
+use Rattle.lock_table.specs.Locks.{LockSet}
+use Rattle.shell_words.specs.Script.{SessionCommands}
 use Rattle.gem_meaning.specs.Events.{Told, standing, entries_of}
-use Rattle.gem_meaning.specs.Serial.{IsConsistent}
+use Rattle.gem_meaning.specs.Serial.{IsConsistent, CanServe}
 
--- the most commits in an image that a Stone is opened with: more than a Stone can add are left
--- below 2^64
-abbrev pub most_at_opening : ℕ
-most_at_opening = 2 ^ 62
-
--- The Stone has this image, this number and this history: those that stand after its events, which
--- are consistent.
-pub record IsStone (t : Told) (image : Image) (number : ℕ) (history : List Entry) : Type 0 where
+-- The Stone has this image, this number, these locks and this history: those that stand after its
+-- events, which are consistent. There is room among them for an event that ends each lock.
+pub record IsStone (t : Told) (image : Image) (number : ℕ) (locks : LockSet) (history : List Entry)
+    (room : ℕ) : Type 0 where
   pub image_is : image ≡ (standing t).image
   pub number_is : number ≡ (standing t).number
+  pub locks_are : locks ≡ (standing t).locks
   pub history_is : history ≡ entries_of t.events
-  pub opening : t.opened.number ≤ most_at_opening
+  pub opening : CanServe t.opened
   pub consistent : IsConsistent t
+  pub enough : length t.events + len locks ≤ room
+
+-- whether the script has a session of this number, which counts from 1
+abbrev pub is_session : List SessionCommands → ℕ → Bool
+is_session script session = nat_le 1 session && nat_le session (length script)

@@ -1,10 +1,14 @@
-//! Room: Stone. Takes records of transactions; gives answers and events. Its code knows nothing of
-//! tokens and of trees.
+//! Room: Stone. Gives the Stone over objects, and what a session may ask of it. Its code knows
+//! nothing of tokens and of trees.
 #![tactic(auto)]
 
+mod effect;
 pub mod laws;
 mod port;
+mod serial;
 mod stone;
 
-pub use port::{Begun, CommitAnswer, StonePort};
+pub use effect::effect_of;
+pub use port::{Begun, CommitAnswer, LockAnswer, StonePort};
+pub use serial::largest_serial;
 pub use stone::{Closed, Stone};

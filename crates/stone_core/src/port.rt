@@ -1,14 +1,18 @@
 //! What sessions may ask of a Stone.
-ghost use Rattle.std.specs.Prelude.{◌≡◌, true, IfOk, IfErr};
-ghost use Rattle.gem_meaning.specs.Events.{OthersCame};
+ghost use Rattle.std.specs.Prelude.{◌≡◌, true, IfOk, IfErr, IsSome};
+ghost use Rattle.std.specs.FinMap.{get};
+ghost use Rattle.gem_meaning.specs.Events.{OthersCame, standing};
 ghost use Rattle.gem_meaning.specs.Serial.{IsRecorded};
-ghost use Rattle.stone_core.specs.Port.{PortState, BeginSays, CommitSays, GoesOn};
+ghost use Rattle.stone_core.specs.Port.{PortState, BeginSays, CommitSays, LockSays, UnlockSays, LogoutSays, GoesOn};
 
-use gem_value::{Conflicts, Image, TxnRecord};
+use gem_image::Image;
+use gem_record::TxnRecord;
+use gem_value::{Conflicts, Oid};
+use lock_table::LockKind;
 use std::alloc::{AllocError, Global};
 
 /// What a transaction begins with: the image of a moment, and the number of commits in it.
-#[derive(Debug, Drop)]
+#[derive(Drop)]
 pub struct Begun {
     /// The image.
     pub image: Image,
@@ -19,12 +23,33 @@ pub struct Begun {
 /// How a commit ended.
 #[derive(Debug, Drop)]
 pub enum CommitAnswer {
-    /// Nothing was written. The number is that of the transaction's view.
+    /// Nothing was written or updated. The number is that of the transaction's view.
     ReadOnly(u64),
     /// The commit was refused, for these conflicts, and nothing has changed.
     Conflicts(Conflicts),
     /// The commit was placed, and this is its number.
     Placed(u64),
+    /// Memory ran out, or a merge made what can't be stored, and nothing has changed.
+    NoMemory,
+}
+
+/// How the request for a lock ended.
+#[derive(Clone, Copy, Debug, PartialEq, Eq)]
+pub enum LockAnswer {
+    /// The session holds the object now.
+    Granted {
+        /// The kind in which it holds it.
+        kind: LockKind,
+        /// The number of the commit that last changed the object, or 0.
+        changed: u64,
+    },
+    /// The lock of another session is in the way, and nothing has changed.
+    Denied {
+        /// The number of this session.
+        holder: u32,
+        /// The kind of its lock.
+        kind: LockKind,
+    },
     /// Memory ran out, and nothing has changed.
     NoMemory,
 }
@@ -36,7 +61,8 @@ pub trait StonePort {
     /// The port as contracts see it.
     ghost state: { Self → PortState };
 
-    /// The image and the number of this moment.
+    /// The image and the number of this moment. The image is sound, and the session's further names
+    /// are free in it.
     ///
     /// # Errors
     ///
@@ -50,16 +76,39 @@ pub trait StonePort {
             OthersCame session (state self.old).told.events (state self.new).told.events) }
         ensures port { GoesOn session (state self.old) (state self.new) };
 
-    /// Commits what a transaction wrote. The record has to be what running its commands gives where
+    /// Commits what a transaction did. The record has to be what running its commands gives where
     /// all stands as at its view.
     ///
-    /// It is read only exactly where nothing was written. Otherwise it is refused exactly where
-    /// there are conflicts, and else placed, with the next number. Only where it is placed
-    /// something has changed.
+    /// It is read only exactly where nothing was written or updated. Otherwise it is refused
+    /// exactly where there are conflicts, and else placed, with the next number. Only where it is
+    /// placed something has changed.
     fn commit(&mut self, alloc: Global, done: &TxnRecord) -> CommitAnswer
         requires serves { (state self.old).serves done.now.session ≡ true }
         requires recorded { IsRecorded (state self.old).told done.now }
         ensures says { CommitSays (state self.old).told.opened (state self.old).told.events
             (state self.new).told.events done.now result }
         ensures port { GoesOn done.now.session (state self.old) (state self.new) };
+
+    /// Locks an object for the session, which has to be there. A session that asks again keeps the
+    /// greater kind.
+    fn lock(&mut self, session: u32, oid: Oid, kind: LockKind) -> LockAnswer
+        requires serves { (state self.old).serves session ≡ true }
+        requires there { IsSome (get (standing (state self.old).told).image oid) }
+        ensures says { LockSays (state self.old).told.opened (state self.old).told.events
+            (state self.new).told.events session oid kind result }
+        ensures port { GoesOn session (state self.old) (state self.new) };
+
+    /// Gives the session's lock on an object back; whether it held one. It takes no memory.
+    fn unlock(&mut self, session: u32, oid: Oid) -> bool
+        requires serves { (state self.old).serves session ≡ true }
+        ensures says { UnlockSays (state self.old).told.opened (state self.old).told.events
+            (state self.new).told.events session oid result }
+        ensures port { GoesOn session (state self.old) (state self.new) };
+
+    /// Ends the session: all its locks are gone. It takes no memory.
+    fn logout(&mut self, session: u32)
+        requires serves { (state self.old).serves session ≡ true }
+        ensures says { LogoutSays (state self.old).told.opened (state self.old).told.events
+            (state self.new).told.events session }
+        ensures port { GoesOn session (state self.old) (state self.new) };
 }

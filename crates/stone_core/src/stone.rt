@@ -1,34 +1,51 @@
 //! The Stone.
-ghost use Rattle.std.specs.Prelude.{◌≡◌, ◌≤◌, [], ◌∷◌, ◌++◌, ◌+◌, IfOk, IfErr};
-ghost use Rattle.gem_value.specs.Entry.{entry_of};
-ghost use Rattle.gem_meaning.specs.Events.{globals as globals_name, standing, entries_of};
+ghost use Rattle.std.specs.Prelude.{◌≡◌, ◌≤◌, ◌<◌, ◌↔◌, [], ◌∷◌, ◌+◌, ◌*◌, ◌^◌, length, true, IfOk, OnOk, OnErr, IsTrue, IsSome, is_some};
+ghost use Rattle.std.specs.FinMap.{get};
+ghost use Rattle.gem_record.specs.History.{entry_of};
+ghost use Rattle.commit_check.specs.Conflicts.{last_change, merged_objects};
 ghost use Rattle.gem_meaning.specs.declared.event.What.TheVariants.{Placed};
-ghost use Rattle.gem_meaning.specs.Serial.{IsRecorded, IsConsistent};
-ghost use Rattle.stone_core.specs.Stone.{most_at_opening};
-ghost use Rattle.stone_core.specs.Port.{event_of_answer, IsUnchangedRecord, conflicts_of_record, AnswerFits};
+ghost use Rattle.gem_meaning.specs.Effect.{IsUnchanged, MergesFit, effect_at};
+ghost use Rattle.gem_meaning.specs.Events.{standing, entries_of, conflicts_at, told_more};
+ghost use Rattle.gem_meaning.specs.Serial.{IsRecorded, IsConsistent, CanServe};
+ghost use Rattle.gem_meaning.specs.Locks.{leaving};
+ghost use Rattle.stone_core.specs.Stone.{is_session};
+ghost use Rattle.stone_core.specs.Port.{event_of_answer, AnswerFits, event_of_lock, LockFits, dropping};
+ghost use Rattle.lock_table.specs.Locks.{kind_held};
+ghost use Rattle.gem_meaning.specs.Serial.{HoldsSome};
 
-use crate::port::{Begun, CommitAnswer, StonePort};
+use crate::effect::{effect_of, fit, next_image};
+use crate::port::{Begun, CommitAnswer, LockAnswer, StonePort};
+use commit_check::conflicts;
+use gem_image::Image;
 use gem_meaning::What;
-use gem_value::{Conflict, ConflictKind, Conflicts, Entry, History, Image, Oid, TxnRecord};
-use profile::{GLOBALS_COUNTER, KERNEL_SERIAL};
+use gem_object::Object;
+use gem_record::{ByName, Entry, TxnRecord};
+use gem_value::Oid;
+use history_laws::laws::{images_are_sound, names_are_free, placed_as_recorded};
+use lock_table::{Asked, LockKind, Locks};
+use radix_pages::Steps;
 use shell_words::Script;
 use std::alloc::{AllocError, Global};
-use std::marker::Model;
+use std::marker::{Brand, Model};
 use std::sync::Arc;
+use std::sync::ledger::{Blank, Ledger};
 
-/// The one place where transactions of a script are committed, one after the other. Each is judged
-/// by what has been committed since its view.
+/// The one place where transactions of a script are committed, one after the other, and where
+/// objects are locked. Each commit is judged by what has been committed since its view, and by the
+/// locks that other sessions hold.
 ///
-/// A contract sees it as a `Told`: what it was opened with, and its events since. The image and the
-/// number of commits are those that stand after the events, which are consistent: each is of a
-/// session of the script, and the commits have a serial order.
-#[derive(Debug, Drop)]
+/// A contract sees it as a `Told`: what it was opened with, and its events since. The image, the
+/// number of commits, the locks and the history are those that stand after the events, which are
+/// consistent: each is of a session of the script, and the commits have a serial order. There is
+/// room for an event that ends each lock, so that no lock is held for want of memory.
+#[derive(Drop)]
 pub struct Stone {
     opened_image: Image,
     opened_number: u64,
     script: Arc<Script>,
     image: Image,
     number: u64,
+    locks: Locks,
     history: Vec<Entry>,
     events: Vec<(u32, What)>,
 }
@@ -37,21 +54,22 @@ pub struct Stone {
 #[derive(Debug, Drop)]
 pub struct Closed {
     /// The entries of the commits, in order.
-    pub history: History,
+    pub history: Vec<Entry>,
     /// The events, in order, each with the number of the session that made it.
     pub events: Vec<(u32, What)>,
 }
 
 impl Model for Stone {
-    ghost use Rattle.std.specs.Coded.{codes};
-    ghost use Rattle.gem_value.specs.Image.{image_code};
+    ghost use Rattle.std.specs.Coded.{codes, coded_ℕ};
+    ghost use Rattle.std.specs.Ordering.{nat_cmp};
+    ghost use Rattle.std.specs.FinMap as map;
+    ghost use Rattle.gem_object.specs.contracts.object.Object as object;
     ghost use Rattle.gem_meaning.specs.Events.{Told};
+    ghost use Rattle.stone_core.specs.Inside.{told_by, IsWholeStone};
 
     ghost Value = { Told };
 
-    ghost coded = { Prim.hlevel (codes, image_code) };
-
-    ghost use Rattle.stone_core.specs.Inside.{told_by, IsWholeStone};
+    ghost coded = { Prim.hlevel (codes, map.code {R = nat_cmp} coded_ℕ object.the_row.coded) };
 
     ghost view = { told_by };
 
@@ -60,7 +78,8 @@ impl Model for Stone {
 
 impl Stone {
     /// A Stone that is opened with this image, which has so many commits, for the sessions of this
-    /// script.
+    /// script. Each session draws names of a serial of its own, from the one after the image's
+    /// largest on: `largest_serial` gives that one.
     ///
     /// # Errors
     ///
@@ -71,7 +90,11 @@ impl Stone {
         number: u64,
         script: Arc<Script>,
     ) -> Result<Stone, AllocError>
-        requires number { number ≤ most_at_opening }
+        requires serves { CanServe (record {
+          image = image;
+          number = number;
+          script = script.value;
+        }) }
         ensures { IfOk result (λ stone. stone ≡ record {
           opened = record { image = image; number = number; script = script.value };
           events = [];
@@ -83,6 +106,7 @@ impl Stone {
             script,
             image,
             number,
+            locks: Locks::new(alloc),
             history: Vec::new(alloc),
             events: Vec::new(alloc),
         })
@@ -103,37 +127,102 @@ impl Stone {
         })
     }
 
-    /// Commits what a transaction wrote. The record has to be what running its commands gives where
+    /// Commits what a transaction did. The record has to be what running its commands gives where
     /// all stands as at its view.
     ///
-    /// It is read only exactly where nothing was written. Otherwise it is refused exactly where
-    /// there are conflicts, and else placed, with the next number. Every other answer, also that
-    /// memory ran out, leaves the Stone as it was.
-    pub fn commit(&mut self, alloc: Global, done: &TxnRecord) -> CommitAnswer
+    /// It is read only exactly where nothing was written or updated. Otherwise it is refused
+    /// exactly where there are conflicts, and else placed, with the next number. Every other
+    /// answer, also that memory ran out, leaves the Stone as it was. A merge that makes a body of
+    /// 2^32 pairs or items, which can't be stored, counts as want of memory. An object of the
+    /// effect builds at most 8 nodes of the next image, however many objects the image has.
+    pub fn commit<L: Ledger>(
+        &mut self,
+        alloc: Global,
+        done: &TxnRecord,
+        steps: &mut Steps<L>,
+    ) -> CommitAnswer
         requires recorded { IsRecorded self.old done.now }
-        ensures events { self.new ≡ record self.old {
-          events = self.old.events
-              ++ event_of_answer (standing self.old) done.now.session (entry_of done.now) result;
-        } }
-        ensures answer { AnswerFits self.old.opened (standing self.old) done.now result }
+        ensures events { self.new ≡ told_more self.old (event_of_answer done.now result) }
+        ensures answer { AnswerFits (standing self.old) done.now result }
+        ensures nodes { steps.new ≤ steps.old + 8 * length
+            (effect_at (standing self.old).image ((standing self.old).number + 1) done.now) }
     {
-        if done.written.as_slice().is_empty() {
+        if done.written.as_slice().is_empty() && done.updates.as_slice().is_empty() {
             return CommitAnswer::ReadOnly(done.view);
         }
-        match self.place_or_refuse(alloc, done) {
+        match self.place_or_refuse(alloc, done, steps) {
             Ok(answer) => answer,
             Err(AllocError) => CommitAnswer::NoMemory,
         }
     }
 
+    /// Locks an object for the session, which has to be there. Where another session's lock is in
+    /// the way the lowest such session is named. A session that asks again keeps the greater kind.
+    /// Only a grant changes something.
+    pub fn lock(&mut self, session: u32, oid: Oid, kind: LockKind) -> LockAnswer
+        requires serves { is_session self.old.opened.script session ≡ true }
+        requires there { IsSome (get (standing self.old).image oid) }
+        ensures events { self.new ≡ told_more self.old (event_of_lock session oid result) }
+        ensures answer { LockFits (standing self.old) session oid kind result }
+    {
+        if let Some((holder, held)) = self.locks.denies(session, oid.number(), kind) {
+            return LockAnswer::Denied { holder, kind: held };
+        }
+        let room = self.locks.count() + 2;
+        let Ok(()) = self.events.reserve(room) else {
+            return LockAnswer::NoMemory;
+        };
+        let changed = last_change(&self.image, oid);
+        match self.locks.request(session, oid.number(), kind) {
+            Asked::Granted(now) => {
+                let Ok(()) = self.events.push((session, What::Held(oid, now))) else {
+                    unreachable!()
+                };
+                LockAnswer::Granted { kind: now, changed }
+            }
+            Asked::Denied { holder, kind } => LockAnswer::Denied { holder, kind },
+            Asked::NoMemory => LockAnswer::NoMemory,
+        }
+    }
+
+    /// Gives the session's lock on an object back; whether it held one. It takes no memory.
+    pub fn unlock(&mut self, session: u32, oid: Oid) -> bool
+        requires serves { is_session self.old.opened.script session ≡ true }
+        ensures events { self.new ≡ told_more self.old (dropping result session oid) }
+        ensures held { result ≡ is_some (kind_held (standing self.old).locks session oid) }
+    {
+        if !self.locks.release(session, oid.number()) {
+            return false;
+        }
+        let Ok(()) = self.events.push((session, What::Dropped(oid))) else {
+            unreachable!()
+        };
+        true
+    }
+
+    /// Ends the session: all its locks are gone. Whether it held one. It takes no memory.
+    pub fn logout(&mut self, session: u32) -> bool
+        requires serves { is_session self.old.opened.script session ≡ true }
+        ensures events { self.new ≡ told_more self.old (leaving result session) }
+        ensures held { IsTrue result ↔ HoldsSome (standing self.old) session }
+    {
+        if !self.locks.release_all(session) {
+            return false;
+        }
+        let Ok(()) = self.events.push((session, What::Left)) else {
+            unreachable!()
+        };
+        true
+    }
+
     /// Closes the Stone. It takes no memory.
     pub fn close(self) -> Closed
         ensures events { result.events.items ≡ self.events }
-        ensures history { result.history ≡ entries_of self.events }
+        ensures history { result.history.items ≡ entries_of self.events }
         ensures consistent { IsConsistent self }
     {
         Closed {
-            history: History::of(self.history),
+            history: self.history,
             events: self.events,
         }
     }
@@ -141,97 +230,148 @@ impl Stone {
     // Whether the number hasn't fallen since the opening, which is always so. What else the type
     // says of every Stone is told with it.
     fn keeps_order(&self) -> bool
-        ensures { IsConsistent self.now }
+        ensures opening { CanServe self.now.opened }
+        ensures consistent { IsConsistent self.now }
     {
         self.opened_number <= self.number
     }
 
-    // The answer to a commit of a transaction that wrote something, where memory suffices.
-    fn place_or_refuse(
+    // The answer to a commit of a transaction that wrote or updated something, where memory
+    // suffices and what the merges make can be stored.
+    fn place_or_refuse<L: Ledger>(
         &mut self,
         alloc: Global,
         done: &TxnRecord,
+        steps: &mut Steps<L>,
     ) -> Result<CommitAnswer, AllocError>
         requires recorded { IsRecorded self.old done.now }
-        requires changed { IsUnchangedRecord done.now → ⊥ }
-        ensures events { IfOk result (λ answer. self.new ≡ record self.old {
-          events = self.old.events
-              ++ event_of_answer (standing self.old) done.now.session (entry_of done.now) answer;
-        }) }
+        requires changed { IsUnchanged done.now → ⊥ }
+        ensures events { IfOk result (λ answer.
+            self.new ≡ told_more self.old (event_of_answer done.now answer)) }
         ensures answer { IfOk result (λ answer.
-            AnswerFits self.old.opened (standing self.old) done.now answer) }
-        ensures starved { IfErr result (λ _. self.new ≡ self.old) }
+            AnswerFits (standing self.old) done.now answer) }
+        ensures starved { OnErr result (self.new ≡ self.old) }
+        ensures nodes { steps.new ≤ steps.old + 8 * length
+            (effect_at (standing self.old).image ((standing self.old).number + 1) done.now) }
     {
-        let found = self.conflicts(alloc, done)?;
-        if !found.as_slice().is_empty() {
-            return Ok(CommitAnswer::Conflicts(found));
+        let judged = conflicts(alloc, &self.image, done, &self.locks)?;
+        if !judged.conflicts.as_slice().is_empty() {
+            return Ok(CommitAnswer::Conflicts(judged.conflicts));
         }
-        Ok(CommitAnswer::Placed(self.place(alloc, done)?))
+        if !fit(judged.merged.as_slice()) {
+            return Err(AllocError);
+        }
+        let number = self.place(alloc, done, judged.merged, steps)?;
+        Ok(CommitAnswer::Placed(number))
     }
 
-    // The conflicts of a transaction that wrote something.
-    fn conflicts(&self, alloc: Global, done: &TxnRecord) -> Result<Conflicts, AllocError>
-        ensures { IfOk result (λ found.
-            found ≡ conflicts_of_record self.now.opened (standing self.now) done.now) }
-    {
-        let mut found = Vec::new(alloc);
-        if done.view < self.number {
-            found.push(Conflict {
-                oid: globals(),
-                kind: ConflictKind::WriteWrite,
-                shown: self.number,
-            })?;
-        }
-        Ok(Conflicts::of(found))
-    }
-
-    // Places the commit of a transaction that has no conflict, and gives its number.
-    fn place(&mut self, alloc: Global, done: &TxnRecord) -> Result<u64, AllocError>
+    // Places the commit of a transaction that has no conflict, and gives its number. All memory is
+    // taken before anything changes.
+    fn place<L: Ledger>(
+        &mut self,
+        alloc: Global,
+        done: &TxnRecord,
+        merged: ByName<Object>,
+        steps: &mut Steps<L>,
+    ) -> Result<u64, AllocError>
         requires recorded { IsRecorded self.old done.now }
-        requires no_conflict { conflicts_of_record self.old.opened (standing self.old) done.now
-            ≡ [] }
+        requires no_conflict { conflicts_at (standing self.old) done.now ≡ [] }
+        requires merged { merged ≡ merged_objects (standing self.old).image done.now }
+        requires fit { MergesFit (standing self.old).image done.now }
         ensures number { IfOk result (λ number. number ≡ (standing self.old).number + 1) }
-        ensures placed { IfOk result (λ _. self.new ≡ record self.old {
-          events = self.old.events
-              ++ (done.now.session, Placed (entry_of done.now)) ∷ [];
-        }) }
-        ensures starved { IfErr result (λ _. self.new ≡ self.old) }
+        ensures placed { OnOk result (self.new
+            ≡ told_more self.old ((done.now.session, Placed (entry_of done.now)) ∷ [])) }
+        ensures starved { OnErr result (self.new ≡ self.old) }
+        ensures nodes { steps.new ≤ steps.old + 8 * length
+            (effect_at (standing self.old).image ((standing self.old).number + 1) done.now) }
     {
-        let entry = done.entry();
-        let image = self.image.with_writes(alloc, &done.written)?;
+        placed_as_recorded();
+        images_are_sound();
+        let number = self.number + 1;
+        let effect = effect_of(alloc, number, done, merged)?;
+        let image = next_image(alloc, &self.image, effect, steps)?;
         self.history.reserve(1)?;
-        self.events.push((done.session, What::Placed(entry)))?;
-        let Ok(()) = self.history.push(entry) else {
+        self.events.reserve(self.locks.count() + 1)?;
+        let placed = What::Placed(done.entry());
+        let Ok(()) = self.events.push((done.session, placed)) else {
+            unreachable!()
+        };
+        let Ok(()) = self.history.push(done.entry()) else {
             unreachable!()
         };
         self.image = image;
-        self.number += 1;
-        Ok(self.number)
+        self.number = number;
+        Ok(number)
     }
 }
 
-/// A Stone alone: no event of others ever comes between.
+/// A Stone alone: no event of others ever comes between. It serves the sessions of its script.
 impl StonePort for Stone {
     ghost use Rattle.std.specs.Prelude.{true};
+    ghost use Rattle.stone_core.specs.Stone.{is_session};
 
-    ghost state = { λ stone. record { told = stone; serves = λ session. true; alone = true } };
+    ghost state = { λ stone. record {
+      told = stone;
+      serves = is_session stone.opened.script;
+      alone = true;
+    } };
 
-    fn begin(&mut self, session: u32) -> Result<Begun, AllocError> {
+    fn begin(&mut self, _session: u32) -> Result<Begun, AllocError> {
         let begun = Stone::begin(self);
         self.keeps_order();
+        images_are_sound();
+        names_are_free();
         begun
     }
 
     fn commit(&mut self, alloc: Global, done: &TxnRecord) -> CommitAnswer {
-        let answer = Stone::commit(self, alloc, done);
+        let answer = commit_uncounted::<Brand>(self, alloc, done, Blank::new(1));
         self.keeps_order();
         answer
     }
+
+    fn lock(&mut self, session: u32, oid: Oid, kind: LockKind) -> LockAnswer {
+        let answer = Stone::lock(self, session, oid, kind);
+        self.keeps_order();
+        answer
+    }
+
+    fn unlock(&mut self, session: u32, oid: Oid) -> bool {
+        let held = Stone::unlock(self, session, oid);
+        self.keeps_order();
+        held
+    }
+
+    fn logout(&mut self, session: u32) {
+        Stone::logout(self, session);
+        self.keeps_order();
+    }
 }
 
-/// The dictionary Globals, in which every global lies.
-fn globals() -> Oid
-    ensures { result ≡ globals_name }
+// A commit whose nodes nobody counts.
+fn commit_uncounted<L: Ledger>(
+    stone: &mut Stone,
+    alloc: Global,
+    done: &TxnRecord,
+    blank: Blank,
+) -> CommitAnswer
+    requires name { blank.name ≡ L.name }
+    requires parts { blank.parts ≡ L.parts }
+    requires some_parts { 0 < L.parts }
+    requires recorded { IsRecorded stone.old done.now }
+    ensures events { stone.new ≡ told_more stone.old (event_of_answer done.now result) }
+    ensures answer { AnswerFits (standing stone.old) done.now result }
 {
-    Oid::from_parts(KERNEL_SERIAL, GLOBALS_COUNTER)
+    let mut steps = Steps::<L>::start(blank);
+    stone.commit(alloc, done, &mut steps)
+}
+
+// The number of the commit that last changed the object, or 0 where there is none.
+fn last_change(image: &Image, oid: Oid) -> u64
+    ensures { result ≡ last_change image.now oid }
+{
+    match image.look(oid) {
+        Some(object) => object.changed,
+        None => 0,
+    }
 }

@@ -1,2 +1,2 @@
-mod Nothing
-mod Setting
+mod Names
+mod Ready

@@ -1,9 +1,13 @@
-//! Room: Stone. Tests the crates of the room, a file for each.
+//! Room: Stone. Tests the crates of the room, a file for each part.
 //!
 //! A crate that has its tests in itself is proved once more with them.
 #![tactic(auto)]
 
 #[cfg(test)]
+mod effect_tests;
+#[cfg(test)]
 mod lock_table_tests;
 #[cfg(test)]
-mod stone_core_tests;
+mod lock_tests;
+#[cfg(test)]
+mod setting;

@@ -1,4 +1,4 @@
-use Rattle.stone_core.proofs.Later.{nothing_changed}
+use Rattle.stone_core.proofs.First.{nothing_changed}
 use Rattle.stone_core.proofs.laws.refusal_changes_nothing.Goals as goal
 
 pub returns : goal.returns

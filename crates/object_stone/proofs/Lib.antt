@@ -1,8 +1,0 @@
-mod ByName
-mod Kept
-mod Largest
-mod Spelled
-mod Fits
-mod OneMore
-mod Calls
-mod First

@@ -1,4 +1,0 @@
-use Rattle.object_stone.proofs.stone.StoneStonePort.commit.Given as goal
-
-abbrev pub ghosts-commit_uncounted : goal.ghosts-commit_uncounted
-ghosts-commit_uncounted a = record { name = a.blank.name; parts = a.blank.parts }

@@ -1,5 +1,0 @@
-use Rattle.object_stone.proofs.Calls.{logout_alone}
-use Rattle.object_stone.proofs.stone.StoneStonePort.logout.Goals as goal
-
-pub returns-clause-says : goal.returns-clause-says
-returns-clause-says c = logout_alone c.args.self.now _ c.args.session c.logout.result c.logout.ensures.events c.logout.ensures.held

@@ -1,4 +1,0 @@
-pub mod Port
-pub mod Effects
-pub mod Stone
-pub mod Inside

@@ -1,0 +1,134 @@
+// A Stone over the kernel's image and two boxes, for two sessions that commit at once, and its
+// calls.
+ghost use Rattle.std.specs.Prelude.{◌≡◌, ◌<◌, ◌≤◌, ◌^◌, ℕ, IfOk, OnOk};
+ghost use Rattle.gem_value.specs.Oid.{oid_number};
+ghost use Rattle.gem_object.specs.Spelling.{IsSpelled};
+ghost use Rattle.gem_sound.specs.Sound.{IsSoundImage};
+ghost use Rattle.commit_check.specs.Conflicts.{last_change};
+ghost use Rattle.gem_meaning.specs.Serial.{most_at_opening};
+ghost use Rattle.stone_tests.specs.Setting.{one_commit, two_sessions, HasBoxes, IsReady};
+
+use gem_image::Image;
+use gem_object::{Body, Object, Value, Values};
+use gem_sound::names::{ARRAY_CLASS, DATA_CURATOR_SEGMENT};
+use gem_value::Oid;
+use kernel_image::laws::kernel_is_unchanged;
+use kernel_image::{kernel, sound};
+use lock_table::LockKind;
+use profile::KERNEL_SERIAL;
+use radix_pages::Steps;
+use shell_words::{Command, Script, SessionScript};
+use std::alloc::{AllocError, Global};
+use std::sync::Arc;
+use std::sync::ledger::Ledger;
+use std::test::Fail;
+use stone_core::{LockAnswer, Stone, largest_serial};
+use texts::Text;
+
+/// The serial of the boxes.
+pub const SERIAL: u32 = 1;
+
+/// The counters of the two boxes.
+pub const BOX: u32 = 1;
+
+pub const CUP: u32 = 2;
+
+/// The box with this counter.
+pub fn name(counter: u32) -> Oid
+    requires { counter < 2 ^ 24 }
+    ensures { result ≡ oid_number 1 counter }
+{
+    Oid::from_parts(SERIAL, counter)
+}
+
+fn session(alloc: Global) -> Result<SessionScript, AllocError>
+    ensures { IfOk result (λ session. session ≡ one_commit) }
+{
+    let user = Text::of(Vec::from_slice(alloc, b"DataCurator")?);
+    Ok(SessionScript::of(user, vec![in alloc; Command::Commit]?))
+}
+
+fn script(alloc: Global) -> Result<Arc<Script>, AllocError>
+    ensures { IfOk result (λ script. script.value ≡ two_sessions) }
+{
+    let sessions = vec![in alloc; session(alloc)?, session(alloc)?]?;
+    Ok(Arc::new(alloc, Script::of(sessions))?)
+}
+
+// An array of one slot, which the commit with this number changed last.
+fn array(alloc: Global, changed: u64) -> Result<Object, AllocError>
+    ensures spelled { IfOk result IsSpelled }
+    ensures changed { IfOk result (λ array. array.changed ≡ changed) }
+{
+    Ok(Object {
+        class: Oid::from_parts(KERNEL_SERIAL, ARRAY_CLASS),
+        segment: Oid::from_parts(KERNEL_SERIAL, DATA_CURATOR_SEGMENT),
+        changed,
+        body: Body::Plain(Values::of(vec![in alloc; Value::Nil]?)),
+    })
+}
+
+// The kernel's image with the boxes, which the commit with this number changed last.
+fn boxes<L: Ledger>(alloc: Global, changed: u64, steps: &mut Steps<L>) -> Result<Image, AllocError>
+    ensures boxes { IfOk result HasBoxes }
+    ensures changed { IfOk result (λ image. (oid : ℕ) → last_change image oid ≤ changed) }
+{
+    let image = kernel(alloc, steps)?;
+    kernel_is_unchanged();
+    let with_box = image.with(alloc, name(BOX), array(alloc, changed)?, steps)?;
+    with_box.with(alloc, name(CUP), array(alloc, changed)?, steps)
+}
+
+fn check_sound(alloc: Global, image: &Image) -> Result<(), Fail>
+    ensures { OnOk result (IsSoundImage image.now) }
+{
+    Ok(sound(alloc, image)?)
+}
+
+/// A Stone that is opened with the kernel's image, the boxes and so many commits, the last of which
+/// changed the boxes.
+pub fn opened<L: Ledger>(alloc: Global, number: u64, steps: &mut Steps<L>) -> Result<Stone, Fail>
+    requires { number ≤ most_at_opening }
+    ensures { IfOk result IsReady }
+{
+    let image = boxes(alloc, number, steps)?;
+    if largest_serial(&image) != SERIAL {
+        return Err(Fail::from("the serial of the boxes isn't the largest"));
+    }
+    check_sound(alloc, &image)?;
+    image.invariant();
+    Ok(Stone::start(alloc, image, number, script(alloc)?)?)
+}
+
+/// Asks for a lock on the box with this counter.
+pub fn lock(stone: &mut Stone, session: u32, counter: u32, kind: LockKind) -> LockAnswer
+    requires ready { IsReady stone.old }
+    requires first { 1 ≤ session }
+    requires last { session ≤ 2 }
+    requires from { 1 ≤ counter }
+    requires to { counter ≤ 2 }
+    ensures { IsReady stone.new }
+{
+    stone.lock(session, name(counter), kind)
+}
+
+/// Gives the lock on the box with this counter back.
+pub fn unlock(stone: &mut Stone, session: u32, counter: u32) -> bool
+    requires ready { IsReady stone.old }
+    requires first { 1 ≤ session }
+    requires last { session ≤ 2 }
+    requires to { counter ≤ 2 }
+    ensures { IsReady stone.new }
+{
+    stone.unlock(session, name(counter))
+}
+
+/// Ends the session.
+pub fn logout(stone: &mut Stone, session: u32) -> bool
+    requires ready { IsReady stone.old }
+    requires first { 1 ≤ session }
+    requires last { session ≤ 2 }
+    ensures { IsReady stone.new }
+{
+    stone.logout(session)
+}
