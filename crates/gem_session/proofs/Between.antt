@@ -1,20 +1,22 @@
 -- The commands of a transaction so far, and what they do.
-use Rattle.std.proofs.Common.{◌≡◌, ◌∙◌, refl, sym, ap, subst, ℕ, ◌+◌, ◌-◌, ◌≤◌, ◌<◌, Some, List, [], ◌∷◌, ◌++◌, take, drop, length, arith}
-use Rattle.std.specs.List.{AllByRecursion, fold, slice_get}
-use Rattle.std.specs.FinMap as map
+use Rattle.std.proofs.Common.{◌≡◌, ◌∙◌, refl, sym, ap, subst, ℕ, ◌+◌, ◌-◌, ◌≤◌, ◌<◌, Option, Some, None, List, [], ◌∷◌, ◌++◌, take, drop, length, arith, append-nil}
+use Rattle.std.specs.List.{AllByRecursion, slice_get, cons_option}
 use Rattle.std.proofs.lemmas.List.{drop-append-le, drop_all, length-take, take_more}
-use Rattle.std.proofs.lemmas.List.Sums.{fold-append}
+use Rattle.std.proofs.lemmas.List.Elements.{filter_map-append}
 use Rattle.std.proofs.lemmas.Option.{get_or_from_slice_get, slice_get_within}
-use Rattle.gem_value.specs.Image.{Image}
+use Rattle.gem_world.specs.World.{Setting, World, untouched}
+use Rattle.gem_language.specs.Commands.{Command as ObjectCommand}
+use Rattle.gem_language.specs.Transaction.{Transaction, command_outcome, transaction}
+use Rattle.gem_language.proofs.Lists.{goes_on}
 use Rattle.shell_words.specs.declared.script.Command.{Command}
-use Rattle.shell_words.specs.declared.script.Command.TheVariants.{Commit}
-use Rattle.gem_meaning.specs.State.{State, state_at_start}
-use Rattle.gem_meaning.specs.Transaction.{Run, run_command, run_after, run_at_start, transaction, written_of}
-use Rattle.gem_meaning.specs.Events.{Opened, Event, commands_of, entry_commands, image_at, run_on_view, after_events}
+use Rattle.gem_meaning.specs.Commands.{object_command, object_commands}
+use Rattle.gem_meaning.specs.Opened.{Opened, commands_of, entry_commands}
+use Rattle.gem_meaning.specs.Events.{Event, run_on_view, after_events}
 use Rattle.gem_meaning.specs.Serial.{MayGoOn}
-use Rattle.gem_meaning.specs.Session.{SessionState, entry_to, run_so_far, run_to_commit}
-use Rattle.stone_core.proofs.OneMore.{all_one_more}
+use Rattle.gem_meaning.specs.State.{SessionState, entry_to, run_so_far}
+use Rattle.gem_meaning.specs.Runs.{setting_of}
 use Rattle.gem_session.specs.Running.{commands_before}
+use Rattle.gem_session.proofs.Apart.{all_one_more}
 
 cut_more : (xs : List Command) (first k : ℕ) (c : Command) → slice_get xs k ≡ Some c → first ≤ k →
     drop first (take (k + 1) xs) ≡ drop first (take k xs) ++ c ∷ []
@@ -57,39 +59,51 @@ pub whole_more : (o : Opened) (number : ℕ) (s : SessionState) (c : Command) �
 whole_more o number s c is low le one whole =
     subst (AllByRecursion MayGoOn) (sym (next_before o number s)) (entry_whole o number s c is low le one whole)
 
-transaction_more : (cs : List Command) (c : Command) (place view : Image) → transaction (cs ++ c ∷ []) place view ≡ run_after (transaction cs place view) c
-unfolding transaction
-transaction_more cs c place view = fold-append run_after (run_at_start place) cs (c ∷ [])
+-- what the transaction leaves with one command more
+abbrev pub world_after : Option ObjectCommand → Setting → World → World
+world_after None setting world = world
+world_after (Some command) setting world = (command_outcome command setting world).state.world
 
--- what the transaction does with the one command more
-pub run_to : (o : Opened) (es : List Event) (number : ℕ) (s : SessionState) (c : Command) → slice_get (commands_of o.script s.session) (number - 1) ≡ Some c →
-    1 ≤ s.first_command → s.first_command ≤ number → run_to_commit o es number s ≡ run_after (run_so_far o es number s) c
-unfolding run_on_view
-run_to o es number s c is low le =
-    let image = image_at (after_events o es) s.view in
-    ap (λ cs. transaction cs image image) (entry_more o number s c is low le)
-    ∙ transaction_more (commands_before o number s) c image image
+-- one command more on objects, if it is one
+abbrev optional : Option ObjectCommand → List ObjectCommand
+optional None = []
+optional (Some command) = command ∷ []
 
-run_next : (o : Opened) (es : List Event) (number : ℕ) (s : SessionState) → run_so_far o es (number + 1) s ≡ run_to_commit o es number s
-run_next o es number s =
-    let same : number + 1 - 1 ≡ number = omega arith in
-    ap (λ (n : ℕ). run_on_view o (after_events o es) (entry_to n s)) same
+one_object : (found : Option ObjectCommand) → cons_option found [] ≡ optional found
+one_object None = refl
+one_object (Some command) = refl
 
--- the state when the one command more has been done
-pub state_more : (o : Opened) (es : List Event) (number : ℕ) (s : SessionState) (c : Command) → slice_get (commands_of o.script s.session) (number - 1) ≡ Some c →
+objects_more : (cs : List Command) (c : Command) → object_commands (cs ++ c ∷ []) ≡ object_commands cs ++ optional (object_command c)
+objects_more cs c = filter_map-append object_command cs (c ∷ []) ∙ ap (λ xs. object_commands cs ++ xs) (one_object (object_command c))
+
+world_more : (cs : List ObjectCommand) (c : Option ObjectCommand) (setting : Setting) (world : World)
+    → (transaction (cs ++ optional c) setting world).world ≡ world_after c setting (transaction cs setting world).world
+world_more cs None setting world = ap (λ xs. (transaction xs setting world).world) (append-nil cs)
+world_more cs (Some command) setting world = ap (λ (t : Transaction). t.world) (goes_on cs (command ∷ []) setting world)
+
+-- what the transaction leaves with the command that has this number
+pub world_to : (o : Opened) (es : List Event) (number : ℕ) (s : SessionState) (c : Command) → slice_get (commands_of o.script s.session) (number - 1) ≡ Some c →
     1 ≤ s.first_command → s.first_command ≤ number →
-    (run_so_far o es (number + 1) s).state ≡ (run_command c (run_so_far o es number s).state).1
-state_more o es number s c is low le = ap (λ (r : Run). r.state) (run_next o es number s ∙ run_to o es number s c is low le)
+    (run_on_view o (after_events o es) (entry_to number s)).world
+    ≡ world_after (object_command c) (setting_of o es s) (run_so_far o es number s).world
+unfolding run_on_view
+world_to o es number s c is low le =
+    let setting = setting_of o es s in
+    let begun = untouched s.first_name in
+    ap (λ cs. (transaction (object_commands cs) setting begun).world) (entry_more o number s c is low le)
+    ∙ ap (λ cs. (transaction cs setting begun).world) (objects_more (commands_before o number s) c)
+    ∙ world_more (object_commands (commands_before o number s)) (object_command c) setting begun
 
--- the commit itself changes nothing
-pub written_to_commit : (o : Opened) (es : List Event) (number : ℕ) (s : SessionState) → slice_get (commands_of o.script s.session) (number - 1) ≡ Some Commit →
-    1 ≤ s.first_command → s.first_command ≤ number → map.entries (run_so_far o es number s).state.written ≡ written_of (run_to_commit o es number s)
-unfolding written_of
-written_to_commit o es number s is low le = ap (λ (r : Run). map.entries r.state.written) (sym (run_to o es number s Commit is low le))
+-- what the transaction so far leaves, when the one command more has been done
+pub world_next : (o : Opened) (es : List Event) (number : ℕ) (s : SessionState) (c : Command) → slice_get (commands_of o.script s.session) (number - 1) ≡ Some c →
+    1 ≤ s.first_command → s.first_command ≤ number →
+    (run_so_far o es (number + 1) s).world ≡ world_after (object_command c) (setting_of o es s) (run_so_far o es number s).world
+world_next o es number s c is low le =
+    let same : number + 1 - 1 ≡ number = omega arith in
+    ap (λ (n : ℕ). (run_on_view o (after_events o es) (entry_to n s)).world) same ∙ world_to o es number s c is low le
 
 -- nothing is done yet
-pub state_none : (o : Opened) (es : List Event) (s : SessionState) → (run_so_far o es s.first_command s).state ≡ state_at_start (image_at (after_events o es) s.view)
-unfolding run_on_view transaction
-state_none o es s =
-    let image = image_at (after_events o es) s.view in
-    ap (λ cs. (transaction cs image image).state) (before_none o s)
+pub world_none : (o : Opened) (es : List Event) (s : SessionState) → (run_so_far o es s.first_command s).world ≡ untouched s.first_name
+unfolding run_on_view
+world_none o es s =
+    ap (λ cs. (transaction (object_commands cs) (setting_of o es s) (untouched s.first_name)).world) (before_none o s)

@@ -1,264 +1,367 @@
 -- A session's commits and aborts.
-use Rattle.std.proofs.Common.{◌≡◌, ◌∙◌, refl, sym, ap, subst, ℕ, ℤ, ◌+◌, ◌-◌, ◌≤◌, true, false, Some, List, [], ◌∷◌, ◌++◌, length, arith, append-nil}
-use Rattle.std.proofs.lemmas.Bool.{true≢false}
-use Rattle.stone_core.specs.declared.port.CommitAnswer.{CommitAnswer}
-use Rattle.std.specs.FinMap as map
+use Rattle.std.proofs.Common.{◌≡◌, ◌∙◌, refl, sym, ap, subst, ℕ, ◌+◌, ◌-◌, ◌≤◌, true, false, true≢false, Some, IsSome, List, [], ◌∷◌, ◌++◌, arith, append-nil}
 use Rattle.std.specs.List.{AllByRecursion, slice_get}
-use Rattle.texts.specs.Bytes.{Bytes}
+use Rattle.gem_image.specs.Image.{objects_in}
+use Rattle.gem_sound.specs.Parts.{user_at}
+use Rattle.gem_world.specs.World.{World}
 use Rattle.gem_value.specs.declared.conflict.Conflict.{Conflict}
-use Rattle.gem_value.specs.declared.record.TxnRecord.{TxnRecord}
-use Rattle.gem_value.specs.Entry.{entry_of}
+use Rattle.gem_record.specs.declared.record.TxnRecord.{TxnRecord}
+use Rattle.gem_record.specs.History.{entry_of}
 use Rattle.gem_replies.specs.declared.reply.Line.TheVariants.{NoMemory, Spoiled, Unchanged, Refused, Committed, Aborted}
+use Rattle.gem_language.specs.Transaction.{Transaction}
+use Rattle.run_records.specs.Record.{record_of}
 use Rattle.shell_words.specs.declared.script.Command.TheVariants.{Commit, Abort}
 use Rattle.gem_meaning.specs.declared.event.What.TheVariants.{Placed}
-use Rattle.gem_meaning.specs.State.{state_at_start}
-use Rattle.gem_meaning.specs.Transaction.{Run, written_of, IsUnchanged}
-use Rattle.gem_meaning.specs.Events.{Opened, Event, Told, after_events, standing, commands_of, OthersCame, run_on_view}
-use Rattle.gem_meaning.specs.Serial.{IsRecorded, EndedBefore, EndsTransaction}
-use Rattle.gem_meaning.specs.Session.{SessionState, entry_to, next_transaction, run_so_far, run_to_commit, conflicts_found, SeesNumber}
-use Rattle.stone_core.specs.Port.{BeginSays, CommitSays}
+use Rattle.gem_meaning.specs.Effect.{IsUnchanged}
+use Rattle.gem_meaning.specs.Opened.{Opened, commands_of, record_on}
+use Rattle.gem_meaning.specs.Events.{Event, Told, next_counter, after_events, events_of, Extends, OthersCame, run_on_view, conflicts_at}
+use Rattle.gem_meaning.specs.Serial.{IsSerial, IsRecorded, EndedBefore, EndsTransaction, CanServe}
+use Rattle.gem_meaning.specs.State.{SessionState, entry_to, next_transaction, record_to}
+use Rattle.gem_meaning.specs.Runs.{setting_of}
+use Rattle.gem_meaning.specs.Commits.{SeesNumber}
+use Rattle.stone_core.specs.Port.{PortState, CommitSays, GoesOn, event_of_answer}
+use Rattle.stone_core.specs.declared.port.CommitAnswer.{CommitAnswer}
 use Rattle.stone_core.specs.declared.port.CommitAnswer.TheVariants.{ReadOnly, Conflicts, Placed as PlacedAt, NoMemory as ShortOfMemory}
-use Rattle.stone_core.proofs.Apart.{apart_both, apart_later, apart_of_others}
-use Rattle.stone_core.proofs.Later.{run_stays}
 use Rattle.gem_session.specs.declared.session.Session.{Session}
-use Rattle.gem_session.specs.Running.{ends_transaction, commit_line, session_state, MayBegin, StandsBefore, Begins, Replied}
-use Rattle.gem_session.proofs.Others.{nobody_came, came_and_came, extends_by}
-use Rattle.gem_session.proofs.Between.{entry_whole, written_to_commit}
-use Rattle.gem_session.proofs.Steps.{apart_when, stands_kept, begins_session, begins_stands}
+use Rattle.gem_session.specs.Running.{ends_transaction, commit_line, session_state, IsCommandNumber, StandsBefore, ComesTo, HasEnded, Begins, Replied}
+use Rattle.gem_session.proofs.Others.{nobody_came, came_and_came, extends_by, number_on}
+use Rattle.gem_session.proofs.Apart.{apart_both, apart_later, apart_of_others}
+use Rattle.gem_session.proofs.Counters.{next_of_placed}
+use Rattle.gem_session.proofs.Passing.{apart_when, counter_when, pass_others, view_when}
+use Rattle.gem_session.proofs.Between.{entry_whole, world_to}
+use Rattle.gem_session.proofs.Steps.{run_when, stands_kept}
+use Rattle.gem_session.proofs.Beginnings.{begins_session, begins_stands}
 
 abbrev At : Opened → List Event → Told
 At o es = record { opened = o; events = es }
 
-abbrev pub record_with : (number : ℕ) → Session → List (Bytes × ℤ) → TxnRecord
-record_with number s written = record {
-  session = s.session;
-  transaction = s.transaction;
-  first_command = s.first_command;
-  last_command = number;
-  view = s.view;
-  written = written;
-}
+-- the record that the session hands over
+abbrev pub record_with : (number : ℕ) → Session → TxnRecord
+record_with number s = record_of (entry_to number (session_state s)) s.view.state.seen.setting s.view.state.seen.world
 
--- what the session's state has written is what the transaction wrote
-wrote_so : (o : Opened) (es : List Event) (number : ℕ) (s : Session) (written : List (Bytes × ℤ)) → StandsBefore (At o es) number s → s.spoiled ≡ false →
-    written ≡ map.entries s.state.written → slice_get (commands_of o.script s.session) (number - 1) ≡ Some Commit →
-    written ≡ written_of (run_to_commit o es number (session_state s))
-wrote_so o es number s written stands calm wrote is =
-    wrote ∙ ap (λ x. map.entries x.written) (stands.state calm)
-    ∙ written_to_commit o es number (session_state s) is stands.first.0 stands.first.1
+entry_is : (number : ℕ) (s : Session) → entry_of (record_with number s) ≡ entry_to number (session_state s)
+unfolding record_of
+entry_is number s = refl
 
-pub recorded : (o : Opened) (es : List Event) (number : ℕ) (s : Session) (written : List (Bytes × ℤ)) → StandsBefore (At o es) number s → s.spoiled ≡ false →
-    written ≡ map.entries s.state.written → slice_get (commands_of o.script s.session) (number - 1) ≡ Some Commit →
-    IsRecorded (At o es) (record_with number s written)
-recorded o es number s written stands calm wrote is = record {
-  of_script = record {
-    session = stands.session;
-    first = stands.begins;
-    order = stands.first.1;
-    last = is;
-    whole = entry_whole o number (session_state s) Commit is stands.first.0 stands.first.1 tt stands.whole;
-  };
-  from = stands.from;
-  to = stands.to;
-  apart = stands.apart;
-  written = wrote_so o es number s written stands calm wrote is;
-}
+pub session_is : (number : ℕ) (s : Session) → (record_with number s).session ≡ s.session
+unfolding record_of
+session_is number s = refl
 
--- what it wrote is the same when others' events have come
-wrote_when : (o : Opened) (es others : List Event) (number : ℕ) (s : Session) (written : List (Bytes × ℤ)) → StandsBefore (At o es) number s → s.spoiled ≡ false →
-    written ≡ map.entries s.state.written → slice_get (commands_of o.script s.session) (number - 1) ≡ Some Commit →
-    written ≡ written_of (run_to_commit o (es ++ others) number (session_state s))
-wrote_when o es others number s written stands calm wrote is =
-    wrote_so o es number s written stands calm wrote is
-    ∙ ap written_of (sym (run_stays o es others (entry_to number (session_state s)) stands.from stands.to))
+view_is : (number : ℕ) (s : Session) → (record_with number s).view ≡ s.number
+unfolding record_of
+view_is number s = refl
 
-pub commit_spoiled : (o : Opened) (es : List Event) (number : ℕ) (s : Session) → StandsBefore (At o es) number s → s.spoiled ≡ true →
-    slice_get (commands_of o.script s.session) (number - 1) ≡ Some Commit → Replied o number es es s Commit (Spoiled ∷ []) s
-commit_spoiled o es number s stands spoiled is = record {
-  of_session = refl;
-  says = (Spoiled, refl, (spoiled, refl, refl));
-  stands = stands_kept o es es number s Commit is tt (λ st. refl) stands (nobody_came s.session es);
-}
+module _ (o : Opened) (es : List Event) (number : ℕ) (s : Session) (stands : StandsBefore (At o es) number s)
+    (is : slice_get (commands_of o.script s.session) (number - 1) ≡ Some Commit) where
+  abbrev St : SessionState
+  St = session_state s
 
--- memory ran out before the Stone was asked
-pub commit_short : (o : Opened) (es : List Event) (number : ℕ) (s : Session) → StandsBefore (At o es) number s → s.spoiled ≡ false →
-    slice_get (commands_of o.script s.session) (number - 1) ≡ Some Commit → (map.entries s.state.written ≡ [] → ⊥) →
-    Replied o number es es s Commit (NoMemory ∷ []) s
-commit_short o es number s stands calm is some = record {
-  of_session = refl;
-  says = (
-    NoMemory,
-    refl,
-    (
-      calm,
-      nobody_came s.session es,
-      λ none. some (wrote_so o es number s (map.entries s.state.written) stands calm refl is ∙ none),
-      refl,
-    ),
-  );
-  stands = stands_kept o es es number s Commit is tt (λ st. refl) stands (nobody_came s.session es);
-}
+  -- what the transaction has done is what it does with its commit
+  world_with : s.spoiled ≡ false → (run_on_view o (after_events o es) (entry_to number St)).world ≡ s.view.state.seen.world
+  world_with calm = world_to o es number St Commit is stands.first.0 stands.first.1 ∙ sym (stands.world calm)
 
-pub commit_starved : (o : Opened) (es es' : List Event) (number : ℕ) (s : Session) (written : List (Bytes × ℤ)) → StandsBefore (At o es) number s →
-    s.spoiled ≡ false → slice_get (commands_of o.script s.session) (number - 1) ≡ Some Commit → written ≡ map.entries s.state.written →
-    CommitSays o es es' (record_with number s written) ShortOfMemory → Replied o number es es' s Commit (NoMemory ∷ []) s
-commit_starved o es es' number s written stands calm is wrote says =
-    let end : es' ≡ es ++ says.others = says.events ∙ append-nil (es ++ says.others) in
-    let came : OthersCame s.session es es' = (says.others, says.are_others, end) in
-    record {
-      of_session = refl;
-      says = (
-        NoMemory,
-        refl,
-        (
-          calm,
-          came,
-          λ none. says.fits (wrote_when o es says.others number s written stands calm wrote is
-              ∙ ap (λ x. written_of (run_to_commit o x number (session_state s))) (sym end) ∙ none),
+  record_parts : record_of (entry_to number St) (setting_of o es St) (run_on_view o (after_events o es) (entry_to number St)).world ≡ record_to o es number St
+  unfolding record_on run_on_view
+  record_parts = refl
+
+  -- the record is that of the transaction
+  pub record_is : s.spoiled ≡ false → record_with number s ≡ record_to o es number St
+  record_is calm =
+      ap (λ x. record_of (entry_to number St) x s.view.state.seen.world) stands.setting
+      ∙ ap (record_of (entry_to number St) (setting_of o es St)) (sym (world_with calm))
+      ∙ record_parts
+
+  -- the same when events have come
+  pub record_when : (es' : List Event) → Extends es es' → s.spoiled ≡ false → record_with number s ≡ record_to o es' number St
+  record_when es' more calm =
+      record_is calm ∙ ap (record_on o (entry_to number St)) (sym (view_when o es es' s.number more stands.from stands.to))
+
+  pub recorded : s.spoiled ≡ false → IsRecorded (At o es) (record_with number s)
+  unfolding record_of
+  recorded calm = record {
+    of_script = record {
+      session = stands.session;
+      first = stands.begins;
+      order = stands.first.1;
+      last = is;
+      whole = entry_whole o number St Commit is stands.first.0 stands.first.1 tt stands.whole;
+    };
+    begins = record {
+      from = stands.from;
+      to = stands.to;
+      user = stands.user;
+      names = stands.names;
+      names_end = let end = stands.sound.next_bound in omega (arith, end, stands.drawn);
+    };
+    apart = stands.apart;
+    is = record_is calm;
+  }
+
+  pub commit_spoiled : s.spoiled ≡ true → Replied o number es es s Commit (Spoiled ∷ []) s
+  commit_spoiled spoiled = record {
+    of_session = refl;
+    says = (Spoiled, refl, (spoiled, refl, refl));
+    stands = stands_kept o es es number s Commit is tt refl stands (pass_others o s.session es es (nobody_came s.session es));
+  }
+
+  -- memory ran out, here or at the Stone
+  pub commit_short : (es' : List Event) → s.spoiled ≡ false → OthersCame s.session es es' → Replied o number es es' s Commit (NoMemory ∷ []) s
+  commit_short es' calm came = record {
+    of_session = refl;
+    says = (NoMemory, refl, (calm, came, refl));
+    stands = stands_kept o es es' number s Commit is tt refl stands (pass_others o s.session es es' came);
+  }
+
+  -- what others did before an answer that is no event
+  pub others_before : (es' : List Event) (answer : CommitAnswer) → event_of_answer (record_with number s) answer ≡ [] →
+      (says : CommitSays o es es' (record_with number s) answer) → OthersCame s.session es es' × (es' ≡ es ++ says.others)
+  others_before es' answer none says =
+      let end : es' ≡ es ++ says.others = says.events ∙ ap (λ x. (es ++ says.others) ++ x) none ∙ append-nil (es ++ says.others) in
+      let own = subst (λ (n : ℕ). events_of n says.others ≡ []) (session_is number s) says.are_others in
+      ((says.others, own, end), end)
+
+  pub commit_refused : (es' : List Event) (found : List Conflict) → s.spoiled ≡ false → CommitSays o es es' (record_with number s) (Conflicts found) →
+      Replied o number es es' s Commit (Refused found ∷ []) s
+  commit_refused es' found calm says =
+      let before = others_before es' (Conflicts found) refl says in
+      let came = before.0 in
+      let done = record_when es' (extends_by s.session es es' came) calm in
+      record {
+        of_session = refl;
+        says = (
+          Refused found,
           refl,
-        ),
-      );
-      stands = stands_kept o es es' number s Commit is tt (λ st. refl) stands came;
-    }
+          (
+            calm,
+            came,
+            λ none. says.fits.0 (subst IsUnchanged (sym done) none),
+            says.fits.1,
+            says.fits.2
+                ∙ ap (λ x. conflicts_at (after_events o x) (record_with number s)) (sym before.1)
+                ∙ ap (conflicts_at (after_events o es')) done,
+            refl,
+          ),
+        );
+        stands = stands_kept o es es' number s Commit is tt refl stands (pass_others o s.session es es' came);
+      }
 
-pub commit_refused : (o : Opened) (es es' : List Event) (number : ℕ) (s : Session) (written : List (Bytes × ℤ)) (found : List Conflict) →
-    StandsBefore (At o es) number s → s.spoiled ≡ false → slice_get (commands_of o.script s.session) (number - 1) ≡ Some Commit →
-    written ≡ map.entries s.state.written → CommitSays o es es' (record_with number s written) (Conflicts found) →
-    Replied o number es es' s Commit (Refused found ∷ []) s
-commit_refused o es es' number s written found stands calm is wrote says =
-    let end : es' ≡ es ++ says.others = says.events ∙ append-nil (es ++ says.others) in
-    let came : OthersCame s.session es es' = (says.others, says.are_others, end) in
-    record {
-      of_session = refl;
-      says = (
-        Refused found,
-        refl,
-        (
-          calm,
-          came,
-          λ none. says.fits.0 (wrote_when o es says.others number s written stands calm wrote is
-              ∙ ap (λ x. written_of (run_to_commit o x number (session_state s))) (sym end) ∙ none),
-          says.fits.1,
-          says.fits.2 ∙ ap (λ x. conflicts_found o x number (session_state s)) (sym end),
+  pub commit_unchanged : (es' es'' : List Event) (at : ℕ) (s' : Session) → s.spoiled ≡ false → CommitSays o es es' (record_with number s) (ReadOnly at) →
+      Begins o es' es'' (λ view. next_transaction St view number) s' → Replied o number es es'' s Commit (Unchanged at s'.number ∷ []) s'
+  commit_unchanged es' es'' at s' calm says begins =
+      let same = begins_session o es' es'' number s s' begins in
+      let came = (others_before es' (ReadOnly at) refl says).0 in
+      let sees : SeesNumber o s.session es' es'' s'.number = subst (λ (n : ℕ). SeesNumber o n es' es'' s'.number) same begins.sees in
+      let all : OthersCame s.session es es'' = came_and_came s.session es es' es'' came sees.0 in
+      record {
+        of_session = same;
+        says = (
+          Unchanged at s'.number,
           refl,
-        ),
-      );
-      stands = stands_kept o es es' number s Commit is tt (λ st. refl) stands came;
-    }
+          (
+            calm,
+            says.fits.1 ∙ view_is number s,
+            (all, sees.1),
+            subst IsUnchanged (record_when es'' (extends_by s.session es es'' all) calm) says.fits.0,
+            begins.carries,
+          ),
+        );
+        stands = begins_stands o es' es'' number s s' begins;
+      }
 
-pub commit_unchanged : (o : Opened) (es es' es'' : List Event) (number : ℕ) (s : Session) (written : List (Bytes × ℤ)) (at : ℕ) (s' : Session) →
-    StandsBefore (At o es) number s → s.spoiled ≡ false → slice_get (commands_of o.script s.session) (number - 1) ≡ Some Commit → written ≡ map.entries s.state.written →
-    CommitSays o es es' (record_with number s written) (ReadOnly at) → Begins o es' es'' (λ view. next_transaction (session_state s) view number) s' →
-    Replied o number es es'' s Commit (Unchanged at s'.view ∷ []) s'
-commit_unchanged o es es' es'' number s written at s' stands calm is wrote says begins =
-    let same = begins_session o es' es'' number s s' begins in
-    let came : OthersCame s.session es es' = (says.others, says.are_others, says.events ∙ append-nil (es ++ says.others)) in
-    let sees : SeesNumber o s.session es' es'' s'.view = subst (λ (n : ℕ). SeesNumber o n es' es'' s'.view) same begins.sees in
-    let all : OthersCame s.session es es'' = came_and_came s.session es es' es'' came sees.0 in
-    record {
-      of_session = same;
-      says = (
-        Unchanged at s'.view,
-        refl,
-        (
-          calm,
-          says.fits.1,
-          (all, sees.1),
-          sym (wrote_when o es all.0 number s written stands calm wrote is
-              ∙ ap (λ x. written_of (run_to_commit o x number (session_state s))) (sym all.2)) ∙ says.fits.0,
-          begins.carries,
-        ),
-      );
-      stands = begins_stands o es' es'' number s s' begins;
-    }
+  placed_events : (es' : List Event) (at : ℕ) → (says : CommitSays o es es' (record_with number s) (PlacedAt at)) →
+      es' ≡ (es ++ says.others) ++ (s.session, Placed (entry_to number St)) ∷ []
+  unfolding record_of
+  placed_events es' at says = says.events
 
-pub commit_placed : (o : Opened) (es es' es'' : List Event) (number : ℕ) (s : Session) (written : List (Bytes × ℤ)) (at : ℕ) (s' : Session) →
-    StandsBefore (At o es) number s → s.spoiled ≡ false → slice_get (commands_of o.script s.session) (number - 1) ≡ Some Commit → written ≡ map.entries s.state.written →
-    CommitSays o es es' (record_with number s written) (PlacedAt at) → Begins o es' es'' (λ view. next_transaction (session_state s) view number) s' →
-    Replied o number es es'' s Commit (Committed at s'.view ∷ []) s'
-commit_placed o es es' es'' number s written at s' stands calm is wrote says begins =
-    let same = begins_session o es' es'' number s s' begins in record {
-      of_session = same;
-      says = (
-        Committed at s'.view,
-        refl,
-        (
-          calm,
-          record {
-            others = says.others;
-            are_others = says.are_others;
-            written = λ none. says.fits.0 (wrote_when o es says.others number s written stands calm wrote is ∙ none);
-            no_conflict = says.fits.1;
-            number_is = says.fits.2;
-            sees = subst (λ x. SeesNumber o s.session x es'' s'.view) says.events
-                (subst (λ (n : ℕ). SeesNumber o n es' es'' s'.view) same begins.sees);
-          },
-          begins.carries,
-        ),
-      );
-      stands = begins_stands o es' es'' number s s' begins;
-    }
+  own_others : (es' : List Event) (answer : CommitAnswer) (says : CommitSays o es es' (record_with number s) answer) → events_of s.session says.others ≡ []
+  own_others es' answer says = subst (λ (n : ℕ). events_of n says.others ≡ []) (session_is number s) says.are_others
+
+  pub commit_placed : (es' es'' : List Event) (at : ℕ) (s' : Session) → s.spoiled ≡ false → CommitSays o es es' (record_with number s) (PlacedAt at) →
+      Begins o es' es'' (λ view. next_transaction St view number) s' → Replied o number es es'' s Commit (Committed at s'.number ∷ []) s'
+  commit_placed es' es'' at s' calm says begins =
+      let same = begins_session o es' es'' number s s' begins in
+      let done = record_when (es ++ says.others) (says.others, refl) calm in
+      record {
+        of_session = same;
+        says = (
+          Committed at s'.number,
+          refl,
+          (
+            calm,
+            record {
+              others = says.others;
+              are_others = own_others es' (PlacedAt at) says;
+              changed = λ none. says.fits.0 (subst IsUnchanged (sym done) none);
+              no_conflict = sym (ap (conflicts_at (after_events o (es ++ says.others))) done) ∙ says.fits.1;
+              number_is = says.fits.2;
+              sees = subst (λ x. SeesNumber o s.session x es'' s'.number) (placed_events es' at says)
+                  (subst (λ (n : ℕ). SeesNumber o n es' es'' s'.number) same begins.sees);
+            },
+            begins.carries,
+          ),
+        );
+        stands = begins_stands o es' es'' number s s' begins;
+      }
+
+  -- ---- the end of the transaction
+
+  -- the earlier entries of the session end before its next transaction, whose first command comes after this one
+  apart_next : AllByRecursion (EndedBefore s.session (number + 1)) es
+  apart_next = let first = stands.first.1 in apart_later s.session s.first_command (number + 1) es (omega (arith, first)) stands.apart
+
+  apart_placed : (es' : List Event) (at : ℕ) → CommitSays o es es' (record_with number s) (PlacedAt at) → AllByRecursion (EndedBefore s.session (number + 1)) es'
+  apart_placed es' at says =
+      let others = apart_of_others s.session (number + 1) says.others (own_others es' (PlacedAt at) says) in
+      subst (AllByRecursion (EndedBefore s.session (number + 1))) (sym (placed_events es' at says))
+      (apart_both s.session (number + 1) (es ++ says.others) ((s.session, Placed (entry_to number St)) ∷ [])
+      (apart_both s.session (number + 1) es says.others apart_next others) (λ is. omega arith, tt))
+
+  apart_unplaced : (es' : List Event) (at : ℕ) → CommitSays o es es' (record_with number s) (ReadOnly at) → AllByRecursion (EndedBefore s.session (number + 1)) es'
+  apart_unplaced es' at says = apart_when s.session (number + 1) es es' apart_next (others_before es' (ReadOnly at) refl says).0
+
+  -- all that the session's commits have drawn comes before its next name
+  names_unplaced : (es' : List Event) → OthersCame s.session es es' → next_counter (after_events o es') s.session ≤ s.view.state.seen.world.next
+  names_unplaced es' came =
+      let same = counter_when o s.session es es' came in omega (arith, same, stands.names, stands.drawn)
+
+  names_placed : (es' : List Event) (at : ℕ) → s.spoiled ≡ false → IsSerial (At o es') → CommitSays o es es' (record_with number s) (PlacedAt at)
+      → next_counter (after_events o es') s.session ≤ s.view.state.seen.world.next
+  names_placed es' at calm serial says =
+      let end = placed_events es' at says in
+      let drawn = next_of_placed o (es ++ says.others) s.session (entry_to number St) (subst (λ x. IsSerial (At o x)) end serial) in
+      let ran = ap (λ (r : Transaction). r.world.next) (run_when o es (es ++ says.others) number St (says.others, refl) stands.from stands.to) in
+      let same = ap (λ (w : World). w.next) (world_with calm) in
+      let here = ap (λ (x : List Event). next_counter (after_events o x) s.session) end in
+      omega (arith, drawn, ran, same, here)
+
+  ended_commit : EndsTransaction (slice_get (commands_of o.script s.session) (number - 1))
+  ended_commit = subst EndsTransaction (sym is) tt
+
+  -- where the transaction has ended, as far as the events tell
+  pub has_ended : (p q : PortState) → GoesOn s.session p q → p.told ≡ At o es → p.serves s.session ≡ true → CanServe o → IsCommandNumber number →
+      EndsTransaction (slice_get (commands_of o.script s.session) (number - 1)) →
+      AllByRecursion (EndedBefore s.session (number + 1)) q.told.events →
+      next_counter (after_events o q.told.events) s.session ≤ s.view.state.seen.world.next → HasEnded q number s
+  has_ended p q goes here serves opened low ended apart names =
+      let opened_is : q.told.opened ≡ o = goes.opened ∙ ap (λ (t : Told). t.opened) here in
+      let more : Extends es q.told.events = subst (λ x. Extends x q.told.events) (ap (λ (t : Told). t.events) here) goes.extends in
+      let grown = number_on o es q.told.events more in
+      let same = view_when o es q.told.events s.number more stands.from stands.to in
+      let with : HasEnded (record q { told = At o q.told.events }) number s = record {
+        serves = goes.serves s.session serves;
+        opened = opened;
+        session = stands.session;
+        serial = stands.serial;
+        numbered = low;
+        transaction = stands.transaction;
+        from = stands.from;
+        to = omega (arith, stands.to, grown);
+        user = subst (λ image. IsSome (user_at (objects_in image) s.view.state.seen.setting.user)) (sym same) stands.user;
+        ended = ended;
+        apart = apart;
+        names = names;
+        sound = stands.sound;
+      } in
+      subst (λ x. HasEnded (record q { told = At x q.told.events }) number s) (sym opened_is) with
+
+  -- the transaction has ended with its commit
+  pub commit_has_ended : (es' : List Event) (answer : CommitAnswer) → ends_transaction answer ≡ true → s.spoiled ≡ false → IsSerial (At o es') →
+      CommitSays o es es' (record_with number s) answer → AllByRecursion (EndedBefore s.session (number + 1)) es'
+      × (next_counter (after_events o es') s.session ≤ s.view.state.seen.world.next)
+  commit_has_ended es' (ReadOnly at) ends calm serial says =
+      (apart_unplaced es' at says, names_unplaced es' (others_before es' (ReadOnly at) refl says).0)
+  commit_has_ended es' (Conflicts found) ends calm serial says = absurd (true≢false (sym ends))
+  commit_has_ended es' (PlacedAt at) ends calm serial says = (apart_placed es' at says, names_placed es' at calm serial says)
+  commit_has_ended es' ShortOfMemory ends calm serial says = absurd (true≢false (sym ends))
+
+  -- a commit that ended its transaction
+  pub commit_ended : (es' es'' : List Event) (answer : CommitAnswer) (s' : Session) → ends_transaction answer ≡ true → s.spoiled ≡ false →
+      CommitSays o es es' (record_with number s) answer → Begins o es' es'' (λ view. next_transaction St view number) s' →
+      Replied o number es es'' s Commit (commit_line answer s'.number ∷ []) s'
+  commit_ended es' es'' (ReadOnly at) s' ends calm says begins = commit_unchanged es' es'' at s' calm says begins
+  commit_ended es' es'' (Conflicts found) s' ends calm says begins = absurd (true≢false (sym ends))
+  commit_ended es' es'' (PlacedAt at) s' ends calm says begins = commit_placed es' es'' at s' calm says begins
+  commit_ended es' es'' ShortOfMemory s' ends calm says begins = absurd (true≢false (sym ends))
+
+  -- a commit after which the transaction goes on
+  pub commit_goes_on : (es' : List Event) (answer : CommitAnswer) (view : ℕ) → ends_transaction answer ≡ false → s.spoiled ≡ false →
+      CommitSays o es es' (record_with number s) answer → Replied o number es es' s Commit (commit_line answer view ∷ []) s
+  commit_goes_on es' (ReadOnly at) view ends calm says = absurd (true≢false ends)
+  commit_goes_on es' (Conflicts found) view ends calm says = commit_refused es' found calm says
+  commit_goes_on es' (PlacedAt at) view ends calm says = absurd (true≢false ends)
+  commit_goes_on es' ShortOfMemory view ends calm says = commit_short es' calm (others_before es' ShortOfMemory refl says).0
+
+-- ---- aborts
 
 pub aborted : (o : Opened) (es es' : List Event) (number : ℕ) (s s' : Session) → Begins o es es' (λ view. next_transaction (session_state s) view number) s' →
-    Replied o number es es' s Abort (Aborted s'.view ∷ []) s'
+    Replied o number es es' s Abort (Aborted s'.number ∷ []) s'
 aborted o es es' number s s' begins =
     let same = begins_session o es es' number s s' begins in record {
       of_session = same;
       says = (
-        Aborted s'.view,
+        Aborted s'.number,
         refl,
         (
-          subst (λ (n : ℕ). SeesNumber o n es es' s'.view) same begins.sees,
+          subst (λ (n : ℕ). SeesNumber o n es es' s'.number) same begins.sees,
           begins.carries,
         ),
       );
       stands = begins_stands o es es' number s s' begins;
     }
 
--- the earlier entries of the session end before its next transaction, whose first command comes after this one
-pub apart_next : (es : List Event) (session first number : ℕ) → first ≤ number → AllByRecursion (EndedBefore session first) es →
-    AllByRecursion (EndedBefore session (number + 1)) es
-apart_next es session first number le apart = apart_later session first (number + 1) es (omega (arith, le)) apart
+-- the transaction ends with its abort
+pub abort_has_ended : (p : PortState) (number : ℕ) (s : Session) → ComesTo p number s Abort → HasEnded p number s
+abort_has_ended p number s comes =
+    let stands = comes.stands in
+    let first = stands.first.1 in
+    record {
+      serves = comes.serves;
+      opened = comes.opened;
+      session = stands.session;
+      serial = stands.serial;
+      numbered = comes.numbered;
+      transaction = stands.transaction;
+      from = stands.from;
+      to = stands.to;
+      user = stands.user;
+      ended = subst EndsTransaction (sym comes.command) tt;
+      apart = apart_later s.session s.first_command (number + 1) p.told.events (omega (arith, first)) stands.apart;
+      names = omega (arith, stands.names, stands.drawn);
+      sound = stands.sound;
+    }
 
--- so does the entry that was just placed
-pub apart_placed : (o : Opened) (es es' : List Event) (number : ℕ) (s : Session) (written : List (Bytes × ℤ)) (at : ℕ) → StandsBefore (At o es) number s →
-    CommitSays o es es' (record_with number s written) (PlacedAt at) → AllByRecursion (EndedBefore s.session (number + 1)) es'
-apart_placed o es es' number s written at stands says =
-    let before = apart_next es s.session s.first_command number stands.first.1 stands.apart in
-    let others = apart_of_others s.session (number + 1) says.others says.are_others in
-    subst (AllByRecursion (EndedBefore s.session (number + 1))) (sym says.events)
-    (apart_both s.session (number + 1) (es ++ says.others) ((s.session, Placed (entry_of (record_with number s written))) ∷ [])
-    (apart_both s.session (number + 1) es says.others before others) (λ is. omega arith, tt))
+-- ---- a commit that the Stone answered
 
-pub apart_unplaced : (o : Opened) (es es' : List Event) (number : ℕ) (s : Session) (written : List (Bytes × ℤ)) (at : ℕ) → StandsBefore (At o es) number s →
-    CommitSays o es es' (record_with number s written) (ReadOnly at) → AllByRecursion (EndedBefore s.session (number + 1)) es'
-apart_unplaced o es es' number s written at stands says =
-    apart_when o es es' s.session (number + 1) (apart_next es s.session s.first_command number stands.first.1 stands.apart)
-    (says.others, says.are_others, says.events ∙ append-nil (es ++ says.others))
+module _ (p q : PortState) (number : ℕ) (s : Session) (comes : ComesTo p number s Commit) (done : TxnRecord) (is : done ≡ record_with number s)
+    (answer : CommitAnswer) (calm : s.spoiled ≡ false) (goes : GoesOn done.session p q)
+    (says : CommitSays p.told.opened p.told.events q.told.events done answer) where
+  abbrev Says : Type 0
+  Says = CommitSays p.told.opened p.told.events q.told.events (record_with number s) answer
 
--- the earlier entries end before the next transaction, where the commit ended the one before it
-pub apart_ended : (o : Opened) (es es' : List Event) (number : ℕ) (s : Session) (written : List (Bytes × ℤ)) (answer : CommitAnswer) → ends_transaction answer ≡ true →
-    StandsBefore (At o es) number s → CommitSays o es es' (record_with number s written) answer → AllByRecursion (EndedBefore s.session (number + 1)) es'
-apart_ended o es es' number s written (ReadOnly at) ends stands says = apart_unplaced o es es' number s written at stands says
-apart_ended o es es' number s written (Conflicts found) ends stands says = absurd (true≢false (sym ends))
-apart_ended o es es' number s written (PlacedAt at) ends stands says = apart_placed o es es' number s written at stands says
-apart_ended o es es' number s written ShortOfMemory ends stands says = absurd (true≢false (sym ends))
+  pub says_as : Says
+  says_as = subst (λ x. CommitSays p.told.opened p.told.events q.told.events x answer) is says
 
--- a commit that ended its transaction
-pub commit_ended : (o : Opened) (es es' es'' : List Event) (number : ℕ) (s : Session) (written : List (Bytes × ℤ)) (answer : CommitAnswer) (s' : Session) → ends_transaction answer ≡ true →
-    StandsBefore (At o es) number s → s.spoiled ≡ false → slice_get (commands_of o.script s.session) (number - 1) ≡ Some Commit → written ≡ map.entries s.state.written →
-    CommitSays o es es' (record_with number s written) answer → Begins o es' es'' (λ view. next_transaction (session_state s) view number) s' →
-    Replied o number es es'' s Commit (commit_line answer s'.view ∷ []) s'
-commit_ended o es es' es'' number s written (ReadOnly at) s' ends stands calm is wrote says begins = commit_unchanged o es es' es'' number s written at s' stands calm is wrote says begins
-commit_ended o es es' es'' number s written (Conflicts found) s' ends stands calm is wrote says begins = absurd (true≢false (sym ends))
-commit_ended o es es' es'' number s written (PlacedAt at) s' ends stands calm is wrote says begins = commit_placed o es es' es'' number s written at s' stands calm is wrote says begins
-commit_ended o es es' es'' number s written ShortOfMemory s' ends stands calm is wrote says begins = absurd (true≢false (sym ends))
+  pub goes_as : GoesOn s.session p q
+  goes_as = subst (λ (n : ℕ). GoesOn n p q) (ap (λ (x : TxnRecord). x.session) is ∙ session_is number s) goes
 
--- a commit after which the transaction goes on
-pub commit_goes_on : (o : Opened) (es es' : List Event) (number : ℕ) (s : Session) (written : List (Bytes × ℤ)) (answer : CommitAnswer) (view : ℕ) → ends_transaction answer ≡ false →
-    StandsBefore (At o es) number s → s.spoiled ≡ false → slice_get (commands_of o.script s.session) (number - 1) ≡ Some Commit → written ≡ map.entries s.state.written →
-    CommitSays o es es' (record_with number s written) answer → Replied o number es es' s Commit (commit_line answer view ∷ []) s
-commit_goes_on o es es' number s written (ReadOnly at) view ends stands calm is wrote says = absurd (true≢false ends)
-commit_goes_on o es es' number s written (Conflicts found) view ends stands calm is wrote says = commit_refused o es es' number s written found stands calm is wrote says
-commit_goes_on o es es' number s written (PlacedAt at) view ends stands calm is wrote says = absurd (true≢false ends)
-commit_goes_on o es es' number s written ShortOfMemory view ends stands calm is wrote says = commit_starved o es es' number s written stands calm is wrote says
+  serial_as : IsSerial (At p.told.opened q.told.events)
+  serial_as = subst (λ x. IsSerial (At x q.told.events)) goes_as.opened goes_as.consistent.serial
+
+  -- the next transaction may begin
+  pub commit_next : ends_transaction answer ≡ true → HasEnded q number s
+  commit_next ends =
+      let o = p.told.opened in
+      let es = p.told.events in
+      let facts = commit_has_ended o es number s comes.stands comes.command q.told.events answer ends calm serial_as says_as in
+      has_ended o es number s comes.stands comes.command p q goes_as refl comes.serves comes.opened comes.numbered
+      (ended_commit o es number s comes.stands comes.command) facts.0 facts.1
+
+  pub replied_ended : (r : PortState) (s' : Session) → ends_transaction answer ≡ true
+      → Begins q.told.opened q.told.events r.told.events (λ view. next_transaction (session_state s) view number) s'
+      → Replied p.told.opened number p.told.events r.told.events s Commit (commit_line answer s'.number ∷ []) s'
+  replied_ended r s' ends begins = commit_ended p.told.opened p.told.events number s comes.stands comes.command q.told.events r.told.events answer s' ends calm says_as
+      (subst (λ o. Begins o q.told.events r.told.events (λ view. next_transaction (session_state s) view number) s') goes_as.opened begins)
+
+  pub replied_going_on : (view : ℕ) → ends_transaction answer ≡ false
+      → Replied p.told.opened number p.told.events q.told.events s Commit (commit_line answer view ∷ []) s
+  replied_going_on view stays = commit_goes_on p.told.opened p.told.events number s comes.stands comes.command q.told.events answer view stays calm says_as

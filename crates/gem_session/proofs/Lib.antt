@@ -1,10 +1,18 @@
 pub mod Others
+mod Apart
+mod Counters
+mod Images
+mod Passing
 mod Between
-mod Newest
+mod Lines
+mod Lookups
+mod Beginnings
 mod Steps
 mod Commits
-mod Faults
+mod Made
+mod LockTargets
+mod LockSteps
 mod Serving
 mod Refusals
 mod Logins
-mod Limits
+mod Unlocked

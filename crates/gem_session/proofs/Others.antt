@@ -1,9 +1,10 @@
 -- Events of others, one after the other, and calls one after the other.
-use Rattle.std.proofs.Common.{◌≡◌, ◌∙◌, refl, sym, ap, subst, ℕ, ◌≤◌, Bool, true, List, [], ◌++◌, append_assoc, append-nil, arith}
-use Rattle.gem_meaning.specs.Events.{Opened, Event, after_events, events_of, Extends, OthersCame}
+use Rattle.std.proofs.Common.{◌∙◌, refl, sym, ap, subst, ℕ, ◌≤◌, List, [], ◌++◌, append_assoc, append-nil, length, length-append, arith}
+use Rattle.gem_meaning.specs.Opened.{Opened}
+use Rattle.gem_meaning.specs.Events.{Event, after_events, Extends, OthersCame}
 use Rattle.gem_meaning.specs.Serial.{IsConsistent}
-use Rattle.gem_meaning.proofs.Stays.{none_of}
-use Rattle.gem_meaning.proofs.Views.{number_stays}
+use Rattle.gem_session.proofs.Apart.{none_of}
+use Rattle.history_laws.proofs.Views.{number_stays}
 use Rattle.stone_core.specs.Port.{PortState, GoesOn}
 
 pub nobody_came : (session : ℕ) (es : List Event) → OthersCame session es es
@@ -24,6 +25,9 @@ extends_by session xs ys came = (came.0, came.2)
 
 pub extends_twice : (xs ys zs : List Event) → Extends xs ys → Extends ys zs → Extends xs zs
 extends_twice xs ys zs one two = (one.0 ++ two.0, two.1 ∙ ap (λ es. es ++ two.0) one.1 ∙ append_assoc xs one.0 two.0)
+
+pub longer : (events all : List Event) → Extends events all → length events ≤ length all
+longer events all more = omega (arith, ap length more.1, length-append events more.0)
 
 pub number_on : (o : Opened) (es es' : List Event) → Extends es es' → (after_events o es).number ≤ (after_events o es').number
 number_on o es es' more = subst (λ x. (after_events o es).number ≤ (after_events o x).number) (sym more.1) (number_stays o es more.0)

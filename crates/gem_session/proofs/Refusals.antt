@@ -1,5 +1,5 @@
 -- The replies to commands where nobody is logged in.
-use Rattle.std.proofs.Common.{◌≡◌, ◌∙◌, refl, sym, ap, subst, ℕ, zero, suc, ◌+◌, ◌-◌, Some, None, Option, List, [], ◌∷◌, ◌++◌, length, take, drop, arith, length-append, inr}
+use Rattle.std.proofs.Common.{◌≡◌, ◌∙◌, refl, sym, ap, subst, ℕ, zero, suc, ◌+◌, ◌-◌, ◌≤◌, Some, None, List, [], ◌∷◌, ◌++◌, length, take, arith, length-append}
 use Rattle.std.specs.List.{slice_get}
 use Rattle.std.proofs.Math.Seq.{take-length}
 use Rattle.std.proofs.lemmas.List.{drop_all}
@@ -8,7 +8,9 @@ use Rattle.gem_replies.specs.declared.reply.Reply.{Reply}
 use Rattle.shell_words.specs.declared.script.Command.{Command}
 use Rattle.shell_words.specs.Script.{SessionCommands}
 use Rattle.gem_meaning.specs.Events.{Told, after_events, standing, events_of}
-use Rattle.gem_meaning.specs.Session.{user_in, until_logout, reply_with, not_logged_in, SeesNumber, SaysOf, Says, TellsLogin}
+use Rattle.gem_meaning.specs.Names.{user_in}
+use Rattle.gem_meaning.specs.Commits.{SeesNumber}
+use Rattle.gem_meaning.specs.Session.{until_logout, reply_with, not_logged_in, SaysOf, Says}
 
 plus_zero : (n : ℕ) → n ≡ n + 0
 plus_zero n = omega arith
@@ -40,21 +42,19 @@ pub counted_commands : (cs body : List Command) (c : Command) → cs ≡ body ++
 counted_commands cs body c is = sym (ap length is ∙ length-append body (c ∷ []))
 
 -- what a session says whose user may not log in
-pub refused : (t : Told) (session : ℕ) (script : SessionCommands) (view : ℕ) (rs : List Reply) → slice_get t.opened.script (session - 1) ≡ Some script → events_of session t.events ≡ [] → view ≡ (standing t).number
+pub refused : (t : Told) (session seen : ℕ) (script : SessionCommands) (view : ℕ) (rs : List Reply) → slice_get t.opened.script (session - 1) ≡ Some script → seen ≤ length t.events → events_of session t.events ≡ [] → view ≡ (standing t).number
     → user_in (standing t).image script.user ≡ None → rs ≡ reply_with 0 (NoUser view) ∷ not_logged_in 1 (length (until_logout script.commands))
-    → Says t session script rs
-refused t session script view rs of_script fresh view_is unknown is =
+    → Says t session seen script rs
+refused t session seen script view rs of_script saw fresh view_is unknown is =
     let front : take (length t.events) t.events ≡ t.events = take-length t.events in
     record {
       of_script = of_script;
       point = length t.events;
       view = view;
+      saw = saw;
       within = omega arith;
       sees = subst (λ x. SeesNumber t.opened session [] x view) (sym front) ((t.events, fresh, refl), view_is);
       says = subst (λ u. SaysOf u t session (length t.events) view (until_logout script.commands) rs)
           (sym (ap (λ x. user_in (after_events t.opened x).image script.user) front ∙ unknown))
           (record { refused = is; no_more = ap (events_of session) (drop_all (length t.events) t.events (omega arith)) });
     }
-
-pub tells_refusal : (view number : ℕ) (rs more : List Reply) → view ≡ number → rs ≡ reply_with 0 (NoUser view) ∷ more → TellsLogin number rs
-tells_refusal view number rs more same is = subst (TellsLogin number) (sym is) (inr (ap NoUser same))

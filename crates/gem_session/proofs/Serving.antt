@@ -1,8 +1,8 @@
 -- What a session has said so far, and how each reply adds to it.
-use Rattle.std.proofs.Common.{◌≡◌, ◌∙◌, refl, sym, ap, subst, ℕ, suc, ◌+◌, ◌-◌, ◌≤◌, ◌<◌, true, Some, List, [], ◌∷◌, ◌++◌, take, drop, length, arith, get_or, inl}
+use Rattle.std.proofs.Common.{◌≡◌, ◌∙◌, refl, sym, ap, subst, ℕ, suc, ◌+◌, ◌-◌, ◌≤◌, ◌<◌, true, Some, List, [], ◌∷◌, ◌++◌, take, drop, length, arith, get_or}
 use Rattle.std.specs.List.{prefix_len, slice_get}
 use Rattle.std.proofs.Math.Seq.{take-append_seam, take-length}
-use Rattle.std.proofs.lemmas.List.{append-nil, append_assoc, drop_more, drop_all, length-append, get_or-take}
+use Rattle.std.proofs.lemmas.List.{append_assoc, drop_more, drop_all, get_or-take}
 use Rattle.std.proofs.lemmas.Option.{get_or_from_slice_get, slice_get_read}
 use Rattle.std.proofs.lemmas.List.Folds.{length-prefix_len}
 use Rattle.std.proofs.lemmas.List.Sums.{prefix_len_passes}
@@ -12,11 +12,19 @@ use Rattle.gem_replies.specs.declared.reply.Line.TheVariants.{Login, Logout as L
 use Rattle.gem_replies.specs.declared.reply.Reply.{Reply}
 use Rattle.shell_words.specs.declared.script.Command.{Command}
 use Rattle.shell_words.specs.declared.script.Command.TheVariants.{Chunk, Method, Commit, Abort, Logout, Lock, Unlock}
-use Rattle.gem_meaning.specs.Events.{Opened, Event, Told, after_events, standing, commands_or_none, commands_of, events_of, Extends, OthersCame}
-use Rattle.gem_meaning.specs.Session.{SessionState, user_in, first_transaction, CommandSays, SeesNumber, CommandsSay, SaysOf, Says, until_logout, reply_with, replies_with, TellsLogin}
+use Rattle.gem_meaning.specs.Opened.{Opened, commands_or_none, commands_of}
+use Rattle.gem_meaning.specs.Events.{Event, Told, after_events, events_of, Extends}
+use Rattle.gem_meaning.specs.Names.{user_in}
+use Rattle.gem_meaning.specs.State.{SessionState, first_transaction}
+use Rattle.gem_meaning.specs.Commits.{SeesNumber}
+use Rattle.gem_meaning.specs.Session.{CommandSays, CommandsSay, SaysOf, Says, until_logout, reply_with, replies_with}
+use Rattle.gem_meaning.specs.Locks.{LogsOut, leaving}
+use Rattle.gem_meaning.specs.Serial.{CanServe}
+use Rattle.profile.specs.declared.limits.TheConstants.{COMMAND_LIMIT}
+use Rattle.stone_core.specs.Port.{PortState, GoesOn, LogoutSays}
 use Rattle.gem_session.specs.declared.session.Session.{Session}
-use Rattle.gem_session.specs.Running.{session_state, StandsBefore, HasLoggedIn, goes_on, Replied}
-use Rattle.gem_session.proofs.Others.{extends_twice, nothing_later}
+use Rattle.gem_session.specs.Running.{session_state, StandsBefore, ComesTo, HasLoggedIn, goes_on, Replied}
+use Rattle.gem_session.proofs.Others.{extends_twice, longer, goes_on_twice}
 
 one_more : (n : ℕ) (c : Command) (cs : List Command) → take (1 + n) (c ∷ cs) ≡ c ∷ take n cs
 one_more n c cs =
@@ -54,10 +62,15 @@ Leads o start events body i first now said = (all : List Event) (q : ℕ) (rest 
     CommandsSay (record { opened = o; events = all }) (i + 1) (length events) q now (drop i body ++ Logout ∷ []) rest →
     CommandsSay (record { opened = o; events = all }) 1 (length start) q first (body ++ Logout ∷ []) (said ++ rest)
 
+-- the session with this number logged out
+abbrev LogsOutAs : Opened → (number : ℕ) → (before after : List Event) → SessionState → (session : ℕ) → Type 0
+LogsOutAs o number before after s session =
+    LogsOut (record { opened = o; number = number; before = before; after = after }) (record s { session = session })
+
 -- Where a session stands that has replied to the first i commands.
 pub record HasServed (o : Opened) (start events : List Event) (body : List Command) (i : ℕ) (first s : Session) (rs : List Reply) : Type 0 where
   pub said : List Reply
-  pub login : rs ≡ reply_with 0 (Login first.view) ∷ said
+  pub login : rs ≡ reply_with 0 (Login first.number) ∷ said
   pub of_session : s.session ≡ first.session
   pub stands : StandsBefore (record { opened = o; events = events }) (i + 1) s
   pub leads : Leads o start events body i (session_state first) (session_state s) said
@@ -65,11 +78,8 @@ pub record HasServed (o : Opened) (start events : List Event) (body : List Comma
 seen_so_far : (events all : List Event) → Extends events all → take (length events) all ≡ events
 seen_so_far events all more = ap (take (length events)) more.1 ∙ take-append_seam events more.0
 
-longer : (events all : List Event) → Extends events all → length events ≤ length all
-longer events all more = omega (arith, ap length more.1, length-append events more.0)
-
 pub nothing_served : (t : Told) (script : SessionCommands) (body : List Command) (s : Session) (rs : List Reply) → HasLoggedIn t script s →
-    rs ≡ reply_with 0 (Login s.view) ∷ [] → HasServed t.opened t.events t.events body 0 s s rs
+    rs ≡ reply_with 0 (Login s.number) ∷ [] → HasServed t.opened t.events t.events body 0 s s rs
 nothing_served t script body s rs logged_in is = record {
   said = [];
   login = is;
@@ -78,26 +88,26 @@ nothing_served t script body s rs logged_in is = record {
   leads = λ all q rest more says. says;
 }
 
-pub one_served : (o : Opened) (start events events' : List Event) (body : List Command) (i : ℕ) (first s s' : Session) (rs : List Reply) (c : Command) (line : Line) →
+pub one_served : (o : Opened) (start events events' : List Event) (body : List Command) (i : ℕ) (first s s' : Session) (rs : List Reply) (c : Command) (lines : List Line) →
     slice_get body i ≡ Some c → i < length body → HasServed o start events body i first s rs → Extends events events' →
-    Replied o (i + 1) events events' s c (line ∷ []) s' → HasServed o start events' body (i + 1) first s' (rs ++ reply_with (i + 1) line ∷ [])
-one_served o start events events' body i first s s' rs c line is lt served grew replied = record {
-  said = served.said ++ reply_with (i + 1) line ∷ [];
-  login = ap (λ xs. xs ++ reply_with (i + 1) line ∷ []) served.login;
+    Replied o (i + 1) events events' s c lines s' → HasServed o start events' body (i + 1) first s' (rs ++ replies_with (i + 1) lines)
+one_served o start events events' body i first s s' rs c lines is lt served grew replied = record {
+  said = served.said ++ replies_with (i + 1) lines;
+  login = ap (λ xs. xs ++ replies_with (i + 1) lines) served.login;
   of_session = replied.of_session ∙ served.of_session;
   stands = replied.stands;
   leads = λ all q rest more says.
       let whole : Extends events all = extends_twice events events' all grew more in
       let here : drop i body ≡ c ∷ drop (i + 1) body = drop_more body i c lt ∙ ap (λ x. x ∷ drop (i + 1) body) (get_or_from_slice_get body i c c is) in
-      let said : CommandSays (record { opened = o; number = i + 1; before = take (length events) all; after = take (length events') all }) (session_state s) c (line ∷ []) (session_state s') =
-      subst (λ x. CommandSays (record { opened = o; number = i + 1; before = x; after = take (length events') all }) (session_state s) c (line ∷ []) (session_state s')) (sym (seen_so_far events all whole))
-      (subst (λ x. CommandSays (record { opened = o; number = i + 1; before = events; after = x }) (session_state s) c (line ∷ []) (session_state s')) (sym (seen_so_far events' all more)) replied.says) in
-      let these : CommandsSay (record { opened = o; events = all }) (i + 1) (length events) q (session_state s) (drop i body ++ Logout ∷ []) (reply_with (i + 1) line ∷ rest) =
-      subst (λ x. CommandsSay (record { opened = o; events = all }) (i + 1) (length events) q (session_state s) (x ++ Logout ∷ []) (reply_with (i + 1) line ∷ rest)) (sym here)
+      let said : CommandSays (record { opened = o; number = i + 1; before = take (length events) all; after = take (length events') all }) (session_state s) c lines (session_state s') =
+      subst (λ x. CommandSays (record { opened = o; number = i + 1; before = x; after = take (length events') all }) (session_state s) c lines (session_state s')) (sym (seen_so_far events all whole))
+      (subst (λ x. CommandSays (record { opened = o; number = i + 1; before = events; after = x }) (session_state s) c lines (session_state s')) (sym (seen_so_far events' all more)) replied.says) in
+      let these : CommandsSay (record { opened = o; events = all }) (i + 1) (length events) q (session_state s) (drop i body ++ Logout ∷ []) (replies_with (i + 1) lines ++ rest) =
+      subst (λ x. CommandsSay (record { opened = o; events = all }) (i + 1) (length events) q (session_state s) (x ++ Logout ∷ []) (replies_with (i + 1) lines ++ rest)) (sym here)
       (record {
         point = length events';
         next = session_state s';
-        lines = line ∷ [];
+        lines = lines;
         more = rest;
         from = longer events events' grew;
         within = longer events' all more;
@@ -106,54 +116,65 @@ one_served o start events events' body i first s s' rs c line is lt served grew 
         rest = says;
       }) in
       subst (λ x. CommandsSay (record { opened = o; events = all }) 1 (length start) q (session_state first) (body ++ Logout ∷ []) x)
-      (sym (append_assoc served.said (reply_with (i + 1) line ∷ []) rest))
-      (served.leads all q (reply_with (i + 1) line ∷ rest) whole these);
+      (sym (append_assoc served.said (replies_with (i + 1) lines) rest))
+      (served.leads all q (replies_with (i + 1) lines ++ rest) whole these);
 }
 
 -- all that the session says, with its logout
-pub all_served : (t : Told) (events : List Event) (script : SessionCommands) (body : List Command) (i : ℕ) (first s : Session) (rs : List Reply) (now : Told) →
+pub all_served : (t : Told) (events events' : List Event) (script : SessionCommands) (body : List Command) (i : ℕ) (first s : Session) (rs : List Reply) (now : Told) →
     HasLoggedIn t script first → until_logout script.commands ≡ body ++ Logout ∷ [] → length body ≤ i → Extends t.events events →
-    now ≡ record { opened = t.opened; events = events } → HasServed t.opened t.events events body i first s rs →
-    Says now first.session script (rs ++ reply_with (i + 1) LoggedOut ∷ [])
-all_served t events script body i first s rs now logged_in until over grew now_is served =
+    LogoutSays t.opened events events' first.session →
+    now ≡ record { opened = t.opened; events = events' } → HasServed t.opened t.events events body i first s rs →
+    Says now first.session (length t.events) script (rs ++ reply_with (i + 1) LoggedOut ∷ [])
+all_served t events events' script body i first s rs now logged_in until over grew left now_is served =
     let o = t.opened in
     let out : Reply = reply_with (i + 1) LoggedOut in
-    let at_end : CommandsSay (record { opened = o; events = events }) (i + 1) (length events) (length events) (session_state s) (Logout ∷ []) (out ∷ []) = record {
-      point = length events;
+    let later : Extends events events' = (left.others ++ leaving left.holds first.session, left.events ∙ append_assoc events left.others (leaving left.holds first.session)) in
+    let whole : Extends t.events events' = extends_twice t.events events events' grew later in
+    let went : LogsOut (record { opened = o; number = i + 1; before = events; after = events' }) (session_state s) =
+    subst (λ (n : ℕ). LogsOutAs o (i + 1) events events' (session_state s) n) (sym served.of_session) (record {
+      others = left.others;
+      are_others = left.are_others;
+      holds = left.holds;
+      after = left.events;
+      exactly = left.exactly;
+    }) in
+    let here : LogsOut (record { opened = o; number = i + 1; before = take (length events) events'; after = take (length events') events' }) (session_state s) =
+    subst (λ x. LogsOut (record { opened = o; number = i + 1; before = x; after = take (length events') events' }) (session_state s)) (sym (seen_so_far events events' later))
+    (subst (λ x. LogsOut (record { opened = o; number = i + 1; before = events; after = x }) (session_state s)) (sym (take-length events')) went) in
+    let at_end : CommandsSay (record { opened = o; events = events' }) (i + 1) (length events) (length events') (session_state s) (Logout ∷ []) (out ∷ []) = record {
+      point = length events';
       next = session_state s;
       lines = LoggedOut ∷ [];
       more = [];
-      from = omega arith;
+      from = longer events events' later;
       within = omega arith;
       replies = refl;
-      says = (LoggedOut, refl, (refl, refl, refl));
+      says = (LoggedOut, refl, (refl, here, refl));
       rest = (refl, refl);
     } in
-    let front : take (length t.events) events ≡ t.events = seen_so_far t.events events grew in
-    let says = served.leads events (length events) (out ∷ []) (nothing_later events)
-    (subst (λ x. CommandsSay (record { opened = o; events = events }) (i + 1) (length events) (length events) (session_state s) (x ++ Logout ∷ []) (out ∷ [])) (sym (drop_all i body over)) at_end) in
-    subst (λ (x : Told). Says x first.session script (rs ++ out ∷ [])) (sym now_is) (record {
+    let front : take (length t.events) events' ≡ t.events = seen_so_far t.events events' whole in
+    let says = served.leads events' (length events') (out ∷ []) later
+    (subst (λ x. CommandsSay (record { opened = o; events = events' }) (i + 1) (length events) (length events') (session_state s) (x ++ Logout ∷ []) (out ∷ [])) (sym (drop_all i body over)) at_end) in
+    subst (λ (x : Told). Says x first.session (length t.events) script (rs ++ out ∷ [])) (sym now_is) (record {
       of_script = logged_in.of_script;
       point = length t.events;
-      view = first.view;
-      within = longer t.events events grew;
-      sees = subst (λ x. SeesNumber o first.session [] x first.view) (sym front) ((t.events, logged_in.fresh, refl), logged_in.view);
-      says = subst (λ u. SaysOf u (record { opened = o; events = events }) first.session (length t.events) first.view (until_logout script.commands) (rs ++ out ∷ []))
+      view = first.number;
+      saw = omega arith;
+      within = longer t.events events' whole;
+      sees = subst (λ x. SeesNumber o first.session [] x first.number) (sym front) ((t.events, logged_in.fresh, refl), logged_in.view);
+      says = subst (λ u. SaysOf u (record { opened = o; events = events' }) first.session (length t.events) first.number (until_logout script.commands) (rs ++ out ∷ []))
           (sym (ap (λ x. user_in (after_events o x).image script.user) front ∙ logged_in.user))
           (record {
             replies = served.said ++ out ∷ [];
-            end = length events;
+            end = length events';
             login = ap (λ xs. xs ++ out ∷ []) served.login;
             within = omega arith;
-            says = subst (λ cs. CommandsSay (record { opened = o; events = events }) 1 (length t.events) (length events) (first_transaction first.session first.user first.view) cs (served.said ++ out ∷ [])) (sym until)
-                (subst (λ x. CommandsSay (record { opened = o; events = events }) 1 (length t.events) (length events) x (body ++ Logout ∷ []) (served.said ++ out ∷ [])) logged_in.carries says);
-            no_more = ap (events_of first.session) (drop_all (length events) events (omega arith));
+            says = subst (λ cs. CommandsSay (record { opened = o; events = events' }) 1 (length t.events) (length events') (first_transaction first.session first.view.state.seen.setting.user first.number) cs (served.said ++ out ∷ [])) (sym until)
+                (subst (λ x. CommandsSay (record { opened = o; events = events' }) 1 (length t.events) (length events') x (body ++ Logout ∷ []) (served.said ++ out ∷ [])) logged_in.carries says);
+            no_more = ap (events_of first.session) (drop_all (length events') events' (omega arith));
           });
     })
-
--- the login tells the view
-pub tells_login : (view : ℕ) (said more : List Reply) (rs : List Reply) → rs ≡ reply_with 0 (Login view) ∷ said → TellsLogin view (rs ++ more)
-tells_login view said more rs is = subst (λ x. TellsLogin view (x ++ more)) (sym is) (inl refl)
 
 -- the commands before the first logout are a front of all
 pub front_of : (cs body : List Command) → body ≡ take (prefix_len goes_on cs) cs → body ≡ take (length body) cs
@@ -169,3 +190,28 @@ goes_on_at cs body i c is lt read =
     let here : c ≡ get_or cs i c =
     read ∙ ap (λ x. get_or x i c) is ∙ get_or-take (prefix_len goes_on cs) cs i c (omega (arith, lt, size)) in
     ap goes_on here ∙ prefix_len_passes goes_on cs i c (omega (arith, lt, size))
+
+-- the session comes to its next command
+pub comes_next : (p q : PortState) (script : SessionCommands) (commands body : List Command) (i number : ℕ) (first s : Session) (rs : List Reply) (c : Command) →
+    p.serves first.session ≡ true → CanServe p.told.opened → HasLoggedIn p.told script first → GoesOn first.session p q → number ≡ i →
+    HasServed p.told.opened p.told.events q.told.events body i first s rs → commands ≡ script.commands → length commands < COMMAND_LIMIT →
+    body ≡ take (length body) commands → i < length body → length body ≤ length commands → c ≡ get_or body i c → ComesTo q (number + 1) s c
+comes_next p q script commands body i number first s rs c serves opened logged_in goes counted served whole few prefix lt le read =
+    let place : number + 1 - 1 ≡ i = omega (arith, counted) in
+    let at : slice_get (commands_of p.told.opened.script first.session) i ≡ Some c =
+    command_at p.told.opened first.session script commands body i c logged_in.of_script whole prefix lt le read in
+    record {
+      serves = subst (λ (n : ℕ). q.serves n ≡ true) (sym served.of_session) (goes.serves first.session serves);
+      opened = subst CanServe (sym goes.opened) opened;
+      consistent = goes.consistent;
+      stands = subst (λ o. StandsBefore (record { opened = o; events = q.told.events }) (number + 1) s) (sym goes.opened)
+          (subst (λ (n : ℕ). StandsBefore (record { opened = p.told.opened; events = q.told.events }) (n + 1) s) (sym counted) served.stands);
+      numbered = (omega arith, omega (arith, counted, lt, le, few));
+      command = subst (λ (o : Opened). slice_get (commands_of o.script s.session) (number + 1 - 1) ≡ Some c) (sym goes.opened)
+          (subst (λ (n : ℕ). slice_get (commands_of p.told.opened.script n) (number + 1 - 1) ≡ Some c) (sym served.of_session)
+          (subst (λ (n : ℕ). slice_get (commands_of p.told.opened.script first.session) n ≡ Some c) (sym place) at));
+    }
+
+-- a session's calls after those for the session that it was
+pub goes_on_as : (session other : ℕ) (p q r : PortState) → other ≡ session → GoesOn session p q → GoesOn other q r → GoesOn session p r
+goes_on_as session other p q r same one two = goes_on_twice session p q r one (subst (λ (n : ℕ). GoesOn n q r) same two)

@@ -4,8 +4,13 @@
 //! Runs one session's commands against a Stone and says what it replies.
 #![tactic(auto)]
 
+mod answer;
+pub mod laws;
+mod names;
 mod run;
 mod running;
 mod session;
+mod targets;
+mod transaction;
 
 pub use run::run_session;

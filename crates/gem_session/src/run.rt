@@ -1,35 +1,38 @@
 //! A session from its login to its logout.
-ghost use Rattle.std.specs.Prelude.{◌≡◌, ℕ, ◌+◌, ◌-◌, ◌≤◌, [], ◌∷◌, ◌++◌, true, None, Some, IfOk, length, take};
+ghost use Rattle.std.specs.Prelude.{◌≡◌, ℕ, ◌+◌, ◌-◌, ◌≤◌, [], ◌∷◌, ◌++◌, true, Some, IfOk, length, take};
 ghost use Rattle.std.specs.List.{prefix_len, slice_get};
 ghost use Rattle.shell_words.specs.declared.script.Command.TheVariants.{Logout};
-ghost use Rattle.gem_meaning.specs.Events.{base_serial, standing, events_of};
-ghost use Rattle.gem_meaning.specs.Session.{user_in, until_logout, reply_with, not_logged_in, Says, TellsLogin, LogsIn};
-ghost use Rattle.gem_meaning.specs.Legal.{IsTranscript};
-ghost use Rattle.gem_meaning.specs.Serial.{IsConsistent};
 ghost use Rattle.gem_replies.specs.declared.reply.Line.TheVariants.{NoUser};
+ghost use Rattle.gem_meaning.specs.Opened.{session_serial};
+ghost use Rattle.gem_meaning.specs.Events.{standing, events_of};
+ghost use Rattle.gem_meaning.specs.Serial.{CanServe, IsConsistent};
+ghost use Rattle.gem_meaning.specs.Session.{until_logout, reply_with, not_logged_in, Says};
 ghost use Rattle.stone_core.specs.Port.{GoesOn};
-ghost use Rattle.gem_session.specs.Running.{goes_on, HasLoggedIn};
+ghost use Rattle.gem_session.specs.Running.{goes_on, HoldsNone, Arrives, HasLoggedIn, IsTranscriptSince};
 
+use crate::names::user_in;
 use crate::session::Session;
 use gem_replies::{Line, Replies, Reply, Transcript};
-use gem_value::{Image, Oid};
-use profile::{DATA_CURATOR_COUNTER, KERNEL_SERIAL};
 use shell_words::{Command, SessionScript};
 use std::alloc::{AllocError, Global};
 use stone_core::StonePort;
-use texts::Text;
 
 /// Runs the session with this number to its end: a login, its commands up to the first logout, and
 /// a logout, also where the script has none. The transcript has its replies. Where the image has no
 /// such user, each command is refused.
 ///
-/// The session has no event yet, and the script is the one that the port has for it. `serial` is
-/// that of the objects that the session makes.
+/// The Stone was opened with what can be served, the session has no event yet, and the script is
+/// the one that the port has for it. `serial` is that of the objects that the session makes. In any
+/// case the session holds no lock afterwards.
+///
+/// Chunks take a stack of their own depth: who calls this provides a thread with stack for 2,000
+/// activations, about 34 MB and more for deep texts; the tests take 256 MB. Nothing is proved of
+/// it.
 ///
 /// # Errors
 ///
 /// `AllocError` where memory ran out for the replies, or where a transaction could not be begun.
-/// What the session has committed by then stays.
+/// What the session has committed by then stays, and its locks are given back.
 pub fn run_session<P: StonePort>(
     alloc: Global,
     port: &mut P,
@@ -37,19 +40,16 @@ pub fn run_session<P: StonePort>(
     serial: u32,
     script: &SessionScript,
 ) -> Result<Transcript, AllocError>
-    requires serves { (P.state port.old).serves session ≡ true }
-    requires fresh { events_of session (P.state port.old).told.events ≡ [] }
-    requires session { (1 ≤ session) × (session ≤ length (P.state port.old).told.opened.script) }
-    requires serial { serial ≡ base_serial (P.state port.old).told.opened + session - 1 }
-    requires script { slice_get (P.state port.old).told.opened.script (session - 1)
-        ≡ Some script.now }
-    ensures transcript { IfOk result (λ transcript.
-        IsTranscript (P.state port.new).told session script.now transcript) }
-    ensures login { IfOk result (λ transcript. LogsIn (P.state port.old).told.opened session
-        (P.state port.old).told.events (P.state port.new).told.events transcript.replies) }
+    requires arrives { Arrives (P.state port.old) session serial script.now }
+    ensures says { IfOk result (λ transcript. IsTranscriptSince (P.state port.new).told session
+        (length (P.state port.old).told.events) script.now transcript) }
+    ensures unlocked { HoldsNone (P.state port.new).told session }
     ensures port { GoesOn session (P.state port.old) (P.state port.new) }
 {
-    let replies = all_replies(alloc, port, session, script)?;
+    let Ok(replies) = all_replies(alloc, port, session, serial, script) else {
+        port.logout(session);
+        return Err(AllocError);
+    };
     Ok(Transcript {
         session,
         user: script.user().clone()?,
@@ -62,23 +62,19 @@ fn all_replies<P: StonePort>(
     alloc: Global,
     port: &mut P,
     session: u32,
+    serial: u32,
     script: &SessionScript,
 ) -> Result<Vec<Reply>, AllocError>
-    requires serves { (P.state port.old).serves session ≡ true }
-    requires fresh { events_of session (P.state port.old).told.events ≡ [] }
-    requires session { (1 ≤ session) × (session ≤ length (P.state port.old).told.opened.script) }
-    requires script { slice_get (P.state port.old).told.opened.script (session - 1)
-        ≡ Some script.now }
-    ensures says { IfOk result
-        (λ replies. Says (P.state port.new).told session script.now replies.items) }
-    ensures login { IfOk result (λ replies. LogsIn (P.state port.old).told.opened session
-        (P.state port.old).told.events (P.state port.new).told.events replies.items) }
+    requires arrives { Arrives (P.state port.old) session serial script.now }
+    ensures says { IfOk result (λ replies. Says (P.state port.new).told session
+        (length (P.state port.old).told.events) script.now replies.items) }
+    ensures unlocked { IfOk result (λ replies. HoldsNone (P.state port.new).told session) }
     ensures port { GoesOn session (P.state port.old) (P.state port.new) }
 {
     let begun = port.begin(session)?;
-    match user_in(&begun.image, script.user()) {
+    match user_in(&begun.image, script.user())? {
         Some(user) => {
-            let running = Session::login(alloc, session, user, begun);
+            let running = Session::login(alloc, session, serial, user, begun)?;
             let replies = serve(alloc, port, running, script)?;
             Ok(replies)
         }
@@ -86,18 +82,6 @@ fn all_replies<P: StonePort>(
             let replies = refuse(alloc, begun.number, script)?;
             Ok(replies)
         }
-    }
-}
-
-// The object of the user with this name, who may log in where this image stands: in this stage one
-// user, whose profile the kernel has.
-fn user_in(_image: &Image, name: &Text) -> Option<Oid>
-    ensures { result ≡ user_in _image.now name.now }
-{
-    if name.bytes() == b"DataCurator".as_slice() {
-        Some(Oid::from_parts(KERNEL_SERIAL, DATA_CURATOR_COUNTER))
-    } else {
-        None
     }
 }
 
@@ -109,29 +93,28 @@ fn serve<P: StonePort>(
     script: &SessionScript,
 ) -> Result<Vec<Reply>, AllocError>
     requires serves { (P.state port.old).serves running.session ≡ true }
+    requires opened { CanServe (P.state port.old).told.opened }
     requires consistent { IsConsistent (P.state port.old).told }
     requires logged_in { HasLoggedIn (P.state port.old).told script.now running }
-    ensures says { IfOk result (λ replies.
-        Says (P.state port.new).told running.session script.now replies.items) }
-    ensures tells { IfOk result (λ replies.
-        TellsLogin (standing (P.state port.old).told).number replies.items) }
+    ensures says { IfOk result (λ replies. Says (P.state port.new).told running.session
+        (length (P.state port.old).told.events) script.now replies.items) }
+    ensures unlocked { IfOk result
+        (λ replies. HoldsNone (P.state port.new).told running.session) }
     ensures port { GoesOn running.session (P.state port.old) (P.state port.new) }
 {
     let mut running = running;
     let mut replies = Vec::new(alloc);
     replies.push(Reply {
         command: 0,
-        line: Line::Login(running.view),
+        line: Line::Login(running.number),
     })?;
     let mut number = 0;
     for command in before_logout(script.commands()) {
         number += 1;
-        let line = running.reply(alloc, port, number, command)?;
-        replies.push(Reply {
-            command: number,
-            line,
-        })?;
+        let answer = running.reply(alloc, port, number, command)?;
+        answer.push(&mut replies, number)?;
     }
+    port.logout(running.session);
     replies.push(Reply {
         command: number + 1,
         line: Line::Logout,

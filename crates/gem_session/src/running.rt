@@ -1,98 +1,48 @@
-//! What a chunk and a method do within a transaction, and what they reply.
-ghost use Rattle.std.specs.Prelude.{◌≡◌, ◌<◌, ◌^◌, [], ◌∷◌, Bool, true, IfOk, length};
-ghost use Rattle.texts.specs.Bytes.{Bytes};
-ghost use Rattle.shell_words.specs.Script.{HasShortText};
-ghost use Rattle.gem_meaning.specs.State.{State};
-ghost use Rattle.gem_meaning.specs.Transaction.{ended_line, run_tree, run_chunk, run_method, run_command, is_run};
+//! What a chunk and a method do within a transaction, and what they answer.
+ghost use Rattle.std.specs.Prelude.{◌≡◌, true, IfOk};
+ghost use Rattle.gem_meaning.specs.Commands.{object_command, is_run};
+ghost use Rattle.plain_state.specs.State.{with_whole_budget};
+ghost use Rattle.running_objects.specs.Seen.{Keeps};
+ghost use Rattle.gem_session.specs.Answer.{lines_of, MeantBy, EvaluatedBy};
 
-use gem_meaning::{EvaluationError, PlainState, is_chunk, plain_run};
-use gem_replies::Line;
+use crate::answer::Answer;
+use session_view::View;
 use shell_words::Command;
-use st_parser::{ParseFault, parse_chunk, parse_method};
-use st_tree::Tree;
+use st_plain::{Reply, install_source, run_text};
 use std::alloc::{AllocError, Global};
-use texts::Text;
 
-/// Runs a chunk or a method, and gives its reply.
+/// Runs a chunk or a method with a whole budget, and gives the answer to it.
 ///
 /// # Errors
 ///
-/// `AllocError` where memory ran out. Nothing is said of the state then.
+/// `AllocError` where memory ran out. What has become of the objects isn't said then.
 pub(crate) fn run_command(
     alloc: Global,
-    state: &mut PlainState,
+    view: &mut View,
     command: &Command,
-) -> Result<Line, AllocError>
+) -> Result<Answer, AllocError>
     requires runs { is_run command.now ≡ true }
-    requires short { HasShortText command.now }
-    ensures { IfOk result (λ line. (line ∷ [], state.new) ≡ run_command command.now state.old) }
+    ensures keeps { Keeps (with_whole_budget view.old.state.seen) view.new.state.seen }
+    ensures says { IfOk result (λ answer. MeantBy (object_command command.now) view.old.state.seen
+        (lines_of answer) view.new.state.seen) }
+{
+    view.begin_chunk();
+    let reply = evaluate(alloc, view, command)?;
+    Answer::to_run(alloc, view.transcript(), reply)
+}
+
+// Runs a chunk or a method with the budget at hand.
+fn evaluate(alloc: Global, view: &mut View, command: &Command) -> Result<Reply, AllocError>
+    requires runs { is_run command.now ≡ true }
+    ensures { EvaluatedBy (object_command command.now) view.old result view.new }
 {
     match command {
-        Command::Chunk { prints, text } => run_chunk(alloc, state, *prints, text.bytes()),
-        Command::Method { text, .. } => run_method(alloc, text.bytes()),
+        Command::Chunk { prints, text } => run_text(alloc, view, *prints, text),
+        Command::Method {
+            class_side,
+            class,
+            text,
+        } => install_source(alloc, view, *class_side, class, text),
         _ => unreachable!(),
     }
-}
-
-// Runs a chunk. Where `prints` is true the reply shows the text of its value.
-fn run_chunk(
-    alloc: Global,
-    state: &mut PlainState,
-    prints: bool,
-    text: &[u8],
-) -> Result<Line, AllocError>
-    requires { length text.now < 2 ^ 32 }
-    ensures { IfOk result (λ line. (line ∷ [], state.new) ≡ run_chunk prints text.now state.old) }
-{
-    match parse_chunk(alloc, text) {
-        Ok(tree) => run_tree(alloc, state, prints, &tree),
-        Err(ParseFault::Rule { at, rule }) => Ok(Line::Parse { at, rule }),
-        Err(ParseFault::NoMemory) => Err(AllocError),
-    }
-}
-
-// The reply to a method. No method is built yet, so no state is changed.
-fn run_method(alloc: Global, text: &[u8]) -> Result<Line, AllocError>
-    requires { length text.now < 2 ^ 32 }
-    ensures { IfOk result (λ line. (class_side : Bool) (class : Bytes) (s : State) →
-        (line ∷ [], s) ≡ run_method class_side class text.now s) }
-{
-    match parse_method(alloc, text) {
-        Ok(_) => Ok(Line::NotBuilt),
-        Err(ParseFault::Rule { at, rule }) => Ok(Line::Parse { at, rule }),
-        Err(ParseFault::NoMemory) => Err(AllocError),
-    }
-}
-
-fn run_tree(
-    alloc: Global,
-    state: &mut PlainState,
-    prints: bool,
-    tree: &Tree,
-) -> Result<Line, AllocError>
-    ensures { IfOk result (λ line. (line ∷ [], state.new) ≡ run_tree prints tree.now state.old) }
-{
-    if !is_chunk(tree) {
-        return Ok(Line::NotBuilt);
-    }
-    let outcome = plain_run(alloc, state, tree)?;
-    ended_line(alloc, prints, &outcome)
-}
-
-// The reply to a chunk that ended so.
-fn ended_line(
-    alloc: Global,
-    prints: bool,
-    outcome: &Result<i64, EvaluationError>,
-) -> Result<Line, AllocError>
-    ensures { IfOk result (λ line. line ≡ ended_line prints outcome.now) }
-{
-    Ok(match outcome {
-        Err(error) => Line::Error {
-            kind: error.kind(),
-            detail: error.detail(alloc)?,
-        },
-        Ok(value) if prints => Line::Printed(Text::of(format!(in alloc; "{value}")?.into_bytes())),
-        Ok(_) => Line::Ran,
-    })
 }

@@ -1,9 +1,15 @@
 use Rattle.std.proofs.Common.{refl}
-use Rattle.gem_session.proofs.Steps.{begins_next}
+use Rattle.gem_session.proofs.Beginnings.{sound_for_next, begins_next}
 use Rattle.gem_session.proofs.session.Session.begin_next.Goals as goal
+
+pub start_view-requires : goal.start_view-requires
+start_view-requires g c =
+    rw (c.user-user.ensures, c.next_counter-next.ensures)
+    (sound_for_next c.images_are_sound.ensures.stays (g.P.StonePort.state c.args.port.now) (g.P.StonePort.state c.begin.new.self) c.args.number c.args.self.now c.in_ok-begun.begun.image c.in_ok-begun.begun.number
+    c.requires.ended c.begin.ensures.port c.in_ok-begun.ensures.begun)
 
 pub returns-clause-begins : goal.returns-clause-begins
 returns-clause-begins g c =
-    let r = c.requires in
-    begins_next _ _ _ _ _ c.args.number c.args.self.now _ c.in_ok-begun.ensures.begun refl c.start.ensures
-    r.session r.ended r.number.0 r.transaction r.apart
+    begins_next c.images_are_sound.ensures.stays (g.P.StonePort.state c.args.port.now) (g.P.StonePort.state c.begin.new.self) c.args.number c.args.self.now _ c.in_ok-begun.begun.image c.in_ok-begun.begun.number
+    c.requires.ended c.begin.ensures.port c.in_ok-begun.ensures.begun c.in_ok-self.ensures.sound
+    (rw (c.user-user.ensures, c.next_counter-next.ensures) at c.in_ok-self.ensures.seen) c.in_ok-image.ensures refl
