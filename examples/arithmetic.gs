@@ -13,3 +13,24 @@ printit
 
   - 8
 %
+printit
+-7 // 2
+%
+printit
+-7 \\ 2
+%
+printit
+-7 quo: 2
+%
+printit
+-7 rem: 2
+%
+printit
+7 // 0
+%
+printit
+3 + 4 max: 9
+%
+printit
+255 printString: 16
+%

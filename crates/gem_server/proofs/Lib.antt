@@ -3,3 +3,4 @@ pub mod Turns
 pub mod Sessions
 pub mod ScriptRules
 pub mod Completes
+pub mod Kernel

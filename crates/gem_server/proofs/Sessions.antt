@@ -4,10 +4,11 @@ use Rattle.std.proofs.lemmas.List.{take_more, take_all}
 use Rattle.shell_words.specs.Script.{SessionCommands}
 use Rattle.gem_replies.specs.declared.reply.Transcript.{Transcript}
 use Rattle.gem_meaning.specs.Events.{Event, Told, told_more, events_of}
-use Rattle.gem_meaning.specs.Session.{Says, LogsIn}
+use Rattle.gem_meaning.specs.Session.{Says}
 use Rattle.gem_meaning.specs.Legal.{IsTranscript, AreTranscripts, AreInTurn}
-use Rattle.gem_meaning.proofs.Stays.{transcripts_stay, one_transcript}
-use Rattle.gem_server.proofs.Turns.{nothing_more, one_turn, login_is}
+use Rattle.session_laws.proofs.Stays.{transcripts_stay, one_transcript, saw_less}
+use Rattle.gem_session.specs.Running.{IsTranscriptSince}
+use Rattle.gem_server.proofs.Turns.{nothing_more, one_turn}
 
 -- The first sessions have ended, with these transcripts, and no other has begun. They took turns.
 pub record HaveRun (start now : Told) (scripts : List SessionCommands) (count : ℕ) (ts : List Transcript) : Type 0 where
@@ -39,9 +40,14 @@ not_earlier session count lt is = absurd (omega (arith, lt, is))
 pub one_session : (start before after : Told) (scripts : List SessionCommands) (count : ℕ) (ts : List Transcript) (script : SessionCommands) (t : Transcript) (more : List Event)
     → count < length scripts → script ≡ get_or scripts count script → HaveRun start before scripts count ts → after.opened ≡ before.opened
     → after.events ≡ before.events ++ more → ((other : ℕ) → other ≢ count + 1 → events_of other after.events ≡ events_of other before.events)
-    → IsTranscript after (count + 1) script t → LogsIn before.opened (count + 1) before.events after.events t.replies
+    → IsTranscriptSince after (count + 1) (length before.events) script t
     → HaveRun start after scripts (count + 1) (ts ++ t ∷ [])
-one_session start before after scripts count ts script t more lt is ran same extends alone told login =
+one_session start before after scripts count ts script t more lt is ran same extends alone since =
+    let told : IsTranscript after (count + 1) script t = record {
+      session_is = since.session_is;
+      user_is = since.user_is;
+      says = saw_less after (count + 1) (length before.events) 0 script t.replies (omega arith) since.says;
+    } in
     let size : length (take count scripts) ≡ count = omega (arith, length-take count scripts, lt) in
     let after_is : after ≡ told_more before more = λ i. record { opened = same i; events = extends i } in
     let here : IsTranscript (told_more before more) (1 + length (take count scripts)) script t =
@@ -56,8 +62,7 @@ one_session start before after scripts count ts script t more lt is ran same ext
     let turns : AreInTurn (told_more before more) 1 (take count scripts ++ script ∷ []) (ts ++ t ∷ []) =
     one_turn before more count (take count scripts) ts script t ran.unbegun
     (λ session different. still_none session count before.events after.events more extends alone different) size ran.in_turn
-    (login_is before.opened count before.events after.events t.replies login alone)
-    (subst (λ x. Says x (count + 1) script t.replies) after_is told.says) in
+    (subst (λ x. Says x (count + 1) (length before.events) script t.replies) after_is since.says) in
     record {
       opened = same ∙ ran.opened;
       transcripts = subst (λ x. AreTranscripts x 1 (take (count + 1) scripts) (ts ++ t ∷ [])) (sym after_is)

@@ -4,13 +4,11 @@ use Rattle.std.proofs.lemmas.Bool.{eq-eqb, eqb-true, ltb-true, ltb-false}
 use Rattle.std.proofs.lemmas.List.{append_cancel_left}
 use Rattle.std.proofs.lemmas.List.Elements.{filter-append}
 use Rattle.shell_words.specs.Script.{SessionCommands}
-use Rattle.gem_replies.specs.declared.reply.Reply.{Reply}
 use Rattle.gem_replies.specs.declared.reply.Transcript.{Transcript}
-use Rattle.gem_meaning.specs.Events.{Opened, Event, Told, told_more, events_of, after_events}
-use Rattle.gem_meaning.specs.Session.{Says, TellsLogin, LogsIn}
+use Rattle.gem_meaning.specs.Events.{Event, Told, told_more, events_of}
+use Rattle.gem_meaning.specs.Session.{Says}
 use Rattle.gem_meaning.specs.Legal.{events_before, IsTurn, AreInTurn}
-use Rattle.gem_meaning.proofs.Stays.{none_of}
-use Rattle.gem_meaning.proofs.Turns.{not_taken, made_by_one}
+use Rattle.history_laws.proofs.Turns.{none_of, not_taken, made_by_one}
 
 -- a session that has as many events as before has none of the further ones
 pub nothing_more : (session : ℕ) (es more : List Event) → events_of session (es ++ more) ≡ events_of session es → events_of session more ≡ []
@@ -18,26 +16,11 @@ nothing_more session es more same =
     append_cancel_left (events_of session es) (events_of session more) []
     (sym (filter-append (λ event. event.0 == session) es more) ∙ same ∙ sym (append-nil (events_of session es)))
 
--- a session has no event in either part of what it has none in
-in_front : (session : ℕ) (es more : List Event) → events_of session (es ++ more) ≡ [] → events_of session es ≡ []
-in_front session es more none =
-    let both : events_of session es ++ events_of session more ≡ [] = sym (filter-append (λ event. event.0 == session) es more) ∙ none in
-    front_empty (events_of session es) (events_of session more) both
-  where
-    front_empty : (xs ys : List Event) → xs ++ ys ≡ [] → xs ≡ []
-    front_empty [] ys empty = refl
-    front_empty (x ∷ xs) ys empty = absurd (omega (arith, ap length empty))
-
 clash : (b : Bool) → b ≡ true → b ≡ false → ⊥
 clash b is not = true≢false (sym is ∙ not)
 
 of_the_rest : (session : ℕ) (event : Event) (es : List Event) → events_of session (event ∷ es) ≡ [] → events_of session es ≡ []
 of_the_rest session event es none = (not_taken (event.0 == session) event (events_of session es) none).1
-
--- events that no session has made aren't there
-nobody_made : (es : List Event) → ((session : ℕ) → events_of session es ≡ []) → es ≡ []
-nobody_made [] none = refl
-nobody_made (e ∷ es) none = absurd (made_by_one e es (none e.0))
 
 -- what is left of a list with a first event that isn't taken
 not_first : (taken : Bool) (e : Event) (es : List Event) → taken ≡ false → es ≡ [] → cond taken (e ∷ es) es ≡ []
@@ -111,8 +94,8 @@ turn_stays : (t : Told) (more : List Event) (first : ℕ) (script : SessionComma
     → events_of first (t.events ++ more) ≡ events_of first t.events → IsTurn t first script transcript → IsTurn (told_more t more) first script transcript
 turn_stays t more first script transcript before after own turn = record {
   order = after ∙ turn.order ∙ ap (λ xs. xs ++ events_of first t.events) (sym before) ∙ ap (λ xs. events_before first (t.events ++ more) ++ xs) (sym own);
-  login = subst (λ xs. TellsLogin (after_events t.opened xs).number transcript.replies) (sym before) turn.login;
-  says = subst (λ xs. Says (record t { events = xs }) first script transcript.replies) (sym after) turn.says;
+  says = subst (λ xs. Says (record t { events = xs }) first (length (events_before first (t.events ++ more))) script transcript.replies) (sym after)
+      (subst (λ xs. Says (record t { events = events_before (first + 1) t.events }) first (length xs) script transcript.replies) (sym before) turn.says);
 }
 
 -- Sessions that took turns have taken them when a later session goes on, and one more turn follows theirs.
@@ -134,9 +117,9 @@ one_turn_more t more first session (s ∷ ss) (u ∷ us) script transcript alone
 -- one session more has taken its turn
 pub one_turn : (t : Told) (more : List Event) (count : ℕ) (scripts : List SessionCommands) (ts : List Transcript) (script : SessionCommands) (transcript : Transcript)
     → ((session : ℕ) → count < session → events_of session t.events ≡ []) → ((session : ℕ) → session ≢ count + 1 → events_of session more ≡ [])
-    → length scripts ≡ count → AreInTurn t 1 scripts ts → TellsLogin (after_events t.opened t.events).number transcript.replies
-    → Says (told_more t more) (count + 1) script transcript.replies → AreInTurn (told_more t more) 1 (scripts ++ script ∷ []) (ts ++ transcript ∷ [])
-one_turn t more count scripts ts script transcript unbegun alone counted turns login says =
+    → length scripts ≡ count → AreInTurn t 1 scripts ts
+    → Says (told_more t more) (count + 1) (length t.events) script transcript.replies → AreInTurn (told_more t more) 1 (scripts ++ script ∷ []) (ts ++ transcript ∷ [])
+one_turn t more count scripts ts script transcript unbegun alone counted turns says =
     let es = t.events in
     let before : events_before (count + 1) (es ++ more) ≡ es =
     earlier_stays (count + 1) es more (λ other lt. alone other (another other (count + 1) lt))
@@ -151,25 +134,6 @@ one_turn t more count scripts ts script transcript unbegun alone counted turns l
     one_turn_more t more 1 (count + 1) scripts ts script transcript alone (omega (arith, counted)) turns
     (record {
       order = after ∙ ap (λ xs. xs ++ more) (sym before) ∙ ap (λ xs. events_before (count + 1) (es ++ more) ++ xs) (sym own);
-      login = subst (λ xs. TellsLogin (after_events t.opened xs).number transcript.replies) (sym before) login;
-      says = subst (λ xs. Says (record t { events = xs }) (count + 1) script transcript.replies) (sym after) says;
+      says = subst (λ xs. Says (record t { events = xs }) (count + 1) (length (events_before (count + 1) (es ++ more))) script transcript.replies) (sym after)
+          (subst (λ xs. Says (told_more t more) (count + 1) (length xs) script transcript.replies) (sym before) says);
     })
-
--- Where no other session has a further event, those of others that a login has seen are none.
-others_none : (count session : ℕ) (before others rest : List Event) (same : Bool) → (session == count + 1) ≡ same → events_of (count + 1) others ≡ []
-    → ((other : ℕ) → other ≢ count + 1 → events_of other (before ++ (others ++ rest)) ≡ events_of other before) → events_of session others ≡ []
-others_none count session before others rest true is theirs alone =
-    subst (λ (n : ℕ). events_of n others ≡ []) (sym (eqb-true session (count + 1) is)) theirs
-others_none count session before others rest false is theirs alone =
-    in_front session others rest (nothing_more session before (others ++ rest) (alone session (λ e. clash (session == count + 1) (eq-eqb session (count + 1) e) is)))
-
--- Where no other session has a further event, a login has seen just what came before.
-pub login_is : (o : Opened) (count : ℕ) (before after : List Event) (replies : List Reply) → LogsIn o (count + 1) before after replies
-    → ((other : ℕ) → other ≢ count + 1 → events_of other after ≡ events_of other before) → TellsLogin (after_events o before).number replies
-login_is o count before after replies login alone =
-    let others = login.others in
-    let rest = login.later.0 in
-    let whole : after ≡ before ++ (others ++ rest) = login.later.1 ∙ append_assoc before others rest in
-    let alone_here : (other : ℕ) → other ≢ count + 1 → events_of other (before ++ (others ++ rest)) ≡ events_of other before = λ other different. ap (events_of other) (sym whole) ∙ alone other different in
-    let none : others ≡ [] = nobody_made others (λ session. others_none count session before others rest (session == count + 1) refl login.are_others alone_here) in
-    subst (λ es. TellsLogin (after_events o es).number replies) (ap (λ xs. before ++ xs) none ∙ append-nil before) login.tells

@@ -1,6 +1,5 @@
 -- What the end of a call of the server says.
 use Rattle.std.specs.Prelude.{◌≡◌, ℕ, ◌<◌, ◌⊎◌, codes, List, [], ◌∷◌, length, Option}
-use Rattle.std.specs.FinMap as map
 use Rattle.std.specs.Io.KnownBytes.{Consumes, Appends, IsAtEnd}
 use Rattle.texts.specs.Bytes.{Bytes}
 use Rattle.profile.specs.declared.limits.TheConstants.{SCRIPT_LIMIT}
@@ -9,9 +8,11 @@ use Rattle.shell_words.specs.ScriptGrammar.{ReadsScript, BreaksRule}
 use Rattle.shell_words.specs.Rules.{script_rule_number}
 use Rattle.shell_words.specs.declared.fault.ScriptFault.{ScriptFault}
 use Rattle.shell_words.specs.declared.fault.ScriptFault.TheVariants.{Rule, NoMemory as ShortOfMemory}
+use Rattle.kernel_image.specs.Objects.{kernel_image}
 use Rattle.gem_replies.specs.Report.{report_of}
 use Rattle.gem_replies.specs.declared.reply.RunBook.{RunBook}
-use Rattle.gem_meaning.specs.Events.{Opened, Event, Told}
+use Rattle.gem_meaning.specs.Opened.{Opened}
+use Rattle.gem_meaning.specs.Events.{Event, Told}
 use Rattle.gem_meaning.specs.Legal.{IsLegal, AreInTurn}
 use Rattle.gem_server.specs.declared.status.Status.{Status}
 use Rattle.gem_server.specs.declared.status.Status.TheVariants.{Done, Script, WriteFault, NoMemory}
@@ -42,21 +43,21 @@ HasRun _ = ⊥
 abbrev pub IsWhole : Option Bytes → Bytes → Type 0
 IsWhole left text = IsAtEnd left ⊎ (SCRIPT_LIMIT < length text)
 
--- what the Stone is opened with: the image without globals, and no commit
-abbrev pub empty_opening : List SessionCommands → Opened
-empty_opening script = record { image = map.empty; number = 0; script = script }
+-- what the Stone is opened with: the kernel's image, and no commit
+abbrev pub kernel_opening : List SessionCommands → Opened
+kernel_opening script = record { image = kernel_image; number = 0; script = script }
 
 -- these events of a Stone that was opened so
-abbrev pub told_from_empty : List SessionCommands → List Event → Told
-told_from_empty script events = record { opened = empty_opening script; events = events }
+abbrev pub told_from_kernel : List SessionCommands → List Event → Told
+told_from_kernel script events = record { opened = kernel_opening script; events = events }
 
 -- The text is a script, and the events and the book are those of a legal run of it, in which the
 -- sessions took turns.
 pub record IsRunOf (text : Bytes) (events : List Event) (book : RunBook) : Type 0 where
   pub script : List SessionCommands
   pub reads : ReadsScript text script
-  pub legal : IsLegal (told_from_empty script events) book
-  pub in_turn : AreInTurn (told_from_empty script events) 1 script book.transcripts
+  pub legal : IsLegal (told_from_kernel script events) book
+  pub in_turn : AreInTurn (told_from_kernel script events) 1 script book.transcripts
 
 -- The source gave a text to its end, and the events and the book are those of a run of it.
 pub record IsRun (left left' : Option Bytes) (events : List Event) (book : RunBook) : Type 0 where

@@ -1,47 +1,117 @@
-//! Runs the sessions of a script one after another.
-ghost use Rattle.std.specs.Prelude.{◌≡◌, ◌≤◌, [], IfOk, length};
-ghost use Rattle.profile.specs.declared.kernel.TheConstants.{FIRST_SERIAL as first_serial};
+//! Runs the sessions of a script one after another, over the kernel's image.
+ghost use Rattle.std.specs.Prelude.{◌≡◌, ◌≤◌, ◌<◌, ◌+◌, ◌^◌, [], IfOk, length};
 ghost use Rattle.profile.specs.declared.limits.TheConstants.{SESSION_LIMIT};
+ghost use Rattle.kernel_image.specs.Objects.{kernel_image};
+ghost use Rattle.gem_meaning.specs.Opened.{base_serial};
+ghost use Rattle.gem_meaning.specs.Serial.{CanServe};
 ghost use Rattle.gem_meaning.specs.Legal.{IsLegal, AreTranscripts, AreInTurn};
-ghost use Rattle.gem_server.specs.Server.{told_from_empty};
+ghost use Rattle.gem_server.specs.Server.{told_from_kernel};
 
 use crate::status::Events;
-use gem_replies::{RunBook, Transcript, Transcripts};
+use gem_image::Image;
+use gem_replies::{History, RunBook, Transcript, Transcripts};
 use gem_session::run_session;
-use gem_value::Image;
-use profile::FIRST_SERIAL;
+use kernel_image::kernel;
+use radix_pages::Steps;
 use shell_words::{Script, SessionScript};
 use std::alloc::{AllocError, Global};
+use std::marker::Brand;
+use std::snapshot::Snapshot;
 use std::sync::Arc;
-use stone_core::Stone;
+use std::sync::ledger::{Blank, Ledger};
+use std::thread::{Builder, Promise, Threads};
+use stone_core::{Stone, largest_serial};
 
-// The book of a run of the script, and the events of its Stone.
-pub(crate) fn run(alloc: Global, script: Script) -> Result<(RunBook, Events), AllocError>
-    ensures legal { IfOk result (λ run. IsLegal (told_from_empty script run.1) run.0) }
+// The bytes of stack of the thread in which the sessions run, which takes memory only as they are
+// used. 2,000 activations take 14 to 34 MiB, and with 200 levels of nesting in each some 2 GiB.
+const STACK: usize = 4 << 30;
+
+// The book of a run, and the events of its Stone.
+type Run = (RunBook, Events);
+
+// What the thread that runs this script gives: a legal run of it, or that memory ran out.
+#[derive(Drop)]
+struct RunsScript(Snapshot<Script>);
+
+impl Promise<Result<Run, AllocError>> for RunsScript {
+    ghost use Rattle.std.specs.Prelude.{IfOk};
+    ghost use Rattle.gem_meaning.specs.Legal.{IsLegal, AreInTurn};
+    ghost use Rattle.gem_server.specs.Server.{told_from_kernel};
+
+    ghost kept_by = { λ promise result. IfOk result (λ run.
+        IsLegal (told_from_kernel promise.0.value run.1) run.0
+        × AreInTurn (told_from_kernel promise.0.value run.1) 1 promise.0.value run.0.transcripts) };
+}
+
+// Runs the script in a thread that has stack for the deepest chunks. Where none can be started,
+// memory ran out.
+pub(crate) fn run<R: Threads>(rt: &R, alloc: Global, script: Script) -> Result<Run, AllocError>
+    ensures legal { IfOk result (λ run. IsLegal (told_from_kernel script run.1) run.0) }
     ensures in_turn { IfOk result
-        (λ run. AreInTurn (told_from_empty script run.1) 1 script run.0.transcripts) }
+        (λ run. AreInTurn (told_from_kernel script run.1) 1 script run.0.transcripts) }
+{
+    let promise = RunsScript(Snapshot::of(&script));
+    let thread = Builder::new().stack_size(STACK);
+    match thread.spawn_with(rt, promise, move || run_here(alloc, script)) {
+        Ok(child) => child.join(rt),
+        Err(_) => Err(AllocError),
+    }
+}
+
+// Runs the script in this thread.
+#[tactic(auto, unfolding(gem_meaning::specs::Opened::base_serial))]
+fn run_here(alloc: Global, script: Script) -> Result<Run, AllocError>
+    ensures legal { IfOk result (λ run. IsLegal (told_from_kernel script run.1) run.0) }
+    ensures in_turn { IfOk result
+        (λ run. AreInTurn (told_from_kernel script run.1) 1 script run.0.transcripts) }
 {
     let script = Arc::new(alloc, script)?;
-    let mut stone = Stone::start(alloc, Image::empty(alloc)?, 0, script.clone()?)?;
-    let transcripts = run_sessions(alloc, &mut stone, script.sessions())?;
+    let sessions = script.sessions();
+    let image = first_image(alloc)?;
+    let base = largest_serial(&image) + 1;
+    image.invariant();
+    let mut stone = Stone::start(alloc, image, 0, script.clone()?)?;
+    let transcripts = run_sessions(alloc, &mut stone, base, sessions)?;
     let closed = stone.close();
     let book = RunBook {
         first: 0,
-        base: FIRST_SERIAL,
+        base,
         transcripts: Transcripts::of(transcripts),
-        history: closed.history,
+        history: History::of(closed.history),
     };
     Ok((book, Events::of(closed.events)))
+}
+
+// The kernel's image, with which a Stone may be opened.
+fn first_image(alloc: Global) -> Result<Image, AllocError>
+    ensures { IfOk result (λ image. image ≡ kernel_image) }
+{
+    built_image::<Brand>(alloc, Blank::new(1))
+}
+
+// The same, where nobody counts the nodes.
+fn built_image<L: Ledger>(alloc: Global, blank: Blank) -> Result<Image, AllocError>
+    requires name { blank.name ≡ L.name }
+    requires parts { blank.parts ≡ L.parts }
+    requires some_parts { 0 < L.parts }
+    ensures { IfOk result (λ image. image ≡ kernel_image) }
+{
+    let mut steps = Steps::<L>::start(blank);
+    kernel(alloc, &mut steps)
 }
 
 // What the sessions of the Stone's script reply, each after the one before it.
 fn run_sessions(
     alloc: Global,
     stone: &mut Stone,
+    base: u32,
     sessions: &[SessionScript],
 ) -> Result<Vec<Transcript>, AllocError>
     requires script { stone.old.opened.script ≡ sessions.now }
+    requires serves { CanServe stone.old.opened }
     requires begun { stone.old.events ≡ [] }
+    requires base { base ≡ base_serial stone.old.opened }
+    requires bound { base ≤ 2 ^ 24 }
     requires count { length sessions.now ≤ SESSION_LIMIT }
     ensures transcripts { IfOk result
         (λ transcripts. AreTranscripts stone.new 1 sessions.now transcripts.items) }
@@ -52,7 +122,7 @@ fn run_sessions(
     let mut transcripts = Vec::new(alloc);
     for (index, session) in sessions.iter().enumerate() {
         let number = index as u32 + 1;
-        let serial = FIRST_SERIAL + index as u32;
+        let serial = base + index as u32;
         transcripts.push(run_session(alloc, stone, number, serial, session)?)?;
     }
     Ok(transcripts)

@@ -16,21 +16,24 @@ use gem_io::{Sink, Source};
 use gem_replies::report_text;
 use shell_words::{ScriptFault, read_script};
 use std::alloc::Global;
+use std::thread::Threads;
 
 /// Serves the script that this text is, and gives the report. The sessions run one after another,
-/// over an image of their own that begins without globals. No device is used.
+/// in a thread of their own with a large stack, over an image that begins as the kernel's. No
+/// device is used.
 ///
 /// # Errors
 ///
 /// `Rule` exactly where the text is no script, with the first line that breaks a rule, and that
-/// rule; `NoMemory`, which may also stand in place of the other answers, where memory ran out.
-pub fn serve_text(alloc: Global, text: &[u8]) -> Result<Served, ScriptFault>
+/// rule; `NoMemory`, which may also stand in place of the other answers, where memory ran out or no
+/// thread could be started.
+pub fn serve_text<R: Threads>(rt: &R, alloc: Global, text: &[u8]) -> Result<Served, ScriptFault>
     ensures legal_run { IfOk result (λ served. IsRunOf text.now served.events served.book) }
     ensures report_written { IfOk result (λ served. served.report.items ≡ report_of served.book) }
     ensures script { IfErr result (IsScriptFault text.now) }
 {
     let script = read_script(alloc, text)?;
-    let (book, events) = run(alloc, script)?;
+    let (book, events) = run(rt, alloc, script)?;
     let report = report_text(alloc, &book)?;
     Ok(Served {
         report,
@@ -51,14 +54,15 @@ pub fn serve_text(alloc: Global, text: &[u8]) -> Result<Served, ScriptFault>
 ///   (0: the text as a whole); `rule` is that rule.
 /// - `ReadFault`: the source failed.
 /// - `WriteFault`: the sink failed, after a part of the report from the front.
-/// - `NoMemory`: memory ran out, before the first byte was written.
+/// - `NoMemory`: memory ran out, or no thread could be started, before the first byte was written.
 ///
 /// With `Done` and `WriteFault` the book has the sessions' transcripts and the commits, and the
 /// events are what happened to the Stone. With any other status both are blank.
 ///
 /// Clauses on contents hold where source and sink tell their contents to contracts; standard input
 /// and output don't. What is done between them is `serve_text`, whose clauses hold of the bytes.
-pub fn gemstone<S: Source, K: Sink>(
+pub fn gemstone<R: Threads, S: Source, K: Sink>(
+    rt: &R,
     alloc: Global,
     words: &[String],
     source: &mut S,
@@ -115,7 +119,7 @@ pub fn gemstone<S: Source, K: Sink>(
         Err(IntakeError::Failed) => return Ended::blank(alloc, Status::ReadFault),
         Err(IntakeError::NoMemory) => return Ended::blank(alloc, Status::NoMemory),
     };
-    let served = match serve_text(alloc, &text) {
+    let served = match serve_text(rt, alloc, &text) {
         Ok(served) => served,
         Err(fault) => return Ended::blank(alloc, Status::of_fault(fault)),
     };

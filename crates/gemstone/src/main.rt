@@ -12,7 +12,13 @@ use std::process::ExitCode;
 use std::{env, io};
 
 fn main(rt: HostRuntime) -> ExitCode {
-    match run(&rt) {
+    let mut source = StdSource::new(rt.stdin());
+    let mut sink = StdSink::new(rt.stdout());
+    let ended = match words(&rt) {
+        Ok(words) => serve(&rt, rt.alloc(), &words, &mut source, &mut sink),
+        Err(failure) => Err(failure),
+    };
+    match ended {
         Ok(()) => ExitCode::SUCCESS,
         Err(failure) => {
             // Where standard error is gone too, the exit status alone tells.
@@ -20,13 +26,6 @@ fn main(rt: HostRuntime) -> ExitCode {
             ExitCode::from(failure.number())
         }
     }
-}
-
-fn run(rt: &HostRuntime) -> Result<(), Failure> {
-    let words = words(rt)?;
-    let mut source = StdSource::new(rt.stdin());
-    let mut sink = StdSink::new(rt.stdout());
-    serve(rt.alloc(), &words, &mut source, &mut sink)
 }
 
 // The words of the command line, the program's own name first. A word that isn't text is a faulty

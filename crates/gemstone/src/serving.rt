@@ -7,10 +7,12 @@ use crate::failure::{Failure, end_of};
 use gem_io::{Sink, Source};
 use gem_server::gemstone;
 use std::alloc::Global;
+use std::thread::Threads;
 
 /// Serves the script that the source gives and writes its report to the sink, where the words of
 /// the command line ask for it. The first of them is the program's own name, and doesn't count.
-pub fn serve<S: Source, K: Sink>(
+pub fn serve<R: Threads, S: Source, K: Sink>(
+    rt: &R,
     alloc: Global,
     words: &[String],
     source: &mut S,
@@ -31,7 +33,7 @@ pub fn serve<S: Source, K: Sink>(
     ensures reported { OnOk result (IsReported (S.left source.old) (S.left source.new)
         (K.written sink.old) (K.written sink.new)) }
 {
-    end_of(gemstone(alloc, own_words(words), source, sink).status)
+    end_of(gemstone(rt, alloc, own_words(words), source, sink).status)
 }
 
 // The words after the program's own name.

@@ -1,1 +1,1 @@
-mod Overtaken
+mod Beside

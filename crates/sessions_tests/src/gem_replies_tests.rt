@@ -1,7 +1,8 @@
 ghost use Rattle.std.specs.Prelude.{◌≡◌, IfOk};
 
-use gem_replies::{Line, Replies, Reply, RunBook, Transcript, Transcripts, report_text};
-use gem_value::{Conflict, ConflictKind, Conflicts, Entry, History, Oid};
+use gem_record::Entry;
+use gem_replies::{History, Line, Replies, Reply, RunBook, Transcript, Transcripts, report_text};
+use gem_value::{Conflict, ConflictKind, Conflicts, Oid};
 use lock_table::LockKind;
 use std::alloc::{AllocError, Global};
 use std::test::Fail;
@@ -35,8 +36,10 @@ fn entry(session: u32, transaction: u32, view: u64) -> Entry {
     Entry {
         session,
         transaction,
+        user: Oid::from_parts(1, 1),
         first_command: 1,
         last_command: 2,
+        first_name: 1,
         view,
     }
 }
@@ -196,7 +199,6 @@ fn of_chunks(alloc: Global) -> Result<Vec<Row>, AllocError> {
     Ok(vec![in alloc;
         shows(Line::NoMemory, "no memory"),
         shows(Line::Parse { at: 12, rule: 4 }, "parse P4 at 12"),
-        shows(Line::NotBuilt, "not built"),
         shows(shown, "show abc\\n3"),
         shows(error(alloc, 8, b"dead home")?, "error E8 dead home"),
         shows(raised, "error E20 error: a\\\\b"),

@@ -1,9 +1,12 @@
-ghost use Rattle.std.specs.Prelude.{None};
+// The server, from a script to its report, in threads as the program runs them.
+ghost use Rattle.std.specs.Prelude.{◌<◌, None};
 
+use crate::reports::{LONG_REPORTS, REPORTS};
 use gem_io::{Failed, MemSink, MemSource, Sink};
 use gem_server::{Ended, Status, gemstone};
 use std::alloc::{AllocError, Global};
 use std::test::Fail;
+use std::thread::Threads;
 
 // A command line, cut at its spaces.
 fn words(alloc: Global, line: &str) -> Result<Vec<String>, AllocError> {
@@ -15,61 +18,29 @@ fn words(alloc: Global, line: &str) -> Result<Vec<String>, AllocError> {
 }
 
 // How a script ends, and what is written.
-fn served(alloc: Global, script: &[u8]) -> Result<(Ended, MemSink), AllocError> {
+fn served<R: Threads>(
+    rt: &R,
+    alloc: Global,
+    script: &[u8],
+) -> Result<(Ended, MemSink), AllocError> {
     let mut source = MemSource::new(script.to_vec(alloc)?, Vec::new(alloc));
     let mut sink = MemSink::new(Vec::new(alloc));
-    let ended = gemstone(alloc, &words(alloc, "serve")?, &mut source, &mut sink);
+    let ended = gemstone(rt, alloc, &words(alloc, "serve")?, &mut source, &mut sink);
     Ok((ended, sink))
 }
 
 #[test]
 fn not_always_no_memory(rt: HostRuntime) -> Result<(), Fail> {
-    let (ended, sink) = served(rt.alloc(), b"session DataCurator\nprintit\n3\n%\n")?;
+    let (ended, sink) = served(&rt, rt.alloc(), b"session DataCurator\nprintit\n3\n%\n")?;
     assert_eq!(rt; ended.status, Status::Done);
     assert!(rt; !sink.written().is_empty());
     Ok(())
 }
 
-const REPORTS: [(&str, &str); 9] = [
-    (
-        "session DataCurator\nprintit\n3 + 4 * 2\n%\n",
-        "session 1 DataCurator\n[0] login view 0\n[1] 14\n[2] logout\ncommits 0\n",
-    ),
-    ("", "commits 0\n"),
-    (
-        "session DataCurator\nrun\nGlobals at: #T put: 2 + 3\n%\ncommit\nsession DataCurator\nprintit\nT * T\n%\ncommit\n",
-        "session 1 DataCurator\n[0] login view 0\n[1] ok\n[2] committed 1 view 1\n[3] logout\nsession 2 DataCurator\n[0] login view 1\n[1] 25\n[2] committed unchanged at 1 view 1\n[3] logout\ncommits 1\n1 session 1 transaction 1 view 0\n",
-    ),
-    (
-        "session DataCurator\nrun\nGlobals at: #T put: 3. 1152921504606846975 + 1\n%\ncommit\nprintit\nT\n%\n",
-        "session 1 DataCurator\n[0] login view 0\n[1] error E6 integer range\n[2] committed 1 view 1\n[3] 3\n[4] logout\ncommits 1\n1 session 1 transaction 1 view 0\n",
-    ),
-    (
-        "session Nobody\ncommit\n",
-        "session 1 Nobody\n[0] no user at view 0\n[1] not logged in\n[2] not logged in\ncommits 0\n",
-    ),
-    (
-        "session DataCurator\nrun\nGlobals at: #T put: 1\n%\ncommit\nsession Nobody\nprintit\nT\n%\nlogout\n",
-        "session 1 DataCurator\n[0] login view 0\n[1] ok\n[2] committed 1 view 1\n[3] logout\nsession 2 Nobody\n[0] no user at view 1\n[1] not logged in\n[2] not logged in\ncommits 1\n1 session 1 transaction 1 view 0\n",
-    ),
-    (
-        "session DataCurator\nprintit\n3 - -4\n%\nrun\nGlobals at: #T:u: put: 3\n%\nrun\nGlobals at: #Array put: 3\n%\nrun\nGlobals at: #t put: 3\n%\ncommit\n",
-        "session 1 DataCurator\n[0] login view 0\n[1] not built\n[2] not built\n[3] not built\n[4] not built\n[5] committed unchanged at 0 view 0\n[6] logout\ncommits 0\n",
-    ),
-    (
-        "session DataCurator\nprintit\n3 +\n%\nprintit\n3 + 4 max: 9\n%\nlock read T\nlogout\n",
-        "session 1 DataCurator\n[0] login view 0\n[1] parse P4 at 4\n[2] not built\n[3] not built\n[4] logout\ncommits 0\n",
-    ),
-    (
-        "session DataCurator\nrun\nGlobals at: #T put: 1\n%\nabort\nprintit\nT\n%\nrun\nGlobals at: #T put: 1. Globals at: #T put: T + 1\n%\ncommit\nprintit\n(T + 1) * (T - 4)\n%",
-        "session 1 DataCurator\n[0] login view 0\n[1] ok\n[2] aborted view 0\n[3] error E2 undefined variable: T\n[4] ok\n[5] committed 1 view 1\n[6] -6\n[7] logout\ncommits 1\n1 session 1 transaction 2 view 0\n",
-    ),
-];
-
 #[test]
 fn scripts_and_their_reports(rt: HostRuntime) -> Result<(), Fail> {
     for (script, report) in REPORTS {
-        let (ended, sink) = served(rt.alloc(), script.as_bytes())?;
+        let (ended, sink) = served(&rt, rt.alloc(), script.as_bytes())?;
         assert_eq!(rt; ended.status, Status::Done, "{script}");
         assert_eq!(rt; sink.written(), report.as_bytes(), "{script}");
     }
@@ -77,8 +48,85 @@ fn scripts_and_their_reports(rt: HostRuntime) -> Result<(), Fail> {
 }
 
 #[test]
+fn long_scripts_and_their_reports(rt: HostRuntime) -> Result<(), Fail> {
+    for (script, report) in LONG_REPORTS {
+        let (ended, sink) = served(&rt, rt.alloc(), script.as_bytes())?;
+        assert_eq!(rt; ended.status, Status::Done, "{script}");
+        assert_eq!(rt; sink.written(), report.as_bytes(), "{script}");
+    }
+    Ok(())
+}
+
+#[test]
+fn empty_script(rt: HostRuntime) -> Result<(), Fail> {
+    let (ended, sink) = served(&rt, rt.alloc(), b"")?;
+    assert_eq!(rt; ended.status, Status::Done);
+    assert_eq!(rt; sink.written(), b"commits 0\n".as_slice());
+    Ok(())
+}
+
+// The text that is repeated for each of so many sessions, behind the first one's own.
+fn counting(alloc: Global, sessions: u32) -> Result<String, AllocError> {
+    let mut script = String::from_str(
+        alloc,
+        "session DataCurator\nrun\nGlobals at: #Hits put: RcCounter new\n%\ncommit\n",
+    )?;
+    for _ in 0..sessions {
+        script.push_str(
+            "session DataCurator\nrun\nGlobals at: #Z put: Object new\n%\nlock read Z\n\
+            printit\nHits increment; value\n%\ncommit\n",
+        )?;
+    }
+    Ok(script)
+}
+
+// The transcript of the session after so many others, which have committed once each.
+fn counted(alloc: Global, before: u32) -> Result<String, AllocError>
+    requires { before < 16 }
+{
+    let session = before + 1;
+    format!(in alloc;
+        "session {session} DataCurator\n[0] login view {before}\n[1] ok\n\
+        [2] not committed {session}:1\n[3] {before}\n[4] committed {session} view {session}\n\
+        [5] logout\n"
+    )
+}
+
+// The report of such a script.
+fn all_counted(alloc: Global) -> Result<String, AllocError> {
+    let mut report = String::from_str(
+        alloc,
+        "session 1 DataCurator\n[0] login view 0\n[1] ok\n[2] committed 1 view 1\n[3] logout\n",
+    )?;
+    for before in 1..16u32 {
+        report.push_str(counted(alloc, before)?.as_str())?;
+    }
+    report.push_str("commits 16\n")?;
+    for before in 0..16u32 {
+        let session = before + 1;
+        let line = format!(in alloc; "{session} session {session} transaction 1 view {before}\n")?;
+        report.push_str(line.as_str())?;
+    }
+    Ok(report)
+}
+
+// Each session has a serial of its own in the names that it draws, and sees what those before it
+// committed.
+#[test]
+fn sixteen_sessions(rt: HostRuntime) -> Result<(), Fail> {
+    let alloc = rt.alloc();
+    let (ended, sink) = served(&rt, alloc, counting(alloc, 15)?.as_bytes())?;
+    assert_eq!(rt; ended.status, Status::Done);
+    assert_eq!(rt; sink.written(), all_counted(alloc)?.as_bytes());
+    let (ended, _) = served(&rt, alloc, counting(alloc, 16)?.as_bytes())?;
+    assert_eq!(rt; ended.status, Status::Script { line: 141, rule: 5 });
+    Ok(())
+}
+
+#[test]
 fn book_and_events(rt: HostRuntime) -> Result<(), Fail> {
     let (ended, _) = served(
+        &rt,
         rt.alloc(),
         b"session DataCurator\nrun\nGlobals at: #T put: 2\n%\ncommit\n",
     )?;
@@ -105,7 +153,7 @@ const NO_SCRIPTS: [(&str, u32, u8); 5] = [
 #[test]
 fn texts_that_are_no_script(rt: HostRuntime) -> Result<(), Fail> {
     for (script, line, rule) in NO_SCRIPTS {
-        let (ended, sink) = served(rt.alloc(), script.as_bytes())?;
+        let (ended, sink) = served(&rt, rt.alloc(), script.as_bytes())?;
         assert_eq!(rt; ended.status, Status::Script { line, rule }, "{script}");
         assert_eq!(rt; sink.written(), b"".as_slice(), "{script}");
     }
@@ -115,9 +163,9 @@ fn texts_that_are_no_script(rt: HostRuntime) -> Result<(), Fail> {
 #[test]
 fn longest_scripts(rt: HostRuntime) -> Result<(), Fail> {
     let alloc = rt.alloc();
-    let (ended, _) = served(alloc, &vec![in alloc; b'\n'; 1_048_576]?)?;
+    let (ended, _) = served(&rt, alloc, &vec![in alloc; b'\n'; 1_048_576]?)?;
     assert_eq!(rt; ended.status, Status::Done);
-    let (ended, _) = served(alloc, &vec![in alloc; b'\n'; 1_048_577]?)?;
+    let (ended, _) = served(&rt, alloc, &vec![in alloc; b'\n'; 1_048_577]?)?;
     assert_eq!(rt; ended.status, Status::Script { line: 0, rule: 7 });
     Ok(())
 }
@@ -128,7 +176,7 @@ fn other_words(rt: HostRuntime) -> Result<(), Fail> {
     for line in ["", "check", "Serve", "serve x", "serve serve", "--help"] {
         let mut source = MemSource::new(Vec::new(alloc), Vec::new(alloc));
         let mut sink = MemSink::new(Vec::new(alloc));
-        let ended = gemstone(alloc, &words(alloc, line)?, &mut source, &mut sink);
+        let ended = gemstone(&rt, alloc, &words(alloc, line)?, &mut source, &mut sink);
         assert_eq!(rt; ended.status, Status::Usage, "{line}");
         assert_eq!(rt; sink.written(), b"".as_slice(), "{line}");
     }
@@ -167,7 +215,7 @@ fn faults_of_devices(rt: HostRuntime) -> Result<(), Fail> {
 
     let mut failing = MemSource::new(script.to_vec(alloc)?, vec![in alloc; 2]?);
     let mut sink = MemSink::new(Vec::new(alloc));
-    let ended = gemstone(alloc, &serve, &mut failing, &mut sink);
+    let ended = gemstone(&rt, alloc, &serve, &mut failing, &mut sink);
     assert_eq!(rt; ended.status, Status::ReadFault);
     assert_eq!(rt; sink.written(), b"".as_slice());
 
@@ -177,7 +225,7 @@ fn faults_of_devices(rt: HostRuntime) -> Result<(), Fail> {
         taken: Vec::new(alloc),
         faults: 0,
     };
-    let ended = gemstone(alloc, &serve, &mut source, &mut short);
+    let ended = gemstone(&rt, alloc, &serve, &mut source, &mut short);
     assert_eq!(rt; ended.status, Status::WriteFault);
     assert_eq!(rt; short.taken.as_slice(), b"session 1 ".as_slice());
     Ok(())

@@ -1,107 +1,154 @@
-// A session that another one overtakes: its first commit is refused, and the session goes on.
-ghost use Rattle.std.specs.Prelude.{◌≡◌, [], false};
-ghost use Rattle.gem_meaning.specs.Events.{events_of, OthersCame};
+// What a session is replied to beside another one that holds a lock.
+ghost use Rattle.std.specs.Prelude.{◌≡◌, ◌<◌, ◌≤◌, [], IfOk, length};
+ghost use Rattle.profile.specs.declared.limits.TheConstants.{SESSION_LIMIT};
+ghost use Rattle.gem_meaning.specs.Serial.{CanServe};
+ghost use Rattle.gem_server.specs.Server.{kernel_opening};
 
-use gem_replies::{RunBook, Transcripts, report_text};
+use gem_replies::{History, RunBook, Transcript, Transcripts, report_text};
 use gem_session::run_session;
-use gem_value::{Image, TxnRecord};
+use gem_value::Oid;
+use kernel_image::kernel;
+use lock_table::LockKind;
+use radix_pages::Steps;
 use shell_words::{Script, read_script};
 use std::alloc::{AllocError, Global};
-use std::marker::Model;
+use std::marker::Brand;
 use std::sync::Arc;
+use std::sync::ledger::{Blank, Ledger};
 use std::test::Fail;
-use stone_core::{Begun, CommitAnswer, Stone, StonePort};
+use stone_core::Stone;
 
-// A port for session 1. Before the session's first commit comes to the Stone, session 2 of the same
-// script runs there to its end.
-#[derive(Drop)]
-struct Overtaken {
-    stone: Stone,
-    script: Arc<Script>,
-    overtaken: bool,
-}
+/// The first session is run, and the second one holds a lock meanwhile.
+const SCRIPT: &str = "\
+session DataCurator
+lock write Globals
+lock read Globals
+unlock Globals
+run
+Globals at: #T put: 3. UserGlobals at: #K put: 4
+%
+commit
+printit
+T + K
+%
+commit
+abort
+printit
+T
+%
+run
+UserGlobals at: #K put: 5
+%
+commit
+session DataCurator
+";
 
-impl Model for Overtaken {
-    ghost use Rattle.std.specs.Prelude.{◌≡◌, [], false};
-    ghost use Rattle.std.specs.Coded.{codes};
-    ghost use Rattle.gem_value.specs.Image.{image_code};
-    ghost use Rattle.gem_meaning.specs.Events.{Told, events_of};
+/// Where the other one holds Globals for reading.
+const BESIDE_READ_LOCK: &str = "\
+session 1 DataCurator
+[0] login view 0
+[1] denied write 0:27 by session 2 read
+[2] locked read 0:27 clean
+[3] unlocked 0:27
+[4] ok
+[5] refused 1
+C3 object 0:27 session 2
+[6] 7
+[7] refused 1
+C3 object 0:27 session 2
+[8] aborted view 0
+[9] error E2 undefined variable: T
+[10] ok
+[11] committed 1 view 1
+[12] logout
+commits 0
+";
 
-    ghost Value = { Told };
+/// Where it holds Globals for writing.
+const BESIDE_WRITE_LOCK: &str = "\
+session 1 DataCurator
+[0] login view 0
+[1] denied write 0:27 by session 2 write
+[2] denied read 0:27 by session 2 write
+[3] not held 0:27
+[4] ok
+[5] refused 1
+C4 object 0:27 session 2
+[6] 7
+[7] refused 1
+C4 object 0:27 session 2
+[8] aborted view 0
+[9] error E2 undefined variable: T
+[10] ok
+[11] committed 1 view 1
+[12] logout
+commits 0
+";
 
-    ghost coded = { Prim.hlevel (codes, image_code) };
-
-    ghost view = { λ port. port.stone };
-
-    ghost invariant = { λ port. (port.stone.opened.script ≡ port.script.value)
-        × (port.overtaken ≡ false → events_of 2 port.stone.events ≡ []) };
-}
-
-impl StonePort for Overtaken {
-    ghost use Rattle.std.specs.Prelude.{◌==◌, false};
-
-    ghost state = { λ stone. record {
-      told = stone;
-      serves = λ session. session == 1;
-      alone = false;
-    } };
-
-    fn begin(&mut self, session: u32) -> Result<Begun, AllocError> {
-        StonePort::begin(&mut self.stone, session)
-    }
-
-    fn commit(&mut self, alloc: Global, done: &TxnRecord) -> CommitAnswer {
-        run_second(alloc, &mut self.stone, &self.script, self.overtaken);
-        self.overtaken = true;
-        StonePort::commit(&mut self.stone, alloc, done)
-    }
-}
-
-// Runs the second of the script's two sessions, unless it has run.
-fn run_second(alloc: Global, stone: &mut Stone, script: &Script, has_run: bool)
-    requires script { stone.old.opened.script ≡ script.now }
-    requires fresh { has_run ≡ false → events_of 2 stone.old.events ≡ [] }
-    ensures opened { stone.new.opened ≡ stone.old.opened }
-    ensures came { OthersCame 1 stone.old.events stone.new.events }
+// A Stone over the kernel's image for the script.
+fn opened<L: Ledger>(alloc: Global, script: Arc<Script>, blank: Blank) -> Result<Stone, AllocError>
+    requires name { blank.name ≡ L.name }
+    requires parts { blank.parts ≡ L.parts }
+    requires some_parts { 0 < L.parts }
+    requires limit { length script.value ≤ SESSION_LIMIT }
+    ensures stone { IfOk result (λ stone. stone ≡ record {
+      opened = kernel_opening script.value;
+      events = [];
+    }) }
+    ensures serves { IfOk result (λ _. CanServe (kernel_opening script.value)) }
 {
-    if has_run {
-        return;
-    }
-    if let [_, second] = script.sessions() {
-        let _transcript = run_session(alloc, stone, 2, 2, second);
-    }
+    let mut steps = Steps::<L>::start(blank);
+    let image = kernel(alloc, &mut steps)?;
+    image.invariant();
+    let stone = Stone::start(alloc, image, 0, script)?;
+    Ok(stone)
 }
 
-#[test]
-fn refused_and_tried_again(rt: HostRuntime) -> Result<(), Fail> {
-    let alloc = rt.alloc();
-    let text = b"session DataCurator\nrun\nGlobals at: #T put: 2 + 3\n%\ncommit\nprintit\nT\n%\n\
-        commit\nabort\nprintit\nT\n%\nrun\nGlobals at: #T put: T + 1\n%\ncommit\n\
-        printit\nT * U\n%\nsession DataCurator\nrun\nGlobals at: #T put: 6\n%\ncommit\n";
-    let wanted = b"session 1 DataCurator\n[0] login view 0\n[1] ok\n\
-        [2] refused 1\nC1 object 0:27 commit 1\n[3] 5\n\
-        [4] refused 1\nC1 object 0:27 commit 1\n[5] aborted view 1\n[6] 6\n[7] ok\n\
-        [8] committed 2 view 2\n[9] error E2 undefined variable: U\n[10] logout\n\
-        commits 2\n1 session 2 transaction 1 view 0\n2 session 1 transaction 2 view 1\n";
-    assert!(rt; text.len() < 1000);
-    let script = Arc::new(alloc, read_script(alloc, text)?)?;
-    let stone = Stone::start(alloc, Image::empty(alloc)?, 0, script.clone()?)?;
-    let mut port = Overtaken {
-        stone,
-        script: script.clone()?,
-        overtaken: false,
-    };
-    let Some((first, _)) = script.sessions().split_first() else {
-        return Err(Fail::new("the script has no session"));
-    };
-    let transcript = run_session(alloc, &mut port, 1, 1, first)?;
-    let closed = port.stone.close();
+// What the first session of a script is replied to, while the second one, if there is one, holds
+// Globals in this kind.
+fn beside_lock(
+    alloc: Global,
+    script: Script,
+    kind: LockKind,
+) -> Result<Option<Transcript>, AllocError> {
+    let script = Arc::new(alloc, script)?;
+    let sessions = script.sessions();
+    let mut stone = opened::<Brand>(alloc, script.clone()?, Blank::new(1))?;
+    if sessions.len() < 2 {
+        return Ok(None);
+    }
+    stone.lock(2, Oid::from_parts(0, 27), kind);
+    Ok(Some(run_session(alloc, &mut stone, 1, 1, &sessions[0])?))
+}
+
+// The report of one transcript alone, or nothing where there is none.
+fn told(alloc: Global, transcript: Option<Transcript>) -> Result<Vec<u8>, AllocError> {
+    let mut transcripts = Vec::new(alloc);
+    if let Some(transcript) = transcript {
+        transcripts.push(transcript)?;
+    }
     let book = RunBook {
         first: 0,
         base: 1,
-        transcripts: Transcripts::of(vec![in alloc; transcript]?),
-        history: closed.history,
+        transcripts: Transcripts::of(transcripts),
+        history: History::of(Vec::new(alloc)),
     };
-    assert!(rt; report_text(alloc, &book)?.as_slice() == wanted.as_slice());
+    report_text(alloc, &book)
+}
+
+#[test]
+fn replies_beside_a_lock(rt: HostRuntime) -> Result<(), Fail> {
+    let alloc = rt.alloc();
+    let cases = [
+        (LockKind::Read, BESIDE_READ_LOCK),
+        (LockKind::Write, BESIDE_WRITE_LOCK),
+    ];
+    for (kind, report) in cases {
+        let Ok(script) = read_script(alloc, SCRIPT.as_bytes()) else {
+            return Err(Fail::new("it is no script"));
+        };
+        let told = told(alloc, beside_lock(alloc, script, kind)?)?;
+        assert_eq!(rt; told.as_slice(), report.as_bytes());
+    }
     Ok(())
 }

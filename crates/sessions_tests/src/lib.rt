@@ -10,4 +10,6 @@ mod gem_server_tests;
 #[cfg(test)]
 mod gem_session_tests;
 #[cfg(test)]
+mod reports;
+#[cfg(test)]
 mod shell_words_tests;

@@ -1,0 +1,72 @@
+-- A Stone may be opened with the kernel's image.
+use Rattle.std.proofs.Common.{◌≡◌, ℕ, ◌+◌, ◌^◌, ◌<◌, ◌≤◌, max, Bool, true, false, cond, List, [], ◌∷◌, fold, length, Option, Some, None, IfSome, is_some, refl, sym, ap, subst, ◌∙◌, arith}
+use Rattle.std.specs.Ordering.{nat_cmp, is_eq, eq_by_cmp}
+use Rattle.std.specs.Cmp.{tied_itself}
+use Rattle.std.specs.FinMap.{find, get, entries, get-entries}
+use Rattle.std.proofs.lemmas.Cmp.{nat_cmp_total}
+use Rattle.profile.specs.declared.limits.TheConstants.{SESSION_LIMIT}
+use Rattle.gem_value.specs.Oid.{serial_of}
+use Rattle.gem_object.specs.declared.object.Object.{Object}
+use Rattle.gem_image.specs.Image.{Image, IsImage}
+use Rattle.gem_sound.specs.Sound.{IsSoundImage}
+use Rattle.kernel_image.specs.Objects.{kernel_image, kernel_objects}
+use Rattle.kernel_image.proofs.Named.{kernel_has}
+use Rattle.kernel_image.proofs.KernelSound.{kernel_is_sound, kernel_numbers}
+use Rattle.kernel_image.proofs.Unchanged.{IsUnchanged, kernel_unchanged}
+use Rattle.commit_check.specs.Conflicts.{changed_of, last_change}
+use Rattle.shell_words.specs.Script.{SessionCommands}
+use Rattle.gem_meaning.specs.Opened.{largest_serial, base_serial}
+use Rattle.gem_meaning.specs.Serial.{CanServe}
+
+-- the largest serial so far, and that of one more name
+abbrev larger : ℕ → ℕ × Object → ℕ
+larger largest entry = max largest (serial_of entry.0)
+
+-- a bound of the serials of all that are found bounds the largest
+at_most : (bound most : ℕ) (list : List (ℕ × Object)) → most ≤ bound
+    → ((name : ℕ) (object : Object) → find nat_cmp name list ≡ Some object → serial_of name ≤ bound)
+    → fold larger most list ≤ bound
+at_most bound most [] first all = first
+at_most bound most (entry ∷ rest) first all =
+    let here = all entry.0 entry.1 (ap (λ o. cond (is_eq o) (Some entry.1) (find nat_cmp entry.0 rest)) (tied_itself nat_cmp_total entry.0)) in
+    at_most bound (larger most entry) rest (omega (arith, here, first)) later
+  where
+    on_test : (b : Bool) (name : ℕ) (object : Object) → eq_by_cmp nat_cmp name entry.0 ≡ b
+        → find nat_cmp name rest ≡ Some object → serial_of name ≤ bound
+    on_test true name object is found = all name entry.1
+        (ap (λ b. cond b (Some entry.1) (find nat_cmp name rest)) is)
+    on_test false name object is found = all name object
+        (ap (λ b. cond b (Some entry.1) (find nat_cmp name rest)) is ∙ found)
+
+    later : (name : ℕ) (object : Object) → find nat_cmp name rest ≡ Some object → serial_of name ≤ bound
+    later name object found = on_test (eq_by_cmp nat_cmp name entry.0) name object refl found
+
+first_serial : (name : ℕ) → name ≤ 35 → serial_of name ≤ 0
+first_serial name few = omega (arith, few)
+
+pub kernel_serial : largest_serial kernel_image ≤ 0
+kernel_serial = at_most 0 0 (entries kernel_image) (omega arith) each
+  where
+    each : (name : ℕ) (object : Object) → find nat_cmp name (entries kernel_image) ≡ Some object → serial_of name ≤ 0
+    each name object found =
+        let there : kernel_objects name ≡ Some object =
+        sym (kernel_has name) ∙ (get-entries kernel_image name ∙ found) in
+        first_serial name ((kernel_numbers name).0 (ap is_some there)).1
+
+unchanged : (found : Option Object) → IfSome found IsUnchanged → changed_of found ≤ 0
+unchanged None none = omega arith
+unchanged (Some object) is = omega (arith, is)
+
+pub can_serve : (image : Image) (script : List SessionCommands) → image ≡ kernel_image → IsImage image
+    → length script ≤ SESSION_LIMIT → CanServe (record { image = image; number = 0; script = script })
+unfolding base_serial
+can_serve image script is is_image few = record {
+  image = is_image;
+  sound = subst IsSoundImage (sym is) kernel_is_sound;
+  number = omega arith;
+  changed = λ oid. subst (λ (i : Image). last_change i oid ≤ 0) (sym is)
+      (unchanged (get kernel_image oid) (kernel_unchanged oid));
+  serials =
+      let none : largest_serial image ≤ 0 = subst (λ (i : Image). largest_serial i ≤ 0) (sym is) kernel_serial in
+      omega (arith, none, few);
+}

@@ -1,0 +1,17 @@
+use Rattle.std.proofs.Common.{subst}
+use Rattle.gem_image.specs.Image.{Image}
+use Rattle.gem_meaning.specs.Serial.{CanServe}
+use Rattle.gem_server.proofs.Kernel.{can_serve}
+use Rattle.sessions_tests.proofs.gem_session_tests.opened.Goals as goal
+
+pub start-requires : goal.start-requires
+start-requires g c = record {
+  serves = can_serve c.in_ok-image.image c.args.script.value c.in_ok-image.ensures.image
+      (record { named = c.invariant.ensures.named; spelled = c.invariant.ensures.spelled }) c.requires.limit;
+}
+
+pub returns-clause-serves : goal.returns-clause-serves
+returns-clause-serves g c =
+    subst (λ (i : Image). CanServe (record { image = i; number = 0; script = c.args.script.value })) c.in_ok-image.ensures.image
+    (can_serve c.in_ok-image.image c.args.script.value c.in_ok-image.ensures.image
+    (record { named = c.invariant.ensures.named; spelled = c.invariant.ensures.spelled }) c.requires.limit)

@@ -1,0 +1,2 @@
+session Nobody
+commit
