@@ -1,9 +1,9 @@
 // What the calls of single parts answer, and commands as values, on the image of the kernel.
 ghost use Rattle.std.specs.Prelude.{◌≡◌, ◌<◌};
 
-use crate::kernel_state::begin;
 use crate::replies::{note, told};
 use gem_object::{BlockRef, Value};
+use kernel_state::begin;
 use object_programs::Fault;
 use plain_state::PlainState;
 use prim_rules::PrimitiveAnswer;
@@ -100,7 +100,7 @@ fn method_replies(
 }
 
 /// Notes a call that isn't answered as it should be.
-fn note_unless(wrong: &mut String, call: &str, right: bool) -> Result<(), AllocError> {
+pub(crate) fn note_unless(wrong: &mut String, call: &str, right: bool) -> Result<(), AllocError> {
     if right {
         return Ok(());
     }
@@ -151,7 +151,7 @@ fn wrong_calls<L: Ledger>(alloc: Global, blank: Blank) -> Result<String, AllocEr
     requires some_parts { 0 < L.parts }
 {
     let mut steps = Steps::<L>::start(blank);
-    let mut state = begin(alloc, 1, &mut steps)?;
+    let mut state = begin::<PlainState, L>(alloc, 1, &mut steps)?;
     let mut wrong = String::new(alloc);
     check_parts(alloc, &mut state, &mut wrong)?;
     check_commands(alloc, &mut state, &mut wrong)?;

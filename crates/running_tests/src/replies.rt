@@ -1,13 +1,14 @@
 // What commands are replied to, on the image of the kernel.
 ghost use Rattle.std.specs.Prelude.{◌≡◌, ◌<◌, ◌≤◌, ◌^◌};
 
-use crate::kernel_state::begin;
 use crate::rows::{
     ANY, BLOCKS, CLASSES, DICTIONARIES, FORMS, LIMITS, NUMBERS, RIGHTS, SEQUENCES, SHARED, STRINGS,
 };
 use crate::scripts::{NAMES_LEFT, SCRIPTS};
+use kernel_state::{Begins, begin};
 use plain_state::PlainState;
 use radix_pages::Steps;
+use session_view::View;
 use st_plain::{Reply, install_source, run_text};
 use std::alloc::{AllocError, Global};
 use std::marker::Brand;
@@ -44,7 +45,7 @@ fn behind(alloc: Global, front: &[u8], text: &[u8]) -> Result<Vec<u8>, AllocErro
 }
 
 /// What a chunk is replied to whose value is printed.
-fn reply_to(alloc: Global, state: &mut PlainState, chunk: &str) -> Result<Vec<u8>, AllocError> {
+fn reply_to<S: Begins>(alloc: Global, state: &mut S, chunk: &str) -> Result<Vec<u8>, AllocError> {
     state.begin_chunk();
     let text = Text::copy_of(alloc, chunk.as_bytes())?;
     let reply = run_text(alloc, state, true, &text)?;
@@ -52,38 +53,38 @@ fn reply_to(alloc: Global, state: &mut PlainState, chunk: &str) -> Result<Vec<u8
 }
 
 /// Whether the chunk is replied to so, on a state of its own.
-fn replies<L: Ledger>(
+fn replies<S: Begins, L: Ledger>(
     alloc: Global,
     chunk: &str,
     wanted: &str,
     steps: &mut Steps<L>,
 ) -> Result<bool, AllocError> {
-    let mut state = begin(alloc, 1, steps)?;
+    let mut state = begin::<S, L>(alloc, 1, steps)?;
     Ok(reply_to(alloc, &mut state, chunk)?.as_slice() == wanted.as_bytes())
 }
 
 /// Whether a row, a chunk and what is wanted, is replied to so.
-fn row_replies<L: Ledger>(
+fn row_replies<S: Begins, L: Ledger>(
     alloc: Global,
     row: &str,
     steps: &mut Steps<L>,
 ) -> Result<bool, AllocError> {
     match row.split_once(" => ") {
-        Some((chunk, wanted)) => replies(alloc, chunk, wanted, steps),
+        Some((chunk, wanted)) => replies::<S, L>(alloc, chunk, wanted, steps),
         None => Ok(false),
     }
 }
 
 /// Runs each of these chunks on a state of its own. Those that aren't replied to as they should be
 /// are noted.
-fn check_rows<L: Ledger>(
+fn check_rows<S: Begins, L: Ledger>(
     alloc: Global,
     rows: &str,
     steps: &mut Steps<L>,
     wrong: &mut String,
 ) -> Result<(), AllocError> {
     for row in rows.lines() {
-        if !row_replies(alloc, row, steps)? {
+        if !row_replies::<S, L>(alloc, row, steps)? {
             note(wrong, row)?;
         }
     }
@@ -97,9 +98,9 @@ pub(crate) fn note(wrong: &mut String, line: &str) -> Result<(), AllocError> {
 }
 
 /// What one command of a script is replied to.
-fn reply_to_command(
+fn reply_to_command<S: Begins>(
     alloc: Global,
-    state: &mut PlainState,
+    state: &mut S,
     word: &str,
     rest: &str,
 ) -> Result<Vec<u8>, AllocError> {
@@ -116,9 +117,9 @@ fn reply_to_command(
 }
 
 /// What the installation of a method is replied to, of which class and source are given.
-fn install(
+fn install<S: Begins>(
     alloc: Global,
-    state: &mut PlainState,
+    state: &mut S,
     class_side: bool,
     method: &str,
 ) -> Result<Vec<u8>, AllocError> {
@@ -132,7 +133,7 @@ fn install(
 }
 
 /// Whether a line of a script, a command and what is wanted, is replied to so.
-fn line_replies(alloc: Global, state: &mut PlainState, line: &str) -> Result<bool, AllocError> {
+fn line_replies<S: Begins>(alloc: Global, state: &mut S, line: &str) -> Result<bool, AllocError> {
     let Some((command, wanted)) = line.split_once(" => ") else {
         return Ok(false);
     };
@@ -143,16 +144,16 @@ fn line_replies(alloc: Global, state: &mut PlainState, line: &str) -> Result<boo
 }
 
 /// Runs scripts: each begins after an empty line.
-fn check_scripts<L: Ledger>(
+fn check_scripts<S: Begins, L: Ledger>(
     alloc: Global,
     scripts: &str,
     steps: &mut Steps<L>,
     wrong: &mut String,
 ) -> Result<(), AllocError> {
-    let mut state = begin(alloc, 1, steps)?;
+    let mut state = begin::<S, L>(alloc, 1, steps)?;
     for line in scripts.lines() {
         if line.is_empty() {
-            state = begin(alloc, 1, steps)?;
+            state = begin::<S, L>(alloc, 1, steps)?;
             continue;
         }
         if !line_replies(alloc, &mut state, line)? {
@@ -163,12 +164,12 @@ fn check_scripts<L: Ledger>(
 }
 
 /// What is written on the transcript.
-fn check_transcript<L: Ledger>(
+fn check_transcript<S: Begins, L: Ledger>(
     alloc: Global,
     steps: &mut Steps<L>,
     wrong: &mut String,
 ) -> Result<(), AllocError> {
-    let mut state = begin(alloc, 1, steps)?;
+    let mut state = begin::<S, L>(alloc, 1, steps)?;
     let chunk = "Transcript show: 'ab' , 'c'; cr; show: 3 printString. 7";
     let reply = reply_to(alloc, &mut state, chunk)?;
     if reply.as_slice() == b"7".as_slice() && state.transcript() == b"abc\n3".as_slice() {
@@ -178,12 +179,12 @@ fn check_transcript<L: Ledger>(
 }
 
 /// What was written on the transcript stays there after an error.
-fn check_kept_transcript<L: Ledger>(
+fn check_kept_transcript<S: Begins, L: Ledger>(
     alloc: Global,
     steps: &mut Steps<L>,
     wrong: &mut String,
 ) -> Result<(), AllocError> {
-    let mut state = begin(alloc, 1, steps)?;
+    let mut state = begin::<S, L>(alloc, 1, steps)?;
     let chunk = "Transcript show: 'a'. 3 foo";
     let reply = reply_to(alloc, &mut state, chunk)?;
     let wanted = b"error E1 not understood: foo";
@@ -194,12 +195,12 @@ fn check_kept_transcript<L: Ledger>(
 }
 
 /// What is made where no more than two names are left.
-fn check_names<L: Ledger>(
+fn check_names<S: Begins, L: Ledger>(
     alloc: Global,
     steps: &mut Steps<L>,
     wrong: &mut String,
 ) -> Result<(), AllocError> {
-    let mut state = begin(alloc, (1 << 24) - 2, steps)?;
+    let mut state = begin::<S, L>(alloc, (1 << 24) - 2, steps)?;
     for line in NAMES_LEFT.lines() {
         if !line_replies(alloc, &mut state, line)? {
             note(wrong, line)?;
@@ -209,74 +210,90 @@ fn check_names<L: Ledger>(
 }
 
 /// Runs the rows on what most chunks are about.
-fn check_values<L: Ledger>(
+fn check_values<S: Begins, L: Ledger>(
     alloc: Global,
     steps: &mut Steps<L>,
     wrong: &mut String,
 ) -> Result<(), AllocError> {
-    check_rows(alloc, ANY, steps, wrong)?;
-    check_rows(alloc, NUMBERS, steps, wrong)?;
-    check_rows(alloc, BLOCKS, steps, wrong)?;
-    check_rows(alloc, SEQUENCES, steps, wrong)?;
-    check_rows(alloc, STRINGS, steps, wrong)?;
-    check_rows(alloc, FORMS, steps, wrong)
+    check_rows::<S, L>(alloc, ANY, steps, wrong)?;
+    check_rows::<S, L>(alloc, NUMBERS, steps, wrong)?;
+    check_rows::<S, L>(alloc, BLOCKS, steps, wrong)?;
+    check_rows::<S, L>(alloc, SEQUENCES, steps, wrong)?;
+    check_rows::<S, L>(alloc, STRINGS, steps, wrong)?;
+    check_rows::<S, L>(alloc, FORMS, steps, wrong)
 }
 
 /// Runs the rows on the other objects, on rights and on limits.
-fn check_objects<L: Ledger>(
+fn check_objects<S: Begins, L: Ledger>(
     alloc: Global,
     steps: &mut Steps<L>,
     wrong: &mut String,
 ) -> Result<(), AllocError> {
-    check_rows(alloc, CLASSES, steps, wrong)?;
-    check_rows(alloc, DICTIONARIES, steps, wrong)?;
-    check_rows(alloc, SHARED, steps, wrong)?;
-    check_rows(alloc, RIGHTS, steps, wrong)?;
-    check_rows(alloc, LIMITS, steps, wrong)
+    check_rows::<S, L>(alloc, CLASSES, steps, wrong)?;
+    check_rows::<S, L>(alloc, DICTIONARIES, steps, wrong)?;
+    check_rows::<S, L>(alloc, SHARED, steps, wrong)?;
+    check_rows::<S, L>(alloc, RIGHTS, steps, wrong)?;
+    check_rows::<S, L>(alloc, LIMITS, steps, wrong)
 }
 
 /// The rows that aren't replied to as they should be.
-fn wrong_rows<L: Ledger>(alloc: Global, blank: Blank) -> Result<String, AllocError>
+fn wrong_rows<S: Begins, L: Ledger>(alloc: Global, blank: Blank) -> Result<String, AllocError>
     requires name { blank.name ≡ L.name }
     requires parts { blank.parts ≡ L.parts }
     requires some_parts { 0 < L.parts }
 {
     let mut steps = Steps::<L>::start(blank);
     let mut wrong = String::new(alloc);
-    check_values(alloc, &mut steps, &mut wrong)?;
-    check_objects(alloc, &mut steps, &mut wrong)?;
+    check_values::<S, L>(alloc, &mut steps, &mut wrong)?;
+    check_objects::<S, L>(alloc, &mut steps, &mut wrong)?;
     Ok(wrong)
 }
 
 /// The lines of scripts that aren't replied to as they should be.
-fn wrong_lines<L: Ledger>(alloc: Global, blank: Blank) -> Result<String, AllocError>
+fn wrong_lines<S: Begins, L: Ledger>(alloc: Global, blank: Blank) -> Result<String, AllocError>
     requires name { blank.name ≡ L.name }
     requires parts { blank.parts ≡ L.parts }
     requires some_parts { 0 < L.parts }
 {
     let mut steps = Steps::<L>::start(blank);
     let mut wrong = String::new(alloc);
-    check_scripts(alloc, SCRIPTS, &mut steps, &mut wrong)?;
-    check_transcript(alloc, &mut steps, &mut wrong)?;
-    check_kept_transcript(alloc, &mut steps, &mut wrong)?;
-    check_names(alloc, &mut steps, &mut wrong)?;
+    check_scripts::<S, L>(alloc, SCRIPTS, &mut steps, &mut wrong)?;
+    check_transcript::<S, L>(alloc, &mut steps, &mut wrong)?;
+    check_kept_transcript::<S, L>(alloc, &mut steps, &mut wrong)?;
+    check_names::<S, L>(alloc, &mut steps, &mut wrong)?;
     Ok(wrong)
 }
 
 /// `wrong_rows` with steps that no other call counts.
-fn rows_by_brand(alloc: Global) -> Result<String, AllocError> {
-    wrong_rows::<Brand>(alloc, Blank::new(1))
+fn rows_by_brand<S: Begins>(alloc: Global) -> Result<String, AllocError> {
+    wrong_rows::<S, Brand>(alloc, Blank::new(1))
 }
 
 /// `wrong_lines` with steps that no other call counts.
-fn lines_by_brand(alloc: Global) -> Result<String, AllocError> {
-    wrong_lines::<Brand>(alloc, Blank::new(1))
+fn lines_by_brand<S: Begins>(alloc: Global) -> Result<String, AllocError> {
+    wrong_lines::<S, Brand>(alloc, Blank::new(1))
+}
+
+/// The rows that aren't replied to as they should be, on a plain state or on a view.
+fn rows_of_both(alloc: Global) -> Result<String, AllocError> {
+    let mut wrong = rows_by_brand::<PlainState>(alloc)?;
+    let of_view = rows_by_brand::<View>(alloc)?;
+    wrong.push_str(of_view.as_str())?;
+    Ok(wrong)
+}
+
+/// The lines of scripts that aren't replied to as they should be, on a plain state or on a view.
+fn lines_of_both(alloc: Global) -> Result<String, AllocError> {
+    let mut wrong = lines_by_brand::<PlainState>(alloc)?;
+    let of_view = lines_by_brand::<View>(alloc)?;
+    wrong.push_str(of_view.as_str())?;
+    Ok(wrong)
 }
 
 #[test]
 fn rows(rt: HostRuntime) -> Result<(), Fail> {
     let wrong = thread::scope(thread::scope_env(), &rt, |scope| {
-        let work = || rows_by_brand(rt.alloc());
+        let work = || rows_of_both(rt.alloc());
         match Builder::new().stack_size(STACK).spawn_scoped(scope, work) {
             Ok(child) => child.join(&rt),
             Err(_) => Err(AllocError),
@@ -289,7 +306,7 @@ fn rows(rt: HostRuntime) -> Result<(), Fail> {
 #[test]
 fn scripts(rt: HostRuntime) -> Result<(), Fail> {
     let wrong = thread::scope(thread::scope_env(), &rt, |scope| {
-        let work = || lines_by_brand(rt.alloc());
+        let work = || lines_of_both(rt.alloc());
         match Builder::new().stack_size(STACK).spawn_scoped(scope, work) {
             Ok(child) => child.join(&rt),
             Err(_) => Err(AllocError),

@@ -865,6 +865,11 @@ pub(crate) const LIMITS: &str = "\
     at: i put: s] => 1
 | d s | s := (String new: 1000) asSymbol. d := RcKeyValueDictionary new. 1 to: 1037 do: [:i | d \
     at: i put: s] => error E17 object too large
+| d | d := RcKeyValueDictionary new. 1 to: 32500 do: [:i | d at: i put: i] => 1
+| d | d := RcKeyValueDictionary new. 1 to: 32501 do: [:i | d at: i put: i] => error E17 object \
+    too large
+| q | q := RcQueue new. 65000 timesRepeat: [q add: 3]. q size => 65000
+| q | q := RcQueue new. 65001 timesRepeat: [q add: 3] => error E17 object too large
 | d | d := IdentityDictionary new. 1 to: 32500 do: [:i | d at: i put: i] => 1
 | d | d := IdentityDictionary new. 1 to: 32501 do: [:i | d at: i put: i] => error E17 object \
     too large

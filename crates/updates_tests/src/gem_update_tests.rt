@@ -37,7 +37,7 @@ fn counters(rt: HostRuntime) -> Result<(), Fail> {
 }
 
 // A bag in which x occurs so often.
-fn bag(alloc: Global, occurrences: u64) -> Result<Bag<Value>, Fail> {
+pub(crate) fn bag(alloc: Global, occurrences: u64) -> Result<Bag<Value>, Fail> {
     let mut pairs = Vec::new(alloc);
     if occurrences > 0 {
         pairs.push((Value::Char(b'x'), occurrences))?;
@@ -45,11 +45,11 @@ fn bag(alloc: Global, occurrences: u64) -> Result<Bag<Value>, Fail> {
     Ok(Bag::of_pairs(pairs).ok_or("pairs of a bag")?)
 }
 
-const fn add() -> BagUpdate<Value> {
+pub(crate) const fn add() -> BagUpdate<Value> {
     BagUpdate::Add(Value::Char(b'x'))
 }
 
-const fn remove() -> BagUpdate<Value> {
+pub(crate) const fn remove() -> BagUpdate<Value> {
     BagUpdate::Remove(Value::Char(b'x'))
 }
 
@@ -80,7 +80,7 @@ fn bags(rt: HostRuntime) -> Result<(), Fail> {
 }
 
 // A dictionary of these letters and numbers.
-fn dict(alloc: Global, entries: &[(u8, i64)]) -> Result<KeyDict<Value, Value>, Fail> {
+pub(crate) fn dict(alloc: Global, entries: &[(u8, i64)]) -> Result<KeyDict<Value, Value>, Fail> {
     let mut pairs = Vec::new(alloc);
     for (letter, number) in entries {
         pairs.push((Value::Char(*letter), Value::Int(*number)))?;
@@ -88,7 +88,7 @@ fn dict(alloc: Global, entries: &[(u8, i64)]) -> Result<KeyDict<Value, Value>, F
     Ok(KeyDict::of_pairs(pairs).ok_or("pairs of a dictionary")?)
 }
 
-const fn put(letter: u8, number: i64) -> DictUpdate<Value, Value> {
+pub(crate) const fn put(letter: u8, number: i64) -> DictUpdate<Value, Value> {
     DictUpdate::Put(Value::Char(letter), Value::Int(number))
 }
 

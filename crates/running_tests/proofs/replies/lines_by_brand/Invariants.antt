@@ -1,4 +1,4 @@
 use Rattle.running_tests.proofs.replies.lines_by_brand.Given as goal
 
 abbrev pub ghosts-wrong_lines : goal.ghosts-wrong_lines
-ghosts-wrong_lines a = record { name = a.blank.name; parts = a.blank.parts }
+ghosts-wrong_lines g a = record { name = a.blank.name; parts = a.blank.parts }

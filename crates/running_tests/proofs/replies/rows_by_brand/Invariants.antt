@@ -1,4 +1,4 @@
 use Rattle.running_tests.proofs.replies.rows_by_brand.Given as goal
 
 abbrev pub ghosts-wrong_rows : goal.ghosts-wrong_rows
-ghosts-wrong_rows a = record { name = a.blank.name; parts = a.blank.parts }
+ghosts-wrong_rows g a = record { name = a.blank.name; parts = a.blank.parts }

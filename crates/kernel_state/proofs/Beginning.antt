@@ -1,5 +1,5 @@
 -- A transaction of DataCurator may begin on the image of the kernel.
-use Rattle.std.proofs.Common.{◌≡◌, ◌↔◌, ◌<◌, ◌≤◌, ◌^◌, ℕ, zero, suc, Option, Some, None, IsSome, is_some, refl, ap, sym, subst, ◌∙◌, arith}
+use Rattle.std.proofs.Common.{◌≡◌, ◌↔◌, ◌<◌, ◌≤◌, ◌^◌, ℕ, true, zero, suc, Option, Some, None, IsSome, is_some, refl, ap, sym, subst, ◌∙◌, arith}
 use Rattle.std.specs.Option.{option_map}
 use Rattle.std.proofs.lemmas.Bool.{false≢true}
 use Rattle.std.proofs.lemmas.Option.{slice_get_within, get_or_from_slice_get}
@@ -8,7 +8,7 @@ use Rattle.profile.specs.declared.kernel.TheConstants.{KERNEL_SERIAL, DATA_CURAT
 use Rattle.gem_value.specs.Oid.{oid_number}
 use Rattle.gem_object.specs.Spelling.{IsSpelled}
 use Rattle.gem_object.specs.declared.object.Object.{Object}
-use Rattle.gem_image.specs.Image.{Image, IsImage, contents_of, objects_in}
+use Rattle.gem_image.specs.Image.{Image, IsImage, AreNamed, AreSpelled, contents_of, objects_in}
 use Rattle.gem_sound.specs.Kernel.{kernel_classes}
 use Rattle.gem_sound.specs.Parts.{user_at}
 use Rattle.gem_sound.specs.Sound.{IsSoundImage, IsSoundFor}
@@ -78,3 +78,25 @@ begins_on_kernel place view user first place_is view_is user_is some bound sound
     (subst (λ i. IsSoundFor (objects_in i) user 1 first) (sym place_is)
     (subst (λ u. IsSoundFor (objects_in kernel_image) u 1 first) (sym user_is)
     (kernel_is_sound_for first some bound sound holds numbered))))
+
+-- and it may begin on any sound image that has the user and none of its names
+pub begins_over : (image : Image) (first : ℕ) → AreNamed image → AreSpelled image → IsSoundImage image
+    → is_some (user_at (objects_in image) curator) ≡ true
+    → ((counter : ℕ) → first ≤ counter → counter < 2 ^ 24 → objects_in image (oid_number 1 counter) ≡ None)
+    → 0 < first → first ≤ 2 ^ 24 → Begins → BeginsSound image image curator 1 first
+begins_over image first named spelled sound there free some bound begins =
+    begins image curator 1 first (record { named = named; spelled = spelled }) (record {
+      sound = sound;
+      user_there = there;
+      serial_bound = omega arith;
+      some_name = some;
+      next_bound = bound;
+      free = free;
+    })
+
+-- the same by another name of the image, and by what the name of the user is
+pub begins_by : (image view : Image) (user first : ℕ) → view ≡ image → user ≡ curator
+    → BeginsSound image image curator 1 first → BeginsSound image view user 1 first
+begins_by image view user first same is begins =
+    subst (λ (v : Image). BeginsSound image v user 1 first) (sym same)
+    (subst (λ (u : ℕ). BeginsSound image image u 1 first) (sym is) begins)
