@@ -1,2 +1,3 @@
 mod Reading
 mod Agree
+pub mod Passes

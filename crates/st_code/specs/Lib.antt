@@ -5,3 +5,4 @@ pub mod Held
 pub mod Ways
 pub mod Comes
 pub mod Faults
+pub mod Content

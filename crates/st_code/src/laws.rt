@@ -1,10 +1,11 @@
 //! What follows from the rules of checked code. Each law is the contract of a function that does
 //! nothing.
-ghost use Rattle.std.specs.Prelude.{◌≡◌, ℕ, true, List, None, Some, Ok, slice_get};
+ghost use Rattle.std.specs.Prelude.{◌≡◌, ℕ, true, List, None, Some, Ok, length, slice_get};
 ghost use Rattle.st_tree.specs.declared.nodes.Literal.{Literal};
 ghost use Rattle.st_code.specs.Held.{Held};
-ghost use Rattle.st_code.specs.Lines.{Lines, lines_of};
+ghost use Rattle.st_code.specs.Lines.{Lines, lines_of, are_blocks};
 ghost use Rattle.st_code.specs.Comes.{Comes};
+ghost use Rattle.st_code.specs.Content.{Content};
 ghost use Rattle.st_code.specs.Faults.{scopes_fit, stack_fits, fault_of};
 ghost use Rattle.st_code.specs.declared.blocks.BlockCode.{BlockCode};
 ghost use Rattle.st_code.specs.declared.line.Line.{Line};
@@ -26,4 +27,13 @@ pub fn ways_fit()
         → Comes lines blocks at held → slice_get lines at ≡ Some (Some line)
         → (scopes_fit line.row.op line.first line.second held ≡ true)
         × (stack_fits lines line held.height ≡ true) }
+{}
+
+/// The other way round: code passes the check if it can be said of each place what every way brings
+/// there, so that each instruction is content with it.
+pub fn marked_code_passes()
+    ensures { (bytes : List ℕ) (literals : List Literal) (blocks : List BlockCode)
+        (lines : Lines) (marks : List Held)
+        → are_blocks (length bytes) blocks ≡ true → lines_of bytes 0 blocks ≡ Ok lines
+        → Content literals blocks lines marks → fault_of bytes literals blocks ≡ None }
 {}

@@ -1,5 +1,5 @@
 //! The code of a text.
-ghost use Rattle.std.specs.Prelude.{◌≡◌, ◌≤◌, ◌^◌, map, IfOk};
+ghost use Rattle.std.specs.Prelude.{◌≡◌, ◌≤◌, ◌^◌, length, map, IfOk};
 ghost use Rattle.st_tree.specs.Falls.{size_program};
 ghost use Rattle.tree_meaning.specs.Bodies.{method_place};
 ghost use Rattle.st_compiler.specs.TreeCode.{statements_in_turn_code, statement_codes, method_code, chunk_code};
@@ -10,7 +10,7 @@ use crate::instr::{BlockBody, Instr};
 use crate::parts::put;
 use st_locals::Place;
 use st_tree::Tree;
-use std::alloc::AllocError;
+use std::alloc::{AllocError, Global};
 use std::marker::Model;
 
 /// The code of a method or a chunk, with the tree from which it was made, as which contracts see
@@ -38,6 +38,25 @@ impl Model for Compiled {
 }
 
 impl Compiled {
+    /// Where its memory comes from.
+    pub fn allocator(&self) -> Global {
+        *self.code.allocator()
+    }
+
+    /// How many parameters the text has. It takes no memory.
+    pub fn params_count(&self) -> usize
+        ensures { result ≡ length self.now.params }
+    {
+        self.tree.params.len()
+    }
+
+    /// How many temporaries the text has. It takes no memory.
+    pub fn temps_count(&self) -> usize
+        ensures { result ≡ length self.now.temps }
+    {
+        self.tree.temps.len()
+    }
+
     /// Its instructions. It takes no memory.
     pub fn code(&self) -> &[Instr]
         ensures { instructions result.now ≡ (text_code self.now 0).code }

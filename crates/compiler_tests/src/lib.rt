@@ -1,0 +1,5 @@
+//! Room: running. Tests `st_compiler`.
+#![tactic(auto)]
+
+#[cfg(test)]
+mod compiled;

@@ -1,0 +1,11 @@
+pub mod Marks
+pub mod Pushes
+pub mod Sits
+pub mod TreeSits
+pub mod Rows
+pub mod Reading
+pub mod Pushed
+pub mod Good
+pub mod Solid
+pub mod Texts
+pub mod Writes

@@ -1,0 +1,4 @@
+pub mod ErrorText
+pub mod Bytes
+pub mod Operands
+pub mod Written
