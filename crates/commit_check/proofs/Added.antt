@@ -1,5 +1,5 @@
 -- What the entries at one name add.
-use Rattle.std.proofs.Common.{◌≡◌, ℕ, List, ◌++◌, Option, option_to_list, ap, ◌∙◌, append_assoc, subst}
+use Rattle.std.proofs.Common.{◌≡◌, ℕ, List, ◌++◌, Option, option_to_list, ap, ◌∙◌, append_assoc}
 use Rattle.gem_object.specs.declared.object.Object.{Object}
 use Rattle.gem_value.specs.declared.conflict.Conflict.{Conflict}
 use Rattle.commit_check.specs.Conflicts.{conflict_in, object_in}

@@ -1,20 +1,17 @@
 -- What stands is listed.
-use Rattle.std.proofs.Common.{◌≡◌, ℕ, ◌<◌, Bool, true, false, ◌||◌, nat_lt, ◌⊎◌, inl, inr, ⊎_elim, List, [], ◌∷◌, ◌++◌, Option, Some, None, is_some, option_to_list, flat_map, Contains, refl, sym, ap, ◌∙◌, subst}
-use Rattle.std.specs.FinMap.{get}
-use Rattle.std.proofs.lemmas.Bool.{false≢true, lt-ltb}
+use Rattle.std.proofs.Common.{◌≡◌, ℕ, ◌<◌, Bool, true, false, ◌||◌, nat_lt, ◌⊎◌, inl, ⊎_elim, ◌++◌, Option, Some, is_some, option_to_list, flat_map, Contains, refl, sym, ap, ◌∙◌, subst}
+use Rattle.std.proofs.lemmas.Bool.{lt-ltb}
 use Rattle.gem_value.specs.declared.conflict.Conflict.{Conflict}
 use Rattle.gem_value.specs.declared.conflict.ConflictKind.{ConflictKind}
 use Rattle.gem_value.specs.declared.conflict.ConflictKind.TheVariants.{WriteWrite, ReadWrite}
-use Rattle.gem_object.specs.declared.object.Object.{Object}
 use Rattle.gem_image.specs.Image.{Image}
-use Rattle.gem_record.specs.Names.{under}
 use Rattle.gem_record.specs.declared.record.TxnRecord.{TxnRecord}
-use Rattle.lock_table.specs.Locks.{denied_for, IsLowestHolder}
+use Rattle.lock_table.specs.Locks.{IsLowestHolder}
 use Rattle.lock_table.specs.declared.lock.LockKind.{LockKind}
 use Rattle.lock_table.specs.declared.lock.LockKind.TheVariants.{Read, Write}
 use Rattle.lock_table.proofs.Denied.{lowest_is_value}
 use Rattle.commit_check.specs.Conflicts.{Place, changed_of, last_change, change_kind, on_change, lock_conflict, on_lock, is_written, is_touched, is_updated, merge_at, conflict_in, conflicts_on, conflicts_of, names_used}
-use Rattle.commit_check.specs.Table.{IsTouched, IsWritten, IsUpdated, IsChangedSince, IsRefused, Stands, write_write, read_write, write_read_lock, write_write_lock, merge_refused}
+use Rattle.commit_check.specs.Table.{IsWritten, IsUpdated, IsChangedSince, IsRefused, Stands, write_write, read_write, write_read_lock, write_write_lock, merge_refused}
 use Rattle.commit_check.specs.declared.merging.Outcome.TheVariants.{Refused}
 use Rattle.commit_check.proofs.Members.{IsOneOf, one_of, contained, given_in, in_first, in_second}
 use Rattle.commit_check.proofs.Used.{to_any, first_true, second_true, touched_used, written_used, updated_used}

@@ -1,5 +1,5 @@
 -- The merged objects are those whose merge isn't refused.
-use Rattle.std.proofs.Common.{◌≡◌, ℕ, inl, inr, List, [], ◌∷◌, Option, Some, None, is_some, flat_map, Contains, refl, sym, ap, ◌∙◌, subst}
+use Rattle.std.proofs.Common.{◌≡◌, ℕ, inl, inr, List, Option, Some, None, is_some, flat_map, Contains, refl, sym, ap, ◌∙◌, subst}
 use Rattle.std.specs.FinMap.{get}
 use Rattle.gem_value.specs.declared.conflict.ConflictKind.{ConflictKind}
 use Rattle.gem_object.specs.declared.body.Body.{Body}
@@ -11,8 +11,7 @@ use Rattle.gem_record.specs.Names.{under}
 use Rattle.gem_record.specs.declared.record.TxnRecord.{TxnRecord}
 use Rattle.commit_check.specs.Conflicts.{refused, made_or_refused, merge_of, merge_at, object_in, merged_on, merged_objects, names_used}
 use Rattle.commit_check.specs.Table.{IsMerged}
-use Rattle.commit_check.specs.declared.merging.Outcome.{Outcome}
-use Rattle.commit_check.specs.declared.merging.Outcome.TheVariants.{Nothing, Made, Refused}
+use Rattle.commit_check.specs.declared.merging.Outcome.TheVariants.{Made}
 use Rattle.commit_check.proofs.Members.{IsOneOf, one_of, contained, given_by, given_in}
 use Rattle.commit_check.proofs.Used.{updated_used}
 

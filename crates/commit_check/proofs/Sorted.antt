@@ -1,5 +1,5 @@
 -- Lists that are joined of parts by name stay in order.
-use Rattle.std.proofs.Common.{◌≡◌, ℕ, List, [], ◌∷◌, ◌++◌, map, Ordering, Less, nat_cmp, flat_map, rules, sym, subst}
+use Rattle.std.proofs.Common.{◌≡◌, ℕ, List, [], ◌∷◌, ◌++◌, map, Ordering, Less, nat_cmp, flat_map, sym, subst}
 use Rattle.std.specs.List.{AllByRecursion}
 use Rattle.std.specs.List.Sorted.{IsStrictlySortedBy}
 use Rattle.gem_record.specs.Names.{Ascend, AscendByName}

@@ -1,14 +1,13 @@
 -- What is listed stands.
-use Rattle.std.proofs.Common.{◌≡◌, ℕ, ◌<◌, Bool, true, false, ◌||◌, nat_lt, if◌then◌else◌, ◌⊎◌, inl, inr, ⊎_elim, List, [], ◌∷◌, ◌++◌, Option, Some, None, option_map, option_and_then, option_to_list, flat_map, Contains, refl, sym, ap, ◌∙◌, subst}
+use Rattle.std.proofs.Common.{◌≡◌, ℕ, ◌<◌, Bool, true, false, ◌||◌, nat_lt, if◌then◌else◌, ◌⊎◌, inl, inr, ⊎_elim, List, ◌++◌, Option, Some, None, option_map, option_and_then, option_to_list, flat_map, Contains, refl, sym, ap, ◌∙◌, subst}
 use Rattle.std.specs.FinMap.{get}
 use Rattle.std.proofs.lemmas.Bool.{false≢true, ltb-true}
 use Rattle.std.proofs.lemmas.Option.{none-some, same_Some}
 use Rattle.gem_value.specs.declared.conflict.Conflict.{Conflict}
 use Rattle.gem_value.specs.declared.conflict.ConflictKind.{ConflictKind}
-use Rattle.gem_value.specs.declared.conflict.ConflictKind.TheVariants.{WriteWrite, ReadWrite, WriteReadLock, WriteWriteLock}
+use Rattle.gem_value.specs.declared.conflict.ConflictKind.TheVariants.{WriteWrite, ReadWrite}
 use Rattle.gem_object.specs.declared.body.Body.{Body}
 use Rattle.gem_object.specs.declared.object.Object.{Object}
-use Rattle.gem_image.specs.Image.{Image}
 use Rattle.gem_update.specs.Update.{merged, merge_kind}
 use Rattle.gem_update.specs.declared.update.Update.{Update}
 use Rattle.gem_record.specs.Names.{under}
@@ -18,9 +17,7 @@ use Rattle.lock_table.specs.declared.lock.LockKind.{LockKind}
 use Rattle.lock_table.specs.declared.lock.LockKind.TheVariants.{Read, Write}
 use Rattle.lock_table.proofs.Denied.{lowest_is_value}
 use Rattle.commit_check.specs.Conflicts.{Place, changed_of, last_change, change_kind, later_change, on_change, lock_conflict, on_lock, is_written, is_touched, is_updated, refused, made_or_refused, merge_of, merge_at, conflict_in, conflicts_on, conflicts_of, names_used}
-use Rattle.commit_check.specs.Table.{IsWritten, IsChangedSince, IsRefused, Stands, write_write, read_write, write_read_lock, write_write_lock, merge_refused}
-use Rattle.commit_check.specs.declared.merging.Outcome.{Outcome}
-use Rattle.commit_check.specs.declared.merging.Outcome.TheVariants.{Nothing, Made, Refused}
+use Rattle.commit_check.specs.Table.{IsChangedSince, Stands, write_write, read_write, write_read_lock, write_write_lock, merge_refused}
 use Rattle.commit_check.proofs.Members.{IsOneOf, one_of, contained, given_by, in_either}
 use Rattle.commit_check.proofs.Used.{from_any, either}
 

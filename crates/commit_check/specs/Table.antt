@@ -1,5 +1,5 @@
 -- The table of conflicts.
-use Rattle.std.specs.Prelude.{◌≡◌, ℕ, ◌<◌, ◌⊎◌, true, false, List, Option, Some, None, IsSome}
+use Rattle.std.specs.Prelude.{◌≡◌, ℕ, ◌<◌, ◌⊎◌, List, Some, None, IsSome}
 use Rattle.std.specs.Ordering.{nat_cmp, ordering_then}
 use Rattle.std.specs.declared.cmp.Ordering.{Ordering}
 use Rattle.std.specs.List.{Contains}
@@ -15,7 +15,7 @@ use Rattle.gem_update.specs.Update.{merged, merge_kind}
 use Rattle.gem_update.specs.declared.update.Update.{Update}
 use Rattle.gem_record.specs.Names.{Ascend, AscendByName, under}
 use Rattle.gem_record.specs.declared.record.TxnRecord.{TxnRecord}
-use Rattle.lock_table.specs.Locks.{LockSet, IsLowestHolder}
+use Rattle.lock_table.specs.Locks.{IsLowestHolder}
 use Rattle.lock_table.specs.declared.lock.LockKind.TheVariants.{Read, Write}
 use Rattle.commit_check.specs.Conflicts.{Place, last_change}
 

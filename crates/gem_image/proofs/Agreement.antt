@@ -1,11 +1,8 @@
 -- When images agree on a name, and that rights go by what they agree on.
-use Rattle.std.proofs.Common.{◌≡◌, ◌↔◌, ℕ, List, Option, Some, None, refl, sym, ap, ap₂, ◌∙◌}
+use Rattle.std.proofs.Common.{◌≡◌, ◌↔◌, ℕ, Option, Some, None, refl, sym, ap, ap₂, ◌∙◌}
 use Rattle.std.specs.Option.{option_map, option_and_then}
 use Rattle.std.specs.FinMap.{get}
-use Rattle.texts.specs.Bytes.{Bytes as Text}
-use Rattle.seg_rights.specs.declared.right.Right.{Right}
 use Rattle.seg_rights.specs.declared.right.Right.TheVariants as right
-use Rattle.seg_rights.specs.declared.rights.Rights.{Rights}
 use Rattle.gem_object.specs.declared.body.Body.{Body}
 use Rattle.gem_object.specs.declared.body.Body.TheVariants.{Segment}
 use Rattle.gem_object.specs.declared.object.Object.{Object}

@@ -1,9 +1,7 @@
 -- A Stone may be opened with the kernel's image.
-use Rattle.std.proofs.Common.{◌≡◌, ℕ, ◌+◌, ◌^◌, ◌<◌, ◌≤◌, max, Bool, true, false, cond, List, [], ◌∷◌, fold, length, Option, Some, None, IfSome, is_some, refl, sym, ap, subst, ◌∙◌, arith}
-use Rattle.std.specs.Ordering.{nat_cmp, is_eq, eq_by_cmp}
-use Rattle.std.specs.Cmp.{tied_itself}
+use Rattle.std.proofs.Common.{◌≡◌, ℕ, ◌≤◌, List, length, Option, Some, None, IfSome, is_some, sym, ap, subst, ◌∙◌, arith}
+use Rattle.std.specs.Ordering.{nat_cmp}
 use Rattle.std.specs.FinMap.{find, get, entries, get-entries}
-use Rattle.std.proofs.lemmas.Cmp.{nat_cmp_total}
 use Rattle.profile.specs.declared.limits.TheConstants.{SESSION_LIMIT}
 use Rattle.gem_value.specs.Oid.{serial_of}
 use Rattle.gem_object.specs.declared.object.Object.{Object}
@@ -17,29 +15,7 @@ use Rattle.commit_check.specs.Conflicts.{changed_of, last_change}
 use Rattle.shell_words.specs.Script.{SessionCommands}
 use Rattle.gem_meaning.specs.Opened.{largest_serial, base_serial}
 use Rattle.gem_meaning.specs.Serial.{CanServe}
-
--- the largest serial so far, and that of one more name
-abbrev larger : ℕ → ℕ × Object → ℕ
-larger largest entry = max largest (serial_of entry.0)
-
--- a bound of the serials of all that are found bounds the largest
-at_most : (bound most : ℕ) (list : List (ℕ × Object)) → most ≤ bound
-    → ((name : ℕ) (object : Object) → find nat_cmp name list ≡ Some object → serial_of name ≤ bound)
-    → fold larger most list ≤ bound
-at_most bound most [] first all = first
-at_most bound most (entry ∷ rest) first all =
-    let here = all entry.0 entry.1 (ap (λ o. cond (is_eq o) (Some entry.1) (find nat_cmp entry.0 rest)) (tied_itself nat_cmp_total entry.0)) in
-    at_most bound (larger most entry) rest (omega (arith, here, first)) later
-  where
-    on_test : (b : Bool) (name : ℕ) (object : Object) → eq_by_cmp nat_cmp name entry.0 ≡ b
-        → find nat_cmp name rest ≡ Some object → serial_of name ≤ bound
-    on_test true name object is found = all name entry.1
-        (ap (λ b. cond b (Some entry.1) (find nat_cmp name rest)) is)
-    on_test false name object is found = all name object
-        (ap (λ b. cond b (Some entry.1) (find nat_cmp name rest)) is ∙ found)
-
-    later : (name : ℕ) (object : Object) → find nat_cmp name rest ≡ Some object → serial_of name ≤ bound
-    later name object found = on_test (eq_by_cmp nat_cmp name entry.0) name object refl found
+use Rattle.stone_core.proofs.Largest.{at_most}
 
 first_serial : (name : ℕ) → name ≤ 35 → serial_of name ≤ 0
 first_serial name few = omega (arith, few)

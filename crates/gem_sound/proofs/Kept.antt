@@ -1,5 +1,5 @@
 -- What sound objects have, and that at most one rule is the first to be broken.
-use Rattle.std.proofs.Common.{◌≡◌, ◌<◌, ◌≤◌, ℕ, Option, Some, None, IsSome, is_some, All, List, length, refl, sym, ap, subst, inl, inr, true, arith}
+use Rattle.std.proofs.Common.{◌≡◌, ◌≤◌, ℕ, Option, Some, None, IsSome, All, List, length, refl, sym, subst, inl, inr, arith}
 use Rattle.std.specs.Option.{IfSome}
 use Rattle.std.proofs.lemmas.Bool.{false≢true, cases_lt}
 use Rattle.texts.specs.Bytes.{Bytes as Text}

@@ -1,5 +1,5 @@
 -- Which numbers the items of a list have that are numbered from 1.
-use Rattle.std.proofs.Common.{◌≡◌, ◌<◌, ◌≤◌, ◌↔◌, ◌+◌, ℕ, zero, suc, List, length, IsSome, arith}
+use Rattle.std.proofs.Common.{◌<◌, ◌≤◌, ◌↔◌, ℕ, zero, suc, List, length, IsSome, arith}
 use Rattle.std.specs.List.{slice_get}
 use Rattle.std.proofs.lemmas.Bool.{false≢true}
 use Rattle.std.proofs.lemmas.Option.{slice_get_cases}

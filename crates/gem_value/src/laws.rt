@@ -1,41 +1,13 @@
 //! What follows from the definitions alone. Each law is the contract of a function that does
 //! nothing.
-ghost use Rattle.std.specs.Prelude.{◌≡◌, ◌≢◌, ◌^◌, ◌<◌, ℕ, ℤ, None, Some};
+ghost use Rattle.std.specs.Prelude.{◌≡◌, ◌^◌, ◌<◌, ℕ};
 ghost use Rattle.std.specs.Ordering.{nat_cmp, ordering_then};
-ghost use Rattle.std.specs.FinMap as map;
-ghost use Rattle.texts.specs.Bytes.{Bytes};
-ghost use Rattle.gem_value.specs.Image.{Image};
 ghost use Rattle.gem_value.specs.Oid.{oid_number, serial_of, counter_of};
 ghost use Rattle.gem_value.specs.Conflict.{kind_number};
 ghost use Rattle.gem_value.specs.declared.conflict.Conflict.{Conflict};
 ghost use Rattle.gem_value.specs.declared.conflict.ConflictKind.{ConflictKind};
 
 use crate::{Conflict, ConflictKind, Oid};
-
-/// A global that is set has that integer, and every other global the one that it had.
-pub fn set_global()
-    ensures same_name { (image : Image) (name : Bytes) (value : ℤ) →
-        map.get (map.insert image name value) name ≡ Some value }
-    ensures other_name { (image : Image) (name other : Bytes) (value : ℤ) → other ≢ name →
-        map.get (map.insert image name value) other ≡ map.get image other }
-    ensures none { (image : Image) (name : Bytes) → image ≡ map.empty → map.get image name ≡ None }
-{}
-
-/// Of two writes of one global the last one counts, and writes of different globals may change
-/// places.
-pub fn set_twice()
-    ensures same_name { (image : Image) (name : Bytes) (first last : ℤ) →
-        map.insert (map.insert image name first) name last ≡ map.insert image name last }
-    ensures other_name { (image : Image) (name other : Bytes) (value worth : ℤ) → other ≢ name →
-        map.insert (map.insert image name value) other worth
-        ≡ map.insert (map.insert image other worth) name value }
-{}
-
-/// Images with the same globals are the same.
-pub fn same_globals()
-    ensures { (image other : Image) →
-        ((name : Bytes) → map.get image name ≡ map.get other name) → image ≡ other }
-{}
 
 /// A serial and a counter below 2^24 make a name of which they are the serial and the counter, and
 /// every name is made so.

@@ -1,7 +1,7 @@
 -- What touches and accesses leave, and how names are drawn.
-use Rattle.std.proofs.Common.{◌≡◌, ◌∙◌, ap, refl, ℕ, ◌+◌, List, [], ◌∷◌, ◌++◌, true, false, Some, None, Option, ◌&&◌, Bool, ◌≤◌, suc, arith, eq-eqb}
+use Rattle.std.proofs.Common.{◌≡◌, ◌∙◌, ap, refl, ℕ, ◌+◌, List, [], ◌∷◌, ◌++◌, true, false, ◌&&◌, Bool, ◌≤◌, suc, arith, eq-eqb}
 use Rattle.std.specs.Ordering.{nat_cmp}
-use Rattle.std.specs.FinMap.{get, get-empty}
+use Rattle.std.specs.FinMap.{get-empty}
 use Rattle.gem_image.specs.Image.{Contents}
 use Rattle.gem_update.specs.declared.update.Update.{Update}
 use Rattle.gem_world.specs.World.{Setting, World, untouched, name_of, next_name, is_drawn, is_made, touch}

@@ -9,7 +9,7 @@ use Rattle.radix_pages.proofs.Tables.{get-insert_same, get-insert_other}
 use Rattle.gem_object.specs.Kinds.{is_shared}
 use Rattle.gem_image.specs.Image.{Image, Contents, Objects, objects_in}
 use Rattle.gem_image.specs.Rights.{right_on}
-use Rattle.gem_world.specs.World.{Setting, World, untouched, as_of, before_changes, shown, shown_objects, next_name}
+use Rattle.gem_world.specs.World.{Setting, World, untouched, as_of, before_changes, shown, next_name}
 use Rattle.gem_world.specs.Access.{right_at}
 use Rattle.gem_world.specs.Changes.{put, make}
 

@@ -1,9 +1,7 @@
 -- Changes of objects, and what a transaction has changed in the end.
-use Rattle.std.specs.Prelude.{◌≡◌, ℕ, ◌+◌, Bool, true, false, not, cond, ◌&&◌, if◌then◌else◌, nat_eq, List, [], ◌∷◌, ◌++◌, filter, map, Option, Some, None}
+use Rattle.std.specs.Prelude.{ℕ, ◌+◌, Bool, not, cond, ◌&&◌, if◌then◌else◌, nat_eq, List, [], ◌∷◌, ◌++◌, filter, Option, Some, None}
 use Rattle.std.specs.List.{filter_map}
-use Rattle.std.specs.Ordering.{nat_cmp}
 use Rattle.std.specs.FinMap.{insert, entries}
-use Rattle.std.specs.FinSet.{items, from_list}
 use Rattle.gem_object.specs.Kinds.{is_shared}
 use Rattle.gem_object.specs.declared.body.Body.{Body}
 use Rattle.gem_image.specs.Image.{Contents}
@@ -50,22 +48,9 @@ made_objects setting world = filter (was_made setting world) (entries world.chan
 abbrev pub written_objects : Setting → World → List (ℕ × Contents)
 written_objects setting world = filter (was_written setting world) (entries world.changes)
 
--- names, ascending and each once
-abbrev pub ascending : List ℕ → List ℕ
-ascending names = items (from_list {R = nat_cmp} names)
-
--- the names that were touched
-abbrev pub touched_names : World → List ℕ
-touched_names world = ascending world.touched
-
 abbrev pub update_on : ℕ → ℕ × Update → Option Update
 update_on name entry = if nat_eq entry.0 name then Some entry.1 else None
 
 -- the updates of one object, in their order
 abbrev pub updates_on : ℕ → List (ℕ × Update) → List Update
 updates_on name updates = filter_map (update_on name) updates
-
--- the updates of each object that has some, ascending by the objects' names
-abbrev pub updates_by_name : World → List (ℕ × List Update)
-updates_by_name world = map (λ name. (name, updates_on name world.updates))
-    (ascending (map (λ entry. entry.0) world.updates))

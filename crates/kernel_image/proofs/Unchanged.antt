@@ -1,12 +1,12 @@
 -- No commit has changed an object of the kernel.
-use Rattle.std.proofs.Common.{◌≡◌, ℕ, zero, suc, Bool, true, List, [], ◌∷◌, Option, Some, None, IfSome, refl, sym, subst}
+use Rattle.std.proofs.Common.{◌≡◌, ℕ, zero, suc, Bool, true, List, [], ◌∷◌, Option, IfSome, refl, sym, subst}
 use Rattle.std.specs.Prelude.{nat_eq}
 use Rattle.std.specs.List.{slice_get, list_all}
 use Rattle.std.specs.FinMap.{get}
 use Rattle.std.proofs.lemmas.Bool.{eqb-true}
 use Rattle.gem_object.specs.declared.object.Object.{Object}
 use Rattle.gem_sound.specs.Kernel.{numbered, kernel_classes}
-use Rattle.kernel_image.specs.Objects.{class_list, protocols, shared_objects, profiles, last_objects, kernel_list, kernel_objects, kernel_image}
+use Rattle.kernel_image.specs.Objects.{class_list, protocols, shared_objects, profiles, last_objects, kernel_list, kernel_image}
 use Rattle.kernel_image.proofs.Sources.{both}
 use Rattle.kernel_image.proofs.Named.{kernel_has}
 

@@ -1,8 +1,7 @@
 -- Names in order, and which changed objects come into a list.
-use Rattle.std.proofs.Common.{◌≡◌, ◌∙◌, refl, sym, ap, subst, ℕ, Bool, true, false, ◌&&◌, cond, ◌||◌, nat_eq, List, [], ◌∷◌, ◌++◌, map, filter, Option, Some, None, is_some, option_map}
-use Rattle.std.proofs.Math.Path.{fun_ext}
+use Rattle.std.proofs.Common.{◌≡◌, ◌∙◌, refl, sym, ap, ℕ, Bool, true, false, ◌&&◌, cond, ◌||◌, nat_eq, List, [], ◌∷◌, ◌++◌, map, filter, Option, Some, None, is_some, option_map}
 use Rattle.std.specs.Prelude.{T}
-use Rattle.std.specs.List.{AllByRecursion, list_any, flat_map, dedup, dedup_from}
+use Rattle.std.specs.List.{AllByRecursion, list_any, dedup, dedup_from}
 use Rattle.std.specs.Option.{option_to_list}
 use Rattle.std.specs.List.Sorted.{IsStrictlySortedBy, IsSorted, IsPermutation}
 use Rattle.std.specs.Ordering.{eq_by_cmp, is_lt, is_eq, nat_cmp}
@@ -21,7 +20,7 @@ use Rattle.run_records.specs.Names.{marked, ascending}
 use Rattle.run_records.specs.Record.{uncommitted, all_uncommitted}
 use Rattle.running_objects.specs.Seen.{Seen}
 use Rattle.plain_state.specs.Overlay.{contents_by_name}
-use Rattle.plain_state.specs.Lists.{is_chosen, chosen_by, chosen, all_chosen}
+use Rattle.plain_state.specs.Lists.{is_chosen, chosen_by, all_chosen}
 use Rattle.plain_state.proofs.Changes.{tied}
 
 -- ---- names in order

@@ -24,7 +24,7 @@ use Rattle.prim_rules.specs.Parts.{check_kind}
 use Rattle.prim_rules.specs.Any.{gives_write, move_object, assign_value, assign_rule}
 use Rattle.prim_classes.specs.Segments.{movable_by, may_move, check_writer, moved}
 use Rattle.prim_classes.specs.declared.segments.Movable.{Movable}
-use Rattle.prim_classes.proofs.Steps.{computes_stops}
+use Rattle.prim_parts.proofs.Onward.{computes_stops}
 
 -- after the profile was looked at
 pub writer_then : (name user : ℕ) (rights : Rights Text) (may : Bool) {before between : Seen} {result : Result (Unit {0}) Stop}

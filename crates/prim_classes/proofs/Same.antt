@@ -9,7 +9,8 @@ use Rattle.running_objects.specs.declared.stop.Stop.{Stop}
 use Rattle.prim_rules.specs.Parts.{is_block, truth}
 use Rattle.prim_rules.specs.Any.{same_rule}
 use Rattle.prim_parts.specs.Does.{Computes}
-use Rattle.prim_classes.proofs.Steps.{computes_on, computes_ends, computes_given}
+use Rattle.prim_classes.proofs.Steps.{computes_ends, computes_given}
+use Rattle.prim_parts.proofs.Onward.{computes_on}
 
 module _ (value other : Value) (none : Bool) (is : none ≡ not (is_block value || is_block other)) where
   pub same_stops : {result : Result Value Stop} {ended : Stop} → Computes (check fault.ArgumentKind none) (Err ended)

@@ -22,7 +22,8 @@ use Rattle.prim_parts.specs.Does.{Does}
 use Rattle.prim_parts.proofs.Does.{does_then, does_stop, does_assoc, does_give, does_fail}
 use Rattle.prim_rules.specs.Printing.{is_short, element_text, elements_text, with_elements, array_text}
 use Rattle.prim_classes.specs.Prints.{short, joined, enclosed, shortened}
-use Rattle.prim_classes.proofs.Steps.{handed, does_given, does_no_memory}
+use Rattle.prim_classes.proofs.Steps.{does_given, does_no_memory}
+use Rattle.prim_parts.proofs.Onward.{handed}
 
 -- A program of whose answer this part was kept: it gave an answer that has this part.
 record Gave {A D : Type 0} (outcome : Outcome MadeBlock A) (part : A → D) (kept : D) (state : State MadeBlock) : Type 0 where

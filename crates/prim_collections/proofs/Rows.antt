@@ -5,24 +5,23 @@ use Rattle.std.proofs.Common.{[], ◌≡◌, sym, ap, ◌∙◌, subst, ℕ, Boo
 use Rattle.gem_object.specs.declared.value.Value.{Value}
 use Rattle.gem_object.specs.declared.body.Body.{Body}
 use Rattle.gem_image.specs.Image.{Contents}
-use Rattle.gem_world.specs.World.{Setting}
 use Rattle.gem_world.specs.Access.{Access}
 use Rattle.tree_meaning.specs.Place.{MadeBlock}
 use Rattle.object_programs.specs.Local.{Local}
 use Rattle.object_programs.specs.Atom.{Ask}
-use Rattle.object_programs.specs.Run.{Run, give, atom, and_then, gives, Outcome, Ending, onward, State, perform}
+use Rattle.object_programs.specs.Run.{Run, give, atom, and_then, gives, Outcome, Ending}
 use Rattle.object_programs.specs.Programs.{need}
 use Rattle.object_programs.specs.declared.fault.Fault.{Fault}
 use Rattle.object_programs.specs.declared.fault.Fault.TheVariants as fault
 use Rattle.prim_rules.specs.Parts.{reference_in}
 use Rattle.prim_rules.specs.Receivers.{Receiver, received}
 use Rattle.running_objects.specs.Seen.{Seen}
-use Rattle.running_objects.specs.Ran.{EndsSo}
 use Rattle.running_objects.specs.Acted.{Reached}
 use Rattle.running_objects.specs.declared.stop.Stop.{Stop}
 use Rattle.running_objects.specs.declared.stop.Stop.TheVariants as stop
 use Rattle.prim_parts.specs.Does.{Does, Computes}
-use Rattle.prim_collections.specs.Looks.{Looks, Reaches}
+use Rattle.prim_collections.specs.Looks.{Looks}
+use Rattle.prim_parts.specs.Reached.{Reaches}
 use Rattle.prim_parts.proofs.Does.{does_give, does_nothing, does_atom, does_then, does_stop, computes_then}
 
 -- an access that was allowed, and what goes on from the object
@@ -30,33 +29,6 @@ pub does_accessed : {A : Type 0} {access : Access} {name : ℕ} {before between 
     {rest : Contents → Run MadeBlock A} (reached : Reached access name before between)
     → Does (rest reached.object) between result after → Does (and_then (atom (Ask access name)) rest) before result after
 does_accessed reached does = does_then (does_atom reached.acted) does
-
--- one computation after the other
-pub computes_on : {A C : Type 0} {first : Run MadeBlock C} {second : C → Run MadeBlock A} {answer : C}
-    {result : Result A Stop} → Computes first (Ok answer) → Computes (second answer) result
-    → Computes (and_then first second) result
-computes_on {A} {C} {first} {second} {answer} {result} one rest = record {
-  ends = λ setting state.
-      let next : Outcome MadeBlock C → Outcome MadeBlock A = λ outcome. onward outcome.end outcome.state
-      (λ found left. perform (second found) setting left) in
-      let At : Outcome MadeBlock A → Type 0 = λ outcome. EndsSo outcome result state in
-      subst At (sym (ap next (one.ends setting state))) (rest.ends setting state);
-}
-
-stopped : {A C : Type 0} (setting : Setting) (outcome : Outcome MadeBlock C) (second : C → Run MadeBlock A) (ended : Stop)
-    (state : State MadeBlock) → EndsSo outcome (Err ended) state
-    → EndsSo (onward outcome.end outcome.state (λ found left. perform (second found) setting left)) (Err ended) state
-stopped setting outcome second (stop.Fails fault) state is =
-    ap (λ end. onward end.end end.state (λ found left. perform (second found) setting left)) is
-stopped setting outcome second (stop.Returns value home) state is =
-    ap (λ end. onward end.end end.state (λ found left. perform (second found) setting left)) is
-stopped setting outcome second stop.NoMemory state is = tt
-
-pub computes_off : {A C : Type 0} {first : Run MadeBlock C} {second : C → Run MadeBlock A} {ended : Stop}
-    → Computes first (Err ended) → Computes (and_then first second) (Err ended)
-computes_off {A} {C} {first} {second} {ended} one = record {
-  ends = λ setting state. stopped setting (perform first setting state) second ended state (one.ends setting state);
-}
 
 abbrev answer_of : {A : Type 0} → Option A → Ending A → Option A
 answer_of other (gives answer) = Some answer

@@ -7,7 +7,8 @@ ghost use Rattle.prim_rules.specs.Parts.{pairs_in};
 ghost use Rattle.prim_rules.specs.Receivers.{read_receiver, write_receiver};
 ghost use Rattle.prim_rules.specs.Dictionaries.{check_key, key_argument};
 ghost use Rattle.prim_parts.specs.Does.{Computes, IsThere, pointed};
-ghost use Rattle.prim_collections.specs.Looks.{Looks, SaysOf, Receives};
+ghost use Rattle.prim_collections.specs.Looks.{Looks, SaysOf};
+ghost use Rattle.prim_parts.specs.Reached.{Receives};
 
 use crate::bodies::pairs_at;
 use gem_object::Value;

@@ -5,10 +5,8 @@ use Rattle.std.proofs.lemmas.Result.{err_from_is_err_and}
 use Rattle.std.specs.Ordering.{int_eq}
 use Rattle.object_programs.specs.Programs.{check}
 use Rattle.object_programs.specs.declared.fault.Fault.TheVariants as fault
-use Rattle.gem_world.specs.World.{Setting}
 use Rattle.tree_meaning.specs.Place.{MadeBlock}
-use Rattle.object_programs.specs.Run.{Run, and_then, State, Outcome, onward, perform}
-use Rattle.running_objects.specs.Ran.{EndsSo}
+use Rattle.object_programs.specs.Run.{Run, and_then}
 use Rattle.running_objects.specs.declared.stop.Stop.{Stop}
 use Rattle.running_objects.specs.declared.stop.Stop.TheVariants as stop
 use Rattle.gem_object.specs.declared.value.Value.{Value}
@@ -18,32 +16,7 @@ use Rattle.prim_rules.specs.declared.answer.PrimitiveAnswer.{PrimitiveAnswer}
 use Rattle.prim_rules.specs.declared.answer.PrimitiveAnswer.TheVariants.{Gives}
 use Rattle.prim_parts.specs.Does.{Computes}
 use Rattle.prim_parts.proofs.Does.{computes_give}
-
-pub computes_on : {A C : Type 0} {first : Run MadeBlock C} {second : C → Run MadeBlock A} {answer : C}
-    {result : Result A Stop} → Computes first (Ok answer) → Computes (second answer) result
-    → Computes (and_then first second) result
-computes_on {A} {C} {first} {second} {answer} {result} one rest = record {
-  ends = λ setting state.
-      let next : Outcome MadeBlock C → Outcome MadeBlock A = λ outcome. onward outcome.end outcome.state
-      (λ found left. perform (second found) setting left) in
-      let At : Outcome MadeBlock A → Type 0 = λ outcome. EndsSo outcome result state in
-      subst At (sym (ap next (one.ends setting state))) (rest.ends setting state);
-}
-
-stopped : {A C : Type 0} (setting : Setting) (outcome : Outcome MadeBlock C) (second : C → Run MadeBlock A) (ended : Stop)
-    (state : State MadeBlock) → EndsSo outcome (Err ended) state
-    → EndsSo (onward outcome.end outcome.state (λ found left. perform (second found) setting left)) (Err ended) state
-stopped setting outcome second (stop.Fails fault) state is =
-    ap (λ end. onward end.end end.state (λ found left. perform (second found) setting left)) is
-stopped setting outcome second (stop.Returns value home) state is =
-    ap (λ end. onward end.end end.state (λ found left. perform (second found) setting left)) is
-stopped setting outcome second stop.NoMemory state is = tt
-
-computes_off : {A C : Type 0} {first : Run MadeBlock C} {second : C → Run MadeBlock A} {ended : Stop}
-    → Computes first (Err ended) → Computes (and_then first second) (Err ended)
-computes_off {A} {C} {first} {second} {ended} one = record {
-  ends = λ setting state. stopped setting (perform first setting state) second ended state (one.ends setting state);
-}
+use Rattle.prim_parts.proofs.Onward.{computes_off, computes_on}
 
 -- where a `?` hands an error on: give it the two fields of `from_residual`
 pub computes_exit : {A C : Type 0} {first : Run MadeBlock C} {second : C → Run MadeBlock A} {ended : Stop}

@@ -2,3 +2,4 @@ pub mod Does
 pub mod Replaced
 pub mod Walks
 pub mod Entries
+pub mod Onward

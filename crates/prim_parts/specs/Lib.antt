@@ -3,3 +3,4 @@ pub mod Edits
 pub mod Entering
 pub mod Limits
 pub mod Walks
+pub mod Reached

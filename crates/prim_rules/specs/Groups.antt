@@ -1,5 +1,5 @@
 -- Groups of segments and of users. They stand in the order of their bytes, each once.
-use Rattle.std.specs.Prelude.{ℕ, Bool, nat_le, bytes_eq, length, List}
+use Rattle.std.specs.Prelude.{Bool, nat_le, bytes_eq, length, List}
 use Rattle.std.specs.Ordering.{nat_cmp}
 use Rattle.std.specs.Cmp.Lexicographic.{slice_cmp}
 use Rattle.std.specs.BTreeMap.{insert_entry}

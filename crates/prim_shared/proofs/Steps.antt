@@ -7,14 +7,12 @@ use Rattle.tree_meaning.specs.Place.{MadeBlock}
 use Rattle.gem_object.specs.declared.value.Value.{Value}
 use Rattle.gem_object.specs.declared.body.Body.{Body}
 use Rattle.gem_image.specs.Image.{Contents}
-use Rattle.gem_world.specs.World.{Setting}
 use Rattle.gem_world.specs.Access.{Access}
 use Rattle.object_programs.specs.Atom.{Ask}
-use Rattle.object_programs.specs.Run.{Run, atom, and_then, State, Outcome, onward, perform}
+use Rattle.object_programs.specs.Run.{Run, atom, and_then}
 use Rattle.object_programs.specs.Programs.{need}
 use Rattle.object_programs.specs.declared.fault.Fault.TheVariants as fault
 use Rattle.running_objects.specs.Seen.{Seen, object_at}
-use Rattle.running_objects.specs.Ran.{EndsSo}
 use Rattle.running_objects.specs.Acted.{Reached}
 use Rattle.running_objects.specs.declared.stop.Stop.{Stop}
 use Rattle.running_objects.specs.declared.stop.Stop.TheVariants as stop
@@ -23,38 +21,12 @@ use Rattle.prim_rules.specs.Parts.{reference_in}
 use Rattle.prim_rules.specs.Receivers.{Receiver, received}
 use Rattle.prim_parts.specs.Does.{Does, Computes}
 use Rattle.prim_parts.proofs.Does.{does_then, does_stop, does_atom, does_give, does_fail, does_nothing, computes_then}
-use Rattle.prim_shared.specs.Held.{held_of, Reaches, Receives}
+use Rattle.prim_shared.specs.Held.{held_of}
+use Rattle.prim_parts.specs.Reached.{Reaches, Receives}
 
 -- where memory ran out before anything was done, and with nothing to do
 pub nothing_done : {A : Type 0} (program : Run MadeBlock A) (seen : Seen) → Does program seen (Err stop.NoMemory) seen
 nothing_done program seen = does_nothing program (keeps_same seen)
-
--- one computation after the other
-pub computes_on : {A C : Type 0} {first : Run MadeBlock C} {second : C → Run MadeBlock A} {answer : C}
-    {result : Result A Stop} → Computes first (Ok answer) → Computes (second answer) result
-    → Computes (and_then first second) result
-computes_on {A} {C} {first} {second} {answer} {result} one rest = record {
-  ends = λ setting state.
-      let next : Outcome MadeBlock C → Outcome MadeBlock A = λ outcome. onward outcome.end outcome.state
-      (λ found left. perform (second found) setting left) in
-      let At : Outcome MadeBlock A → Type 0 = λ outcome. EndsSo outcome result state in
-      subst At (sym (ap next (one.ends setting state))) (rest.ends setting state);
-}
-
-stopped : {A C : Type 0} (setting : Setting) (outcome : Outcome MadeBlock C) (second : C → Run MadeBlock A) (ended : Stop)
-    (state : State MadeBlock) → EndsSo outcome (Err ended) state
-    → EndsSo (onward outcome.end outcome.state (λ found left. perform (second found) setting left)) (Err ended) state
-stopped setting outcome second (stop.Fails fault) state is =
-    ap (λ end. onward end.end end.state (λ found left. perform (second found) setting left)) is
-stopped setting outcome second (stop.Returns value home) state is =
-    ap (λ end. onward end.end end.state (λ found left. perform (second found) setting left)) is
-stopped setting outcome second stop.NoMemory state is = tt
-
-pub computes_off : {A C : Type 0} {first : Run MadeBlock C} {second : C → Run MadeBlock A} {ended : Stop}
-    → Computes first (Err ended) → Computes (and_then first second) (Err ended)
-computes_off {A} {C} {first} {second} {ended} one = record {
-  ends = λ setting state. stopped setting (perform first setting state) second ended state (one.ends setting state);
-}
 
 -- where a `?` hands on how a program ended
 pub handed : {A : Type 0} {program : Run MadeBlock A} {before after : Seen} {ended : Stop} (result : Result A Stop)

@@ -1,5 +1,5 @@
 -- How code goes on with a receiver that was read or written.
-use Rattle.std.specs.Prelude.{◌≡◌, ℕ, Option, Some, option_and_then, Result, Ok, Err}
+use Rattle.std.specs.Prelude.{◌≡◌, ℕ, Option, Some, option_and_then, Result}
 use Rattle.tree_meaning.specs.Place.{MadeBlock}
 use Rattle.gem_object.specs.declared.body.Body.{Body}
 use Rattle.gem_image.specs.Image.{Contents}
@@ -13,22 +13,6 @@ module _ {A : Type 0} where
   -- what an object holds, where its body is of this kind
   abbrev pub held_of : (Body → Option A) → Option Contents → Option A
   held_of part found = option_and_then (λ object. part object.body) found
-
-  -- Code reached a receiver as the program does: it is the object of this name, and its body holds
-  -- what the rule is for.
-  pub record Reaches (part : Body → Option A) (program : Run MadeBlock (Receiver A))
-      (before : Seen) (name : ℕ) (after : Seen) : Type 0 where
-    pub object : Contents
-    pub held : A
-    pub there : object_at name after ≡ Some object
-    pub holds : part object.body ≡ Some held
-    pub does : Does program before
-        (Ok (record { name = name; object = object; held = held })) after
-
-  abbrev pub Receives : (Body → Option A) → Run MadeBlock (Receiver A) → Seen
-      → Result ℕ Stop → Seen → Type 0
-  Receives part program before (Ok name) after = Reaches part program before name after
-  Receives part program before (Err ended) after = Does program before (Err ended) after
 
   -- Code went on with the receiver of this name as the program does.
   abbrev pub GoesOn : {C : Type 0} → (Body → Option A) → (Receiver A → Run MadeBlock C) → ℕ

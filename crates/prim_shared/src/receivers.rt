@@ -3,7 +3,8 @@ ghost use Rattle.std.specs.Prelude.{◌≡◌, is_some};
 ghost use Rattle.prim_rules.specs.Receivers.{read_receiver, write_receiver};
 ghost use Rattle.running_objects.specs.Seen.{object_at};
 ghost use Rattle.prim_shared.specs.Kinds.{held_in};
-ghost use Rattle.prim_shared.specs.Held.{held_of, Receives};
+ghost use Rattle.prim_shared.specs.Held.{held_of};
+ghost use Rattle.prim_parts.specs.Reached.{Receives};
 
 use gem_object::{Body, Value};
 use gem_value::Oid;

@@ -1,13 +1,13 @@
 -- What a view shows after its calls.
-use Rattle.std.proofs.Common.{◌≡◌, ◌∙◌, ◌≢◌, refl, sym, ap, subst, ℕ, Bool, true, false, cond, Option, Some, None}
+use Rattle.std.proofs.Common.{◌≡◌, ◌∙◌, ◌≢◌, refl, ap, ℕ, Bool, true, false, cond, Option, Some, None}
 use Rattle.std.specs.Option.{option_or}
 use Rattle.std.specs.Ordering.{nat_cmp}
-use Rattle.std.specs.FinMap.{get, empty, get-empty}
+use Rattle.std.specs.FinMap.{get-empty}
 use Rattle.gem_object.specs.Kinds.{is_shared}
 use Rattle.gem_object.specs.declared.body.Body.{Body}
 use Rattle.gem_image.specs.Image.{Image, Contents, objects_in}
-use Rattle.gem_world.specs.World.{Setting, World, as_of, are_shared, before_changes, shown, touch, is_made, is_private, with_name}
-use Rattle.gem_world.specs.Changes.{with_body, in_segment, put}
+use Rattle.gem_world.specs.World.{Setting, World, as_of, are_shared, touch, is_made, is_private, with_name}
+use Rattle.gem_world.specs.Changes.{with_body, in_segment}
 use Rattle.object_programs.proofs.Worlds.{shown_asked, put_here, put_elsewhere}
 use Rattle.running_objects.specs.Seen.{Seen, object_at}
 use Rattle.plain_state.specs.Parts.{asked}

@@ -1,6 +1,6 @@
 -- Which fault is due, from what the tests of a call answer. A call makes room first, which leaves
 -- what is seen: so the tests see another state, with the same.
-use Rattle.std.proofs.Common.{◌≡◌, ◌∙◌, refl, sym, ap, subst, ℕ, ◌<◌, ◌≤◌, Bool, true, false, cond, Option, Some, None, is_some}
+use Rattle.std.proofs.Common.{◌≡◌, ◌∙◌, refl, sym, ap, ℕ, ◌<◌, ◌≤◌, Bool, true, false, cond, Option, Some, None, is_some}
 use Rattle.std.proofs.lemmas.Bool.{false≢true, lt-ltb, le-ltb}
 use Rattle.seg_rights.specs.Right.{allows_write}
 use Rattle.seg_rights.specs.declared.right.Right.{Right}
@@ -8,14 +8,13 @@ use Rattle.gem_object.specs.declared.body.Body.{Body}
 use Rattle.gem_update.specs.declared.update.Update.{Update}
 use Rattle.gem_image.specs.Rights.{right_in}
 use Rattle.gem_world.specs.World.{shown_objects}
-use Rattle.gem_world.specs.Access.{a_read, a_write, is_allowed}
+use Rattle.gem_world.specs.Access.{a_write, is_allowed}
 use Rattle.object_programs.specs.Guard.{holds_of}
 use Rattle.object_programs.specs.declared.limits.TheConstants.{COUNTER_LIMIT}
-use Rattle.running_objects.specs.Seen.{Seen, object_at}
+use Rattle.running_objects.specs.Seen.{Seen}
 use Rattle.plain_state.specs.Parts.{asked}
 use Rattle.plain_state.specs.Writes.{accepts_body, body_after, updated_to}
 use Rattle.session_view.specs.Calls.{Due, write_due, is_small, size_due, segment_due, names_due, due_after, takes, updated, updated_by}
-use Rattle.session_view.specs.declared.fault.ViewFault.{ViewFault}
 use Rattle.session_view.specs.declared.fault.ViewFault.TheVariants as fault
 
 -- what a test holds of is there

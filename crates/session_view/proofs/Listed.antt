@@ -1,5 +1,5 @@
 -- The lists of a record are in the order of names.
-use Rattle.std.proofs.Common.{◌≡◌, ◌∙◌, refl, sym, ap, subst, ℕ, Bool, List, [], ◌∷◌, map, filter}
+use Rattle.std.proofs.Common.{◌≡◌, refl, sym, ap, subst, ℕ, Bool, List, [], ◌∷◌, map, filter}
 use Rattle.std.specs.List.Sorted.{IsStrictlySortedBy}
 use Rattle.std.specs.Ordering.{nat_cmp}
 use Rattle.std.specs.FinMap.{FinMap, entries}
@@ -9,7 +9,7 @@ use Rattle.gem_image.specs.Image.{Contents}
 use Rattle.gem_record.specs.Names.{Ascend, AscendByName}
 use Rattle.gem_world.specs.Changes.{updates_on}
 use Rattle.run_records.specs.Names.{ascending}
-use Rattle.run_records.specs.Record.{uncommitted, all_uncommitted}
+use Rattle.run_records.specs.Record.{all_uncommitted}
 use Rattle.plain_state.proofs.Listing.{ascending_sorted, filtered_sorted}
 
 pub names_ascend : (names listed : List ℕ) → listed ≡ ascending names → Ascend listed

@@ -1,5 +1,5 @@
 -- How the calls of a view end: which fault is due, and what is seen afterwards.
-use Rattle.std.specs.Prelude.{◌≡◌, ◌⊎◌, ℕ, ◌+◌, Bool, true, ◌&&◌, cond, nat_le, nat_lt, Option, None, Some, Result, Ok, Err}
+use Rattle.std.specs.Prelude.{◌≡◌, ◌⊎◌, ℕ, ◌+◌, Bool, ◌&&◌, cond, nat_le, nat_lt, Option, None, Some, Result, Ok, Err}
 use Rattle.seg_rights.specs.Right.{allows_write}
 use Rattle.gem_object.specs.Kinds.{is_shared}
 use Rattle.gem_object.specs.Sizes.{fields_size}

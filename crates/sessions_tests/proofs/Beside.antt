@@ -1,13 +1,13 @@
 -- The first session may come to a Stone on which the second one holds a lock.
-use Rattle.std.proofs.Common.{◌≡◌, ◌∙◌, ℕ, ◌+◌, ◌-◌, ◌<◌, ◌≤◌, ◌&&◌, Bool, true, List, [], ◌∷◌, length, get_or, Some, IsSome, refl, sym, ap, ap₂, subst, arith}
+use Rattle.std.proofs.Common.{◌≡◌, ℕ, ◌-◌, ◌<◌, ◌≤◌, ◌&&◌, true, List, [], ◌∷◌, length, get_or, Some, IsSome, refl, sym, ap, ap₂, subst, arith}
 use Rattle.std.specs.FinMap.{get}
 use Rattle.std.specs.List.{slice_get}
 use Rattle.std.proofs.lemmas.Bool.{le-leb}
-use Rattle.kernel_image.specs.Objects.{kernel_image, kernel_objects}
+use Rattle.kernel_image.specs.Objects.{kernel_image}
 use Rattle.kernel_image.proofs.Named.{kernel_has}
 use Rattle.kernel_image.proofs.KernelSound.{kernel_numbers}
 use Rattle.shell_words.specs.Script.{SessionCommands}
-use Rattle.gem_meaning.specs.Opened.{base_serial, session_serial, largest_serial}
+use Rattle.gem_meaning.specs.Opened.{base_serial, largest_serial}
 use Rattle.gem_meaning.specs.Events.{Told, told_more, after_events, standing, events_of}
 use Rattle.gem_meaning.specs.Serial.{CanServe}
 use Rattle.stone_core.specs.declared.port.LockAnswer.{LockAnswer}

@@ -1,8 +1,8 @@
 -- What is put out, part by part.
-use Rattle.std.proofs.Common.{◌≡◌, refl, sym, ap, subst, ◌∙◌, ℕ, zero, suc, ◌+◌, ◌<◌, Bool, true, false, List, [], ◌∷◌, ◌++◌, length, map, ◌==◌, Result, Ok, Err, arith, append_assoc, length-append}
+use Rattle.std.proofs.Common.{◌≡◌, refl, sym, ap, subst, ◌∙◌, ℕ, zero, suc, ◌+◌, ◌<◌, Bool, false, List, [], ◌∷◌, ◌++◌, length, map, ◌==◌, arith, append_assoc, length-append}
 use Rattle.std.specs.Prelude.{slice_set}
 use Rattle.std.proofs.lemmas.List.{append-nil, map-append, length-map, map-set, set_at}
-use Rattle.st_tree.specs.Trees.{Closure, Expression, Expressions, expressions, Send, sends, Statement, statements}
+use Rattle.st_tree.specs.Trees.{Closure, Expression, expressions, Send, sends, Statement, statements}
 use Rattle.tree_meaning.specs.Names.{where_is}
 use Rattle.tree_meaning.specs.Place.{Place}
 use Rattle.st_compiler.specs.Instruction.{Instruction, Pop, Dup, PushNil, PushBlock, Jump, JumpBack, TakeUnit, Enter, Leave, LoopStart, LoopNext, LoopStep}

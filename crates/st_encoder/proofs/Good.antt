@@ -1,10 +1,9 @@
 -- Each instruction of a block is content with what every way brings to it.
-use Rattle.std.proofs.Common.{◌≡◌, ◌∙◌, refl, sym, ap, subst, ℕ, zero, suc, ◌+◌, ◌-◌, ◌<◌, ◌≤◌, ◌==◌, nat_eq, nat_lt, nat_le, Bool, true, false, not, ◌&&◌, List, [], ◌∷◌, ◌++◌, length, length-append, append_assoc, drop, take, slice_get, Option, Some, None, arith}
+use Rattle.std.proofs.Common.{◌≡◌, ◌∙◌, refl, sym, ap, subst, ℕ, zero, suc, ◌+◌, ◌-◌, ◌<◌, ◌≤◌, nat_eq, nat_lt, nat_le, Bool, true, false, not, List, [], ◌∷◌, ◌++◌, length, length-append, append_assoc, drop, take, slice_get, Option, Some, arith}
 use Rattle.std.proofs.lemmas.Bool.{false≢true, eq-eqb}
 use Rattle.std.proofs.lemmas.Bool.Decides.{nat_tests}
 use Rattle.std.proofs.lemmas.Option.{same_Some}
 use Rattle.op_table.specs.Ops.{row_for}
-use Rattle.st_tree.specs.Trees.{Constant}
 use Rattle.st_tree.specs.declared.nodes.Literal.{Literal}
 use Rattle.gem_object.specs.declared.value.Value.{Value}
 use Rattle.gem_object.specs.declared.value.Value.TheVariants as value
@@ -12,13 +11,13 @@ use Rattle.st_code.specs.Held.{Held}
 use Rattle.st_code.specs.declared.line.Line.{Line}
 use Rattle.st_code.specs.Lines.{width}
 use Rattle.st_code.specs.Operands.{is_new, pushes_block, literal_fits}
-use Rattle.st_code.specs.Ways.{is_return, jumps, goes_on, takes, puts_going_on, puts_jumping, scopes_after, held_after, height_after}
-use Rattle.st_code.specs.Faults.{is_variable, scopes_fit}
+use Rattle.st_code.specs.Ways.{is_return, jumps, goes_on, takes, puts_going_on, puts_jumping, held_after}
+use Rattle.st_code.specs.Faults.{scopes_fit}
 use Rattle.st_compiler.specs.Instruction.{Instruction, PushSelf, PushNil, PushTrue, PushFalse, PushLit, MakeLit, PushLocal, StoreLocal, PushName, StoreName, Pop, Dup, Send, SuperSend, PushBlock, ReturnMethod, ReturnHome, ReturnBlock, Jump, JumpBack, JumpTrue, JumpFalse, TakeUnit, Enter, Leave, LoopStart, LoopNext, LoopStep, op_of}
 use Rattle.st_compiler.specs.Code.{Piece}
 use Rattle.st_compiler.proofs.Steps.{HasAt, first_has, then_has}
 use Rattle.st_encoder.specs.Bytes.{value_literal, constant_literal, literals_in, literals_of, size_of, code_size, place_at, first_operand, second_operand}
-use Rattle.st_encoder.proofs.Marks.{sizes, mark, Does, Fits, Goes}
+use Rattle.st_encoder.proofs.Marks.{sizes, mark, Does, Goes}
 use Rattle.st_encoder.proofs.Pushes.{pushes, pushes_by, one_if}
 use Rattle.st_encoder.proofs.Rows.{Row, place_in, rows_size, Each, get_has, place_has}
 use Rattle.st_encoder.proofs.Reading.{line_for, rows_from, held_in}

@@ -1,8 +1,6 @@
 -- Code with what every way brings to each of its instructions: put together of parts.
-use Rattle.std.proofs.Common.{◌≡◌, ◌∙◌, refl, sym, ap, subst, inl, inr, ℕ, zero, suc, ◌+◌, ◌-◌, ◌<◌, ◌≤◌, ◌==◌, Bool, true, false, if◌then◌else◌, List, [], ◌∷◌, ◌++◌, length, length-append, append_assoc, replicate, drop, slice_get, Option, Some, None, arith}
-use Rattle.st_tree.specs.Trees.{Closure, closure}
+use Rattle.std.proofs.Common.{◌≡◌, refl, subst, ℕ, zero, suc, ◌+◌, ◌-◌, ◌<◌, ◌≤◌, Bool, true, false, List, [], ◌∷◌, ◌++◌, length, length-append, append_assoc, replicate, drop, slice_get, Some, arith}
 use Rattle.texts.specs.Bytes.{Bytes as Text}
-use Rattle.tree_meaning.specs.Place.{Place}
 use Rattle.tree_meaning.specs.Bodies.{params_count, temps_count}
 use Rattle.st_code.specs.Held.{Held}
 use Rattle.st_code.specs.Faults.{is_variable}

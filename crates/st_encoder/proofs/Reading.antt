@@ -1,22 +1,19 @@
 -- The bytes of code are read as its instructions.
-use Rattle.std.proofs.Common.{◌≡◌, ◌∙◌, refl, sym, ap, subst, ℕ, zero, suc, ◌+◌, ◌-◌, ◌<◌, ◌≤◌, ◌^◌, nat_lt, Bool, true, false, ◌&&◌, if◌then◌else◌, List, [], ◌∷◌, ◌++◌, length, length-append, take, drop, replicate, append_assoc, mod-eq_of_lt, slice_get, Option, Some, None, Result, Ok, Err, arith}
+use Rattle.std.proofs.Common.{◌≡◌, ◌∙◌, refl, sym, ap, subst, ℕ, zero, suc, ◌+◌, ◌-◌, ◌<◌, ◌^◌, nat_lt, true, false, ◌&&◌, List, [], ◌∷◌, ◌++◌, length, length-append, take, drop, replicate, append_assoc, mod-eq_of_lt, Option, Some, None, Result, Ok, arith}
 use Rattle.std.specs.Prelude.{slice_range}
-use Rattle.std.specs.Int.{w32, to_le_bytes, from_le_bytes}
-use Rattle.std.proofs.lemmas.Bool.{false≢true, and_parts}
+use Rattle.std.proofs.lemmas.Bool.{and_parts}
 use Rattle.std.proofs.lemmas.Bool.Decides.{nat_tests}
-use Rattle.std.proofs.lemmas.List.{append-nil}
 use Rattle.std.proofs.lemmas.Nat.{from_le_bytes-to_le_bytes_4}
-use Rattle.op_table.specs.Ops.{row_for, row_at}
+use Rattle.op_table.specs.Ops.{row_for}
 use Rattle.op_table.proofs.OpRows.{row_at-byte, row_for-op}
 use Rattle.op_table.specs.declared.ops.Row.{Row as OpRow}
 use Rattle.st_code.specs.declared.line.Line.{Line}
-use Rattle.st_code.specs.declared.blocks.BlockCode.{BlockCode}
 use Rattle.st_code.specs.Held.{Held}
-use Rattle.st_code.specs.Lines.{Lines, end_of, width, number_in, line_of, whole_line, line_by, line_at, with_first, after_line, lines_from, joined, lines_of}
+use Rattle.st_code.specs.Lines.{Lines, end_of, width, number_in, whole_line, line_by, line_at, with_first, after_line, lines_from, joined, lines_of}
 use Rattle.st_compiler.specs.Instruction.{Instruction, PushSelf, PushNil, PushTrue, PushFalse, PushLit, MakeLit, PushLocal, StoreLocal, PushName, StoreName, Pop, Dup, Send, SuperSend, PushBlock, ReturnMethod, ReturnHome, ReturnBlock, Jump, JumpBack, JumpTrue, JumpFalse, TakeUnit, Enter, Leave, LoopStart, LoopNext, LoopStep, op_of}
 use Rattle.st_compiler.specs.Emitted.{Body}
 use Rattle.st_encoder.specs.Bytes.{literals_in, literals_of, size_of, code_size, first_operand, second_operand, operand_bytes, instruction_bytes, bytes_from, bytes_of, blocks_of, total_size, number_fits, instruction_fits, fit_from, body_fits, bodies_fit}
-use Rattle.st_encoder.proofs.Rows.{Row, lines_in, rows_size, lines_append}
+use Rattle.st_encoder.proofs.Rows.{Row, lines_in, lines_append}
 
 -- ---- operands
 

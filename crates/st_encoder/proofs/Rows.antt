@@ -1,12 +1,11 @@
 -- All instructions of a text in the order of its bytes, each with what every way brings to it; and what
 -- stands at each place by them.
-use Rattle.std.proofs.Common.{◌≡◌, ◌∙◌, refl, sym, ap, subst, ◌⊎◌, inl, inr, ℕ, zero, suc, ◌+◌, ◌<◌, ◌≤◌, List, [], ◌∷◌, ◌++◌, length, replicate, slice_get, Option, Some, None, arith, append_assoc}
-use Rattle.std.proofs.lemmas.List.{length-replicate}
+use Rattle.std.proofs.Common.{◌≡◌, ◌∙◌, refl, sym, ap, subst, ℕ, zero, suc, ◌+◌, ◌≤◌, List, [], ◌∷◌, ◌++◌, length, replicate, slice_get, Some, None, arith, append_assoc}
 use Rattle.std.proofs.lemmas.Option.{same_Some}
 use Rattle.st_code.specs.declared.line.Line.{Line}
 use Rattle.st_code.specs.Held.{Held}
 use Rattle.st_code.specs.Lines.{Lines}
-use Rattle.st_compiler.proofs.Steps.{HasAt, first_has, then_has}
+use Rattle.st_compiler.proofs.Steps.{HasAt}
 
 -- An instruction, the number of its operands' bytes, and what every way brings to it.
 pub record Row : Type 0 where

@@ -1,14 +1,14 @@
 -- Parts of code that sit between two heights, with the blocks that they push.
-use Rattle.std.proofs.Common.{◌≡◌, ◌∙◌, refl, sym, ap, subst, ℕ, zero, suc, ◌+◌, ◌<◌, ◌≤◌, nat_eq, Bool, true, false, List, [], ◌∷◌, ◌++◌, length, length-append, replicate, slice_get, Some, arith}
+use Rattle.std.proofs.Common.{◌≡◌, refl, ap, subst, ℕ, suc, ◌+◌, ◌≤◌, Bool, List, [], ◌∷◌, ◌++◌, length, length-append, slice_get, Some, arith}
 use Rattle.st_code.specs.Held.{Held}
 use Rattle.st_tree.specs.Trees.{Closure}
 use Rattle.tree_meaning.specs.Place.{Place}
-use Rattle.st_compiler.specs.Instruction.{Instruction, Pop, Dup, PushBlock, Jump, TakeUnit, Enter, Leave, LoopStart, LoopNext, LoopStep, JumpBack, PushNil}
+use Rattle.st_compiler.specs.Instruction.{Instruction, Pop, PushBlock, Jump, TakeUnit, Leave, LoopStep, JumpBack, PushNil}
 use Rattle.st_compiler.specs.Code.{Piece, Gen, only, seq, prefixed, in_scope_code, jump_unless, choice, while_code, count_code}
 use Rattle.st_compiler.specs.TreeCode.{pushed}
 use Rattle.st_compiler.proofs.Steps.{HasAt, first_has, then_has}
-use Rattle.st_encoder.proofs.Marks.{sizes, mark, start_mark, Does, Lies, none_lies, then_lies, one_lies, choice_lies, while_lies, count_lies, scope_lies, Whole}
-use Rattle.st_encoder.proofs.Pushes.{one_if, pushes, pushes_by, piece_pushes, within, pushes_append, piece_append, within_sum, unless_pushes}
+use Rattle.st_encoder.proofs.Marks.{sizes, mark, start_mark, Does, Lies, then_lies, one_lies, choice_lies, while_lies, count_lies, scope_lies, Whole}
+use Rattle.st_encoder.proofs.Pushes.{pushes, pushes_by, piece_pushes, within, pushes_append, piece_append, within_sum, unless_pushes}
 
 module _ (table : List Piece) where
   -- A block that is pushed: its code goes from its start to a return, and pushes later blocks alone.

@@ -1,10 +1,9 @@
 -- Blocks whose instructions go from their start to a return, with all that they push: their bytes pass
 -- the check.
-use Rattle.std.proofs.Common.{◌≡◌, ◌∙◌, refl, sym, ap, subst, ℕ, zero, suc, ◌+◌, ◌-◌, ◌<◌, ◌≤◌, ◌==◌, nat_eq, nat_lt, nat_le, Bool, true, false, not, ◌&&◌, ◌||◌, if◌then◌else◌, List, [], ◌∷◌, ◌++◌, length, length-append, append_assoc, replicate, slice_get, Option, Some, None, arith}
-use Rattle.std.proofs.lemmas.Bool.{false≢true, and_parts, eqb-true, eq-eqb}
+use Rattle.std.proofs.Common.{◌≡◌, ◌∙◌, refl, sym, ap, subst, ℕ, zero, suc, ◌+◌, ◌-◌, ◌<◌, ◌≤◌, ◌==◌, nat_eq, nat_lt, nat_le, Bool, true, false, not, ◌&&◌, ◌||◌, List, [], ◌∷◌, ◌++◌, length, length-append, append_assoc, replicate, slice_get, Option, Some, None, arith}
+use Rattle.std.proofs.lemmas.Bool.{false≢true, eqb-true, eq-eqb}
 use Rattle.std.proofs.lemmas.Bool.Decides.{nat_tests}
 use Rattle.std.proofs.lemmas.Option.{same_Some}
-use Rattle.op_table.specs.Ops.{row_for}
 use Rattle.st_tree.specs.declared.nodes.Literal.{Literal}
 use Rattle.st_code.specs.declared.blocks.BlockCode.{BlockCode}
 use Rattle.st_code.specs.declared.line.Line.{Line}
@@ -12,7 +11,7 @@ use Rattle.st_code.specs.Held.{Held}
 use Rattle.st_code.specs.Lines.{Lines, width, is_of}
 use Rattle.st_code.specs.Operands.{literal_fits, pushes_block, first_pushes, is_first_push, push_fits, is_pushed, is_start, start_fits, operands_fit}
 use Rattle.st_code.specs.Ways.{is_return, jumps, goes_on, takes, puts_going_on, puts_jumping, held_after}
-use Rattle.st_code.specs.Faults.{no_pushes, scopes_fit, stack_fits}
+use Rattle.st_code.specs.Faults.{no_pushes, stack_fits}
 use Rattle.st_code.specs.Content.{IsMark, start_held, Leads, Content}
 use Rattle.st_compiler.specs.Instruction.{Instruction, PushSelf, PushNil, PushTrue, PushFalse, PushLit, MakeLit, PushLocal, StoreLocal, PushName, StoreName, Pop, Dup, Send, SuperSend, PushBlock, ReturnMethod, ReturnHome, ReturnBlock, Jump, JumpBack, JumpTrue, JumpFalse, TakeUnit, Enter, Leave, LoopStart, LoopNext, LoopStep, op_of}
 use Rattle.st_compiler.specs.Code.{Piece}
@@ -22,9 +21,9 @@ use Rattle.st_encoder.specs.Bytes.{literals_in, literals_of, size_of, code_size,
 use Rattle.st_encoder.proofs.Marks.{sizes, mark, Goes}
 use Rattle.st_encoder.proofs.Pushes.{one_if, pushes, pushes_by, within, within_once}
 use Rattle.st_encoder.proofs.Pushed.{pushed_by, line_pushes, lines_push, nones_push, first_at, some_pushed}
-use Rattle.st_encoder.proofs.Rows.{Row, lines_in, marks_in, place_in, rows_size, lines_append, get_line, get_mark, StandsAt, stands_at, Each, each_append, each_at, place_has, place_all}
+use Rattle.st_encoder.proofs.Rows.{Row, lines_in, marks_in, place_in, lines_append, get_line, get_mark, stands_at, Each, each_append, each_at, place_has, place_all}
 use Rattle.st_encoder.proofs.Reading.{line_for, rows_from, Block, bodies_in, held_in, block_rows, all_rows}
-use Rattle.st_encoder.proofs.Good.{To, Pushes, Good, rows_total, rows_count, to_there, block_good}
+use Rattle.st_encoder.proofs.Good.{To, Pushes, Good, rows_total, to_there, block_good}
 
 -- ---- how often blocks are pushed
 

@@ -1,26 +1,24 @@
 -- The bytes of a text's code pass the check.
-use Rattle.std.proofs.Common.{◌≡◌, ◌∙◌, refl, sym, ap, subst, ℕ, zero, suc, ◌+◌, ◌<◌, ◌≤◌, ◌^◌, nat_lt, Bool, true, false, ◌&&◌, List, [], ◌∷◌, ◌++◌, length, length-append, append_assoc, map, slice_get, Option, Some, None, arith}
-use Rattle.std.proofs.lemmas.Bool.{false≢true, and_parts}
+use Rattle.std.proofs.Common.{◌≡◌, ◌∙◌, refl, ap, subst, ℕ, zero, suc, ◌+◌, ◌<◌, ◌^◌, nat_lt, true, List, [], ◌∷◌, ◌++◌, length, length-append, append_assoc, map, slice_get, Option, Some, None, arith}
+use Rattle.std.proofs.lemmas.Bool.{and_parts}
 use Rattle.std.proofs.lemmas.Bool.Decides.{nat_tests}
 use Rattle.std.proofs.lemmas.Option.{same_Some}
 use Rattle.texts.specs.Bytes.{Bytes as Text}
 use Rattle.st_tree.specs.Trees.{Closure, closure, Program}
-use Rattle.tree_meaning.specs.Place.{Place}
 use Rattle.tree_meaning.specs.Bodies.{method_place, params_count, temps_count}
-use Rattle.st_code.specs.declared.blocks.BlockCode.{BlockCode}
 use Rattle.st_code.specs.Held.{Held}
-use Rattle.st_code.specs.Lines.{ascend, are_blocks, lines_of, end_of}
+use Rattle.st_code.specs.Lines.{ascend, end_of}
 use Rattle.st_code.specs.Faults.{fault_of}
 use Rattle.st_code.proofs.Passes.{passes}
 use Rattle.st_compiler.specs.Instruction.{Instruction, Pop, PushSelf, ReturnMethod}
 use Rattle.st_compiler.specs.Code.{Piece, Part, Gen, only, seq}
 use Rattle.st_compiler.specs.TreeCode.{statements_in_turn_code, statement_codes, method_code, chunk_code}
 use Rattle.st_compiler.specs.Emitted.{Body, tree_body, piece_body, text_code_by}
-use Rattle.st_compiler.proofs.Steps.{HasAt, first_has}
-use Rattle.st_encoder.specs.Bytes.{literals_of, size_of, code_size, bytes_of, all_literals, blocks_of, total_size, bodies_fit, are_small, text_bodies, text_bytes, text_literals, text_blocks, text_fits}
-use Rattle.st_encoder.proofs.Marks.{sizes, mark, start_mark, Lies, one_lies, after_one, then_lies, Whole, ends_whole}
+use Rattle.st_compiler.proofs.Steps.{first_has}
+use Rattle.st_encoder.specs.Bytes.{code_size, bytes_of, all_literals, blocks_of, total_size, bodies_fit, are_small, text_bytes, text_literals, text_blocks, text_fits}
+use Rattle.st_encoder.proofs.Marks.{sizes, mark, Lies, one_lies, after_one, then_lies, Whole, ends_whole}
 use Rattle.st_encoder.proofs.Pushes.{pushes, piece_pushes, within}
-use Rattle.st_encoder.proofs.Sits.{Stands, AllStand, Sits, only_sits, seq_sits}
+use Rattle.st_encoder.proofs.Sits.{AllStand, only_sits, seq_sits}
 use Rattle.st_encoder.proofs.TreeSits.{text_sits}
 use Rattle.st_encoder.proofs.Rows.{lines_in, marks_in}
 use Rattle.st_encoder.proofs.Reading.{Block, bodies_in, all_rows, end_is, all_length, reads_all}

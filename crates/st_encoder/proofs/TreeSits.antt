@@ -1,5 +1,5 @@
 -- Each part of a tree has code that sits between two heights: by induction on trees.
-use Rattle.std.proofs.Common.{◌≡◌, ◌∙◌, refl, sym, ap, subst, ℕ, zero, suc, ◌+◌, ◌<◌, ◌≤◌, nat_lt, Bool, true, false, cond, if◌then◌else◌, pos, List, [], ◌∷◌, ◌++◌, length, length-append, replicate, slice_get, Option, Some, None, option_map, codes, arith}
+use Rattle.std.proofs.Common.{◌≡◌, refl, ap, subst, ℕ, zero, suc, ◌+◌, ◌<◌, ◌≤◌, nat_lt, Bool, true, false, cond, if◌then◌else◌, pos, List, [], ◌∷◌, ◌++◌, length, length-append, replicate, slice_get, Option, Some, None, option_map, codes, arith}
 use Rattle.std.specs.Prelude.{bytes_eq}
 use Rattle.std.proofs.lemmas.Bool.Decides.{nat_tests}
 use Rattle.std.proofs.lemmas.Option.{same_Some}
@@ -21,13 +21,13 @@ use Rattle.tree_meaning.specs.declared.name.Where.{Where}
 use Rattle.tree_meaning.specs.declared.name.Where.TheVariants.{Receiver, Fixed, Variable, OutOfScope}
 use Rattle.st_code.specs.Held.{Held}
 use Rattle.st_code.specs.Faults.{is_variable}
-use Rattle.st_compiler.specs.Instruction.{Instruction, PushNil, PushLit, PushLocal, StoreLocal, Pop, Dup, TakeUnit, Enter, Leave, ReturnMethod, ReturnBlock, PushSelf}
-use Rattle.st_compiler.specs.Code.{Piece, Gen, only, seq, prefixed, in_scope_code, choice, while_code, count_code, begin_repeating}
-use Rattle.st_compiler.specs.TreeCode.{ArgumentCode, MessageCode, no_block_code, drop_handed, first_argument_code, rest_argument_codes, first_body_code, rest_message_codes, argument_values_code, hand_code, block_in_place_code, cascade_code, messages_in_turn_code, head_and_messages_code, statements_from_code, statements_in_turn_code, assign_code, singleton_op, literal_op, push_op, send_op, message_code, store_op, return_op, head_code, head_in_place_code, closure_in_place_code, closure_code, expression_code, expression_in_place_code, message_codes, message_code_of, argument_codes, statement_code, statement_codes, method_code, chunk_code}
-use Rattle.st_compiler.proofs.Steps.{HasAt, first_has}
-use Rattle.st_encoder.proofs.Marks.{sizes, mark, start_mark, Does, Lies, none_lies, then_lies, one_lies, after_one, pops_lie, Whole, ends_whole}
+use Rattle.st_compiler.specs.Instruction.{Instruction, PushNil, PushLit, PushLocal, StoreLocal, Pop, Dup, TakeUnit, Enter, Leave, ReturnBlock}
+use Rattle.st_compiler.specs.Code.{Piece, Gen, only, seq, prefixed, choice, while_code, count_code, begin_repeating}
+use Rattle.st_compiler.specs.TreeCode.{ArgumentCode, MessageCode, no_block_code, first_argument_code, rest_argument_codes, first_body_code, rest_message_codes, argument_values_code, hand_code, block_in_place_code, cascade_code, messages_in_turn_code, head_and_messages_code, statements_from_code, statements_in_turn_code, assign_code, singleton_op, literal_op, push_op, send_op, message_code, store_op, return_op, head_code, head_in_place_code, closure_in_place_code, closure_code, expression_code, expression_in_place_code, message_codes, message_code_of, argument_codes, statement_code, statement_codes}
+use Rattle.st_compiler.proofs.Steps.{first_has}
+use Rattle.st_encoder.proofs.Marks.{sizes, mark, Does, Lies, none_lies, one_lies, after_one, pops_lie, Whole, ends_whole}
 use Rattle.st_encoder.proofs.Pushes.{pushes, pushes_by, within_below, pops_push}
-use Rattle.st_encoder.proofs.Sits.{Stands, AllStand, Sits, only_sits, one_sits, seq_sits, prefixed_sits, choice_sits, while_sits, count_sits, scope_sits, pushed_sits}
+use Rattle.st_encoder.proofs.Sits.{Sits, only_sits, one_sits, seq_sits, prefixed_sits, choice_sits, while_sits, count_sits, scope_sits, pushed_sits}
 
 -- ---- variables are there
 

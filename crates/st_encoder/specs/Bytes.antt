@@ -1,6 +1,6 @@
 -- The bytes of code: its blocks one behind the other, and in each block the instructions, each with
 -- its op code's byte and then its operands. Jumps lead to places among all bytes.
-use Rattle.std.specs.Prelude.{ℕ, zero, suc, ◌+◌, ◌-◌, ◌^◌, nat_lt, Bool, true, false, ◌&&◌, List, [], ◌∷◌, ◌++◌, length, take, map}
+use Rattle.std.specs.Prelude.{ℕ, zero, suc, ◌+◌, ◌-◌, ◌^◌, nat_lt, Bool, true, ◌&&◌, List, [], ◌∷◌, ◌++◌, length, take, map}
 use Rattle.std.specs.Int.{w32, to_le_bytes}
 use Rattle.op_table.specs.Ops.{row_for}
 use Rattle.st_tree.specs.Trees.{Constant, int, char, str, sym, nothing, yes, no, array, Program}
@@ -10,7 +10,7 @@ use Rattle.gem_object.specs.declared.value.Value.{Value}
 use Rattle.gem_object.specs.declared.value.Value.TheVariants as value
 use Rattle.st_code.specs.declared.blocks.BlockCode.{BlockCode}
 use Rattle.st_code.specs.Lines.{width}
-use Rattle.st_compiler.specs.Instruction.{Instruction, PushSelf, PushNil, PushTrue, PushFalse, PushLit, MakeLit, PushLocal, StoreLocal, PushName, StoreName, Pop, Dup, Send, SuperSend, PushBlock, ReturnMethod, ReturnHome, ReturnBlock, Jump, JumpBack, JumpTrue, JumpFalse, TakeUnit, Enter, Leave, LoopStart, LoopNext, LoopStep, op_of}
+use Rattle.st_compiler.specs.Instruction.{Instruction, PushLit, MakeLit, PushLocal, StoreLocal, PushName, StoreName, Send, SuperSend, PushBlock, Jump, JumpBack, JumpTrue, JumpFalse, Enter, LoopNext, LoopStep, op_of}
 use Rattle.st_compiler.specs.Emitted.{Body, piece_body, text_code}
 
 -- ---- literals

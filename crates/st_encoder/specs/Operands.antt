@@ -1,7 +1,7 @@
 -- The operands of an instruction, with the targets of jumps by a table of places.
 use Rattle.std.specs.Prelude.{ℕ, suc, ◌+◌, ◌-◌, ◌^◌, nat_lt, Bool, true, ◌&&◌, List, [], ◌∷◌, ◌++◌, length, take, slice_get, Option, None, Some}
 use Rattle.std.specs.Int.{w32, to_le_bytes}
-use Rattle.st_compiler.specs.Instruction.{Instruction, PushSelf, PushNil, PushTrue, PushFalse, PushLit, MakeLit, PushLocal, StoreLocal, PushName, StoreName, Pop, Dup, Send, SuperSend, PushBlock, ReturnMethod, ReturnHome, ReturnBlock, Jump, JumpBack, JumpTrue, JumpFalse, TakeUnit, Enter, Leave, LoopStart, LoopNext, LoopStep}
+use Rattle.st_compiler.specs.Instruction.{Instruction, PushLit, MakeLit, PushLocal, StoreLocal, PushName, StoreName, Send, SuperSend, PushBlock, Jump, JumpBack, JumpTrue, JumpFalse, Enter, LoopNext, LoopStep}
 use Rattle.st_encoder.specs.Bytes.{size_of}
 use Rattle.st_encoder.specs.declared.operands.Operands.{Operands}
 use Rattle.st_encoder.specs.declared.operands.Operands.TheVariants.{Nothing, Number, Local, Numbers}

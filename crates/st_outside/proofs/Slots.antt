@@ -16,7 +16,7 @@ use Rattle.running_objects.specs.declared.stop.Stop.{Stop}
 use Rattle.gem_language.specs.OutOfScope.{instance_names, slot_of, instance_value, set_instance_value, put_in_slot, value_of_name, read_out_of_scope, assign_name, write_out_of_scope}
 use Rattle.prim_parts.specs.Does.{Does, Computes}
 use Rattle.prim_parts.proofs.Does.{does_then, does_stop, does_give, does_assoc_back, computes_then}
-use Rattle.st_outside.proofs.Steps.{handed}
+use Rattle.prim_parts.proofs.Onward.{handed}
 use Rattle.st_outside.proofs.Indexes.{IndexTold}
 
 -- what is made of an answer, and what is done with that

@@ -1,44 +1,19 @@
 -- How what calls did in turn makes what a program does.
 use Rattle.std.specs.Result.{IsErrAnd}
-use Rattle.std.proofs.Common.{◌≡◌, sym, subst, ℕ, Result, Ok, Err}
+use Rattle.std.proofs.Common.{◌≡◌, subst, ℕ, Result, Ok, Err}
 use Rattle.tree_meaning.specs.Place.{MadeBlock}
-use Rattle.gem_world.specs.Access.{Access}
-use Rattle.gem_image.specs.Image.{Contents}
-use Rattle.object_programs.specs.Atom.{Ask}
 use Rattle.object_programs.specs.Fixed.{Fixed}
-use Rattle.object_programs.specs.Run.{Run, give, atom, and_then}
+use Rattle.object_programs.specs.Run.{Run, give, and_then}
 use Rattle.object_programs.specs.Programs.{known}
 use Rattle.object_programs.specs.declared.fault.Fault.{Fault}
 use Rattle.running_objects.specs.Seen.{Seen}
-use Rattle.running_objects.specs.Acted.{Acted, Known}
+use Rattle.running_objects.specs.Acted.{Known}
 use Rattle.running_objects.specs.declared.stop.Stop.{Stop}
 use Rattle.running_objects.specs.declared.stop.Stop.TheVariants as stop
 use Rattle.running_objects.proofs.Running.{keeps_same}
-use Rattle.prim_parts.specs.Does.{Does, Computes}
+use Rattle.prim_parts.specs.Does.{Does}
 use Rattle.prim_parts.proofs.Does.{does_then, does_stop, does_reached, does_atom, does_give, does_fail, does_compute, does_nothing, computes_then, computes_stop, computes_give, computes_fail, known_stop}
-
--- what a `?` hands on
-pub handed : {A : Type 0} (P : Result A Stop → Type 0) (result : Result A Stop) (ended : Stop)
-    → IsErrAnd result (λ given. given ≡ ended) → P (Err ended) → P result
-handed P (Ok answer) ended is one = absurd is
-handed P (Err given) ended is one = let At : Stop → Type 0 = λ stop. P (Err stop) in subst At (sym is) one
-
-pub does_stops : {A C : Type 0} {first : Run MadeBlock C} {second : C → Run MadeBlock A} {ended : Stop}
-    {before after : Seen} {result : Result A Stop} → Does first before (Err ended) after
-    → IsErrAnd result (λ given. given ≡ ended) → Does (and_then first second) before result after
-does_stops {A} {C} {first} {second} {ended} {before} {after} {result} one is =
-    handed (λ given. Does (and_then first second) before given after) result ended is (does_stop one)
-
-pub computes_stops : {A C : Type 0} {first : Run MadeBlock C} {second : C → Run MadeBlock A} {ended : Stop}
-    {seen : Seen} {result : Result A Stop} → Computes first (Err ended)
-    → IsErrAnd result (λ given. given ≡ ended) → Does (and_then first second) seen result seen
-computes_stops {A} {C} {first} {second} {ended} {seen} {result} one is =
-    handed (λ given. Does (and_then first second) seen given seen) result ended is (computes_stop seen one)
-
-pub access_stopped : {A : Type 0} {access : Access} {name : ℕ} {before after : Seen} {ended : Stop}
-    {rest : Contents → Run MadeBlock A} {result : Result A Stop} → Acted (Ask access name) before (Err ended) after
-    → IsErrAnd result (λ given. given ≡ ended) → Does (and_then (atom (Ask access name)) rest) before result after
-access_stopped acted is = does_stops (does_atom acted) is
+use Rattle.prim_parts.proofs.Onward.{access_stopped, computes_stops, does_stops, handed}
 
 -- a fixed part that wasn't told
 pub known_stops : {A : Type 0} {fault : Fault} {name : ℕ} {before after : Seen} {ended : Stop} {rest : Fixed → Run MadeBlock A}

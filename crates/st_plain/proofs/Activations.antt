@@ -1,10 +1,10 @@
 -- Activations of methods and of made blocks.
-use Rattle.std.proofs.Common.{◌≡◌, refl, sym, subst, ap, ℕ, zero, suc, ◌-◌, ◌<◌, ◌++◌, List, Bool, replicate, length, Result, Ok, Err, arith}
+use Rattle.std.proofs.Common.{◌≡◌, subst, ℕ, suc, ◌-◌, ◌<◌, ◌++◌, List, Bool, replicate, length, Result, arith}
 use Rattle.st_tree.specs.Trees.{Program}
 use Rattle.gem_object.specs.declared.value.Value.{Value}
 use Rattle.gem_object.specs.declared.value.Value.TheVariants.{Nil}
 use Rattle.object_programs.specs.Local.{Local}
-use Rattle.object_programs.specs.Run.{give, seeing, become, and_then, ending, Ending}
+use Rattle.object_programs.specs.Run.{become, and_then, ending}
 use Rattle.running_objects.specs.Seen.{Seen}
 use Rattle.running_objects.specs.Ran.{Ran}
 use Rattle.running_objects.specs.declared.stop.Stop.{Stop}
@@ -15,7 +15,7 @@ use Rattle.tree_meaning.specs.Scopes.{mark, with_scope, open_scope, begin_method
 use Rattle.tree_meaning.specs.Bodies.{method_body, block_body, temps_count}
 use Rattle.tree_meaning.specs.Calls.{method_frame, activation, evaluation}
 use Rattle.tree_meaning.specs.declared.place.Mark.{Mark}
-use Rattle.gem_language.specs.Sends.{outside, outside_by, Callee, callee}
+use Rattle.gem_language.specs.Sends.{outside, callee}
 use Rattle.st_plain.specs.Leaving.{LeftSo}
 use Rattle.st_plain.proofs.Runs.{ending_ran}
 

@@ -1,5 +1,5 @@
 -- Assignments from right to left, by those that are left.
-use Rattle.std.proofs.Common.{◌≡◌, sym, ap, subst, ◌++◌, List, [], ◌∷◌, Result, Ok, Err}
+use Rattle.std.proofs.Common.{◌≡◌, sym, ap, subst, ◌++◌, List, [], ◌∷◌, Ok, Err}
 use Rattle.texts.specs.Bytes.{Bytes as Text}
 use Rattle.gem_object.specs.declared.value.Value.{Value}
 use Rattle.gem_world.specs.World.{Setting}

@@ -1,16 +1,16 @@
 -- What the run of a command's program makes of the reply.
-use Rattle.std.proofs.Common.{◌≡◌, refl, sym, ap, subst, ℕ, Bool, Result, Ok, Err}
+use Rattle.std.proofs.Common.{◌≡◌, refl, sym, subst, ℕ, Bool, Result, Ok, Err}
 use Rattle.std.specs.Prelude.{alloc_error}
 use Rattle.std.specs.declared.alloc.AllocError.{AllocError}
 use Rattle.texts.specs.Bytes.{Bytes as Text}
 use Rattle.st_tree.specs.Trees.{Program}
 use Rattle.st_grammar.specs.Grammar.{chunk, method}
-use Rattle.st_grammar.specs.Fails.{AnyRule, rule_number}
+use Rattle.st_grammar.specs.Fails.{rule_number}
 use Rattle.st_grammar_laws.specs.TreeOf.{TextFault, tree_of}
 use Rattle.object_programs.specs.Local.{Local, nothing}
-use Rattle.object_programs.specs.Run.{Outcome, give, gives, fails, returns, perform}
+use Rattle.object_programs.specs.Run.{Outcome, gives, fails, returns, perform}
 use Rattle.tree_meaning.specs.Place.{MadeBlock}
-use Rattle.gem_language.specs.Commands.{Command, run_chunk, install_method, Reply, not_read, ReplyRun, reply_by, chunk_reply, method_reply, command_reply, reply_of}
+use Rattle.gem_language.specs.Commands.{run_chunk, install_method, Reply, ReplyRun, reply_by, chunk_reply, method_reply, command_reply, reply_of}
 use Rattle.running_objects.specs.Seen.{Seen, with_local}
 use Rattle.running_objects.specs.Ran.{Ran}
 use Rattle.running_objects.specs.declared.stop.Stop.{Stop}

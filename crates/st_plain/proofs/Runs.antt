@@ -1,8 +1,7 @@
 -- What runs of parts make of a program of the meaning.
-use Rattle.std.proofs.Common.{◌≡◌, refl, sym, subst, ℕ, zero, suc, ◌<◌, ◌++◌, List, replicate, Result, Ok, Err, arith}
+use Rattle.std.proofs.Common.{◌≡◌, sym, subst, ℕ, zero, suc, ◌<◌, replicate, Result, Ok, Err, arith}
 use Rattle.gem_object.specs.declared.value.Value.{Value}
 use Rattle.gem_object.specs.declared.value.Value.TheVariants.{Nil}
-use Rattle.object_programs.specs.Budget.{Budget}
 use Rattle.object_programs.specs.Local.{Local}
 use Rattle.object_programs.specs.Run.{give, seeing, become, and_then, ending, Ending}
 use Rattle.running_objects.specs.Seen.{Seen}

@@ -1,5 +1,5 @@
 -- The loops of the evaluator, by where they stand.
-use Rattle.std.proofs.Common.{◌≡◌, refl, sym, subst, ap, ◌∙◌, ℕ, zero, suc, ◌<◌, ◌≤◌, Bool, true, false, not, ℤ, pos, ◌+ℤ◌, Result, Ok, Err, arith}
+use Rattle.std.proofs.Common.{◌≡◌, refl, sym, subst, ap, ℕ, zero, suc, ◌<◌, ◌≤◌, Bool, true, false, not, ℤ, pos, ◌+ℤ◌, Ok, Err, arith}
 use Rattle.std.specs.Prelude.{int_le}
 use Rattle.gem_object.specs.declared.value.Value.{Value}
 use Rattle.gem_object.specs.declared.value.Value.TheVariants.{Nil, Int}
@@ -8,14 +8,14 @@ use Rattle.object_programs.specs.Atom.{Tick, ticked}
 use Rattle.object_programs.specs.Budget.{Budget}
 use Rattle.gem_world.specs.World.{World}
 use Rattle.object_programs.specs.Local.{Local}
-use Rattle.object_programs.specs.Run.{give, fail, atom, seeing, and_then, Ending, gives, fails, State, Outcome, outcome_of, perform}
+use Rattle.object_programs.specs.Run.{give, fail, atom, and_then, Ending, gives, fails, Outcome, outcome_of}
 use Rattle.object_programs.specs.Programs.{choose}
 use Rattle.object_programs.specs.declared.fault.Fault.TheVariants as fault
-use Rattle.running_objects.specs.Seen.{Seen, with_local, Keeps}
+use Rattle.running_objects.specs.Seen.{Seen, with_local}
 use Rattle.running_objects.specs.Ran.{Ran, Leads}
 use Rattle.running_objects.specs.declared.stop.Stop.{Stop}
 use Rattle.running_objects.specs.declared.stop.Stop.TheVariants as stop
-use Rattle.running_objects.proofs.Running.{keeps_same, ran_give, ran_fail, ran_then, ran_stop, ran_nothing, leads_to, leads_then, leads_along}
+use Rattle.running_objects.proofs.Running.{keeps_same, ran_give, ran_fail, ran_then, ran_stop, leads_to, leads_then, leads_along}
 use Rattle.tree_meaning.specs.Place.{MadeBlock}
 use Rattle.tree_meaning.specs.Operands.{ValueRun, truth_of, by_truth}
 use Rattle.tree_meaning.specs.Loops.{while_turns_up_to, while_turns, count_turns_up_to, count_turns}

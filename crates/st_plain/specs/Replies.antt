@@ -1,13 +1,13 @@
 -- What the reply of the evaluator says of a command.
-use Rattle.std.specs.Prelude.{◌≡◌, Bool, Option, None, Some, Result, Ok, Err, IfOk, alloc_error}
+use Rattle.std.specs.Prelude.{◌≡◌, Option, None, Some, Result, Ok, Err, IfOk, alloc_error}
 use Rattle.std.specs.declared.alloc.AllocError.{AllocError}
 use Rattle.texts.specs.Bytes.{Bytes as Text}
 use Rattle.st_grammar.specs.Fails.{rule_number}
-use Rattle.object_programs.specs.Local.{Local, nothing}
+use Rattle.object_programs.specs.Local.{nothing}
 use Rattle.object_programs.specs.Run.{Outcome, perform}
 use Rattle.object_programs.specs.declared.fault.Fault.TheVariants as fault
 use Rattle.tree_meaning.specs.Place.{MadeBlock}
-use Rattle.gem_language.specs.Commands.{Command, run_chunk, install_method, Reply, not_read, failed, ran, printed, installed, ReplyRun, command_reply, reply_of}
+use Rattle.gem_language.specs.Commands.{Command, Reply, not_read, failed, ran, printed, installed, ReplyRun, command_reply, reply_of}
 use Rattle.running_objects.specs.Seen.{Seen, with_local, Keeps}
 use Rattle.running_objects.specs.declared.stop.Stop.{Stop}
 use Rattle.running_objects.specs.declared.stop.Stop.TheVariants as stop

@@ -12,11 +12,11 @@ use Rattle.radix_pages.specs.Next.{IsNext}
 use Rattle.gem_meaning.specs.Opened.{largest_serial}
 
 -- the largest serial so far, and those of more names
-abbrev larger : ℕ → ℕ × Object → ℕ
+abbrev pub larger : ℕ → ℕ × Object → ℕ
 larger largest entry = max largest (serial_of entry.0)
 
 -- a bound of all that are found bounds the largest
-at_most : (bound most : ℕ) (list : List (ℕ × Object)) → most ≤ bound
+pub at_most : (bound most : ℕ) (list : List (ℕ × Object)) → most ≤ bound
     → ((name : ℕ) (object : Object) → find nat_cmp name list ≡ Some object → serial_of name ≤ bound)
     → fold larger most list ≤ bound
 at_most bound most [] first all = first

@@ -1,6 +1,6 @@
 mod ByName
 mod Kept
-mod Largest
+pub mod Largest
 mod Spelled
 mod Fits
 mod OneMore

@@ -1,12 +1,5 @@
-ghost use Rattle.std.specs.Prelude.{IfOk};
-ghost use Rattle.gem_value.specs.Writes.{IsInNameOrder};
-
-use gem_value::{
-    Conflict, ConflictKind, Conflicts, Entry, Image, Oid, Sequence, TxnRecord, Writes,
-};
-use std::alloc::{AllocError, Global};
+use gem_value::{Conflict, ConflictKind, Conflicts, Oid, Sequence};
 use std::test::Fail;
-use texts::Text;
 
 #[test]
 fn names_of_objects(rt: HostRuntime) -> Result<(), Fail> {
@@ -51,66 +44,6 @@ fn kinds_of_conflict(rt: HostRuntime) {
 }
 
 #[test]
-fn globals(rt: HostRuntime) -> Result<(), Fail> {
-    let alloc = rt.alloc();
-    let empty = Image::empty(alloc)?;
-    assert_eq!(rt; empty.look_name(b"T"), None);
-    let first = empty.with_name(alloc, b"T", 5)?;
-    let second = first.with_name(alloc, b"Total", -7)?;
-    let third = second.with_name(alloc, b"T", 3)?;
-    let shared = third.share()?;
-    for (image, t, total) in [
-        (&empty, None, None),
-        (&first, Some(5), None),
-        (&second, Some(5), Some(-7)),
-        (&third, Some(3), Some(-7)),
-        (&shared, Some(3), Some(-7)),
-    ] {
-        assert_eq!(rt; image.look_name(b"T"), t);
-        assert_eq!(rt; image.look_name(b"Total"), total);
-        assert_eq!(rt; image.look_name(b"t"), None);
-    }
-    Ok(())
-}
-
-#[tactic(auto, using(gem_value::proofs::InOrder::one_in_order))]
-fn one_write(alloc: Global, name: &[u8], value: i64) -> Result<Vec<(Text, i64)>, AllocError>
-    ensures { IfOk result (λ entries. IsInNameOrder entries.items) }
-{
-    let mut entries = Vec::new(alloc);
-    entries.push((Text::of(Vec::from_slice(alloc, name)?), value))?;
-    Ok(entries)
-}
-
-#[test]
-fn record_of_a_transaction(rt: HostRuntime) -> Result<(), Fail> {
-    let record = TxnRecord {
-        session: 1,
-        transaction: 2,
-        first_command: 3,
-        last_command: 4,
-        view: 5,
-        written: Writes::of(one_write(rt.alloc(), b"T", 3)?),
-    };
-    assert_eq!(rt;
-        record.entry(),
-        Entry {
-            session: 1,
-            transaction: 2,
-            first_command: 3,
-            last_command: 4,
-            view: 5
-        }
-    );
-    assert_eq!(rt; record.written.as_slice().len(), 1);
-    for (name, value) in record.written.into_entries() {
-        assert!(rt; name.bytes() == b"T".as_slice());
-        assert_eq!(rt; value, 3);
-    }
-    Ok(())
-}
-
-#[test]
 fn lists(rt: HostRuntime) -> Result<(), Fail> {
     let conflict = Conflict {
         oid: Oid::from_parts(0, 5),
@@ -120,20 +53,6 @@ fn lists(rt: HostRuntime) -> Result<(), Fail> {
     let conflicts = Conflicts::of(vec![in rt.alloc(); conflict, conflict]?);
     assert!(rt; conflicts.as_slice() == [conflict, conflict].as_slice());
     assert_eq!(rt; conflicts.into_items().len(), 2);
-    Ok(())
-}
-
-#[test]
-fn all_writes_of_a_transaction(rt: HostRuntime) -> Result<(), Fail> {
-    let alloc = rt.alloc();
-    let image = Image::empty(alloc)?
-        .with_name(alloc, b"T", 5)?
-        .with_name(alloc, b"Total", -7)?;
-    let written = Writes::of(one_write(alloc, b"T", 3)?);
-    let after = image.with_writes(alloc, &written)?;
-    assert_eq!(rt; after.look_name(b"T"), Some(3));
-    assert_eq!(rt; after.look_name(b"Total"), Some(-7));
-    assert_eq!(rt; image.look_name(b"T"), Some(5));
     Ok(())
 }
 

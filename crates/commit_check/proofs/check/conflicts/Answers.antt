@@ -1,4 +1,4 @@
-use Rattle.std.proofs.Common.{◌≡◌, sym, subst, ap, ◌∙◌, flat_map}
+use Rattle.std.proofs.Common.{sym, subst, ap, ◌∙◌, flat_map}
 use Rattle.gem_record.specs.Names.{Ascend, AscendByName}
 use Rattle.commit_check.specs.Conflicts.{conflicts_of, merged_objects, conflicts_on, merged_on}
 use Rattle.commit_check.proofs.Ordered.{merged_by_name}

@@ -1,6 +1,6 @@
-use Rattle.std.proofs.Common.{◌≡◌, ◌<◌, ◌++◌, [], length, ap, ◌∙◌, append_assoc, option_to_list, arith}
+use Rattle.std.proofs.Common.{◌<◌, [], length, arith}
 use Rattle.gem_object.proofs.Joined.{one_added}
-use Rattle.commit_check.specs.Conflicts.{conflicts_on, merged_on, on_change, on_lock, merge_at, conflict_in, object_in}
+use Rattle.commit_check.specs.Conflicts.{conflicts_on, merged_on}
 use Rattle.commit_check.proofs.Added.{three_added, merged_added}
 use Rattle.commit_check.proofs.check.judge_all.Goals as goal
 

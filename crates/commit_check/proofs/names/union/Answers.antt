@@ -1,6 +1,5 @@
-use Rattle.std.proofs.Common.{◌≡◌, ◌≤◌, ◌⊎◌, inl, inr, length, sym, subst, arith}
+use Rattle.std.proofs.Common.{◌≤◌, ◌⊎◌, inl, inr, length, sym, subst, arith}
 use Rattle.gem_record.specs.Names.{Ascend}
-use Rattle.commit_check.specs.Union.{union}
 use Rattle.commit_check.proofs.Unions.{union_ends, union_ascends}
 use Rattle.commit_check.proofs.names.union.Goals as goal
 use Rattle.commit_check.proofs.names.union.Goals.{then-loop-i-test+else-j-right, else-loop-i-test}

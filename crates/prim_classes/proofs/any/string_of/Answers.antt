@@ -1,4 +1,4 @@
-use Rattle.prim_classes.proofs.Steps.{does_stops}
+use Rattle.prim_parts.proofs.Onward.{does_stops}
 use Rattle.prim_classes.proofs.any.string_of.Goals as goal
 
 pub returns-in_err-segment : goal.returns-in_err-segment

@@ -1,7 +1,8 @@
 use Rattle.std.proofs.Common.{List, ap}
 use Rattle.gem_object.specs.declared.value.Value.{Value}
 use Rattle.prim_rules.specs.declared.answer.PrimitiveAnswer.TheVariants.{Evaluates}
-use Rattle.prim_classes.proofs.Steps.{steps, computes_on, computes_no_memory, computes_given}
+use Rattle.prim_classes.proofs.Steps.{steps, computes_no_memory, computes_given}
+use Rattle.prim_parts.proofs.Onward.{computes_on}
 use Rattle.prim_classes.proofs.blocks.value_row.Goals as goal
 
 pub returns-in_err-block : goal.returns-in_err-block

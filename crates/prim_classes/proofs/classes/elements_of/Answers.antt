@@ -2,7 +2,8 @@ use Rattle.gem_image.specs.Image.{contents_of}
 use Rattle.gem_object.specs.declared.value.Value.{Value}
 use Rattle.std.proofs.Common.{List, drop, ap, ◌∙◌}
 use Rattle.prim_parts.proofs.Does.{does_then, does_reached, does_exit, does_atom, computes_then}
-use Rattle.prim_classes.proofs.Steps.{computes_stops, does_no_memory, does_given}
+use Rattle.prim_classes.proofs.Steps.{does_no_memory, does_given}
+use Rattle.prim_parts.proofs.Onward.{computes_stops}
 use Rattle.prim_parts.proofs.Walks.{class_known}
 use Rattle.prim_classes.proofs.ClassFacts.{slots_then}
 use Rattle.prim_classes.proofs.classes.elements_of.Goals as goal

@@ -2,7 +2,7 @@ use Rattle.object_programs.specs.declared.fault.Fault.TheVariants as fault
 use Rattle.std.proofs.Common.{sym, ap}
 use Rattle.object_programs.specs.Fixed.{class_part}
 use Rattle.prim_parts.proofs.Does.{known_then}
-use Rattle.prim_classes.proofs.Steps.{computes_stops}
+use Rattle.prim_parts.proofs.Onward.{computes_stops}
 use Rattle.prim_classes.proofs.ClassFacts.{need_then, check_same}
 use Rattle.prim_classes.proofs.classes.kind_to_inherit.Goals as goal
 

@@ -1,7 +1,8 @@
 use Rattle.gem_world.specs.Access.{a_read}
 use Rattle.prim_rules.specs.Parts.{class_in}
 use Rattle.prim_parts.proofs.Does.{does_then, does_give, does_exit, computes_then}
-use Rattle.prim_classes.proofs.Steps.{does_no_memory, computes_stops}
+use Rattle.prim_classes.proofs.Steps.{does_no_memory}
+use Rattle.prim_parts.proofs.Onward.{computes_stops}
 use Rattle.prim_classes.proofs.ClassFacts.{received_as, received_wrong, received_refused, received_none, array_same}
 use Rattle.prim_classes.proofs.classes.list.Goals as goal
 

@@ -3,7 +3,8 @@ use Rattle.prim_rules.specs.Classes.{symbols_in, may_add_names}
 use Rattle.object_programs.specs.declared.fault.Fault.TheVariants as fault
 use Rattle.std.proofs.Common.{List, sym, ap, ◌∙◌}
 use Rattle.prim_parts.proofs.Does.{does_then, does_exit, does_give, computes_then}
-use Rattle.prim_classes.proofs.Steps.{computes_stops, does_no_memory}
+use Rattle.prim_classes.proofs.Steps.{does_no_memory}
+use Rattle.prim_parts.proofs.Onward.{computes_stops}
 use Rattle.prim_classes.proofs.Stays.{still_there}
 use Rattle.prim_classes.proofs.ClassFacts.{need_then, need_fails, check_same}
 use Rattle.prim_classes.proofs.classes.names_to_add.Goals as goal

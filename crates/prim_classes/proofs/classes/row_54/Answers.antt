@@ -1,5 +1,5 @@
 use Rattle.prim_parts.proofs.Does.{does_then, does_exit, computes_then}
-use Rattle.prim_classes.proofs.Steps.{computes_stops}
+use Rattle.prim_parts.proofs.Onward.{computes_stops}
 use Rattle.prim_classes.proofs.classes.row_54.Goals as goal
 
 pub returns-in_err-superclass : goal.returns-in_err-superclass

@@ -3,7 +3,8 @@ use Rattle.gem_world.specs.Access.{a_read}
 use Rattle.prim_rules.specs.declared.answer.PrimitiveAnswer.TheVariants.{Gives}
 use Rattle.prim_rules.specs.Parts.{class_in, truth}
 use Rattle.prim_parts.proofs.Does.{does_then, does_exit, computes_then}
-use Rattle.prim_classes.proofs.Steps.{does_given, computes_stops}
+use Rattle.prim_classes.proofs.Steps.{does_given}
+use Rattle.prim_parts.proofs.Onward.{computes_stops}
 use Rattle.prim_classes.proofs.ClassFacts.{received_as, received_wrong, received_refused, received_none}
 use Rattle.prim_classes.proofs.classes.row_59.Goals as goal
 

@@ -2,7 +2,8 @@ use Rattle.object_programs.specs.declared.fault.Fault.TheVariants as fault
 use Rattle.gem_world.specs.Access.{a_write}
 use Rattle.prim_rules.specs.Parts.{class_in}
 use Rattle.prim_parts.proofs.Does.{does_then, does_exit, computes_then}
-use Rattle.prim_classes.proofs.Steps.{does_no_memory, computes_stops}
+use Rattle.prim_classes.proofs.Steps.{does_no_memory}
+use Rattle.prim_parts.proofs.Onward.{computes_stops}
 use Rattle.prim_classes.proofs.ClassFacts.{received_as, received_wrong, received_refused, received_none, check_same, replaced_same}
 use Rattle.prim_classes.proofs.ClassFits.{removed_fits}
 use Rattle.prim_classes.proofs.classes.row_60.Goals as goal

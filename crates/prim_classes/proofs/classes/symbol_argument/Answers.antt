@@ -1,4 +1,5 @@
-use Rattle.prim_classes.proofs.Steps.{computes_ends, computes_on}
+use Rattle.prim_classes.proofs.Steps.{computes_ends}
+use Rattle.prim_parts.proofs.Onward.{computes_on}
 use Rattle.prim_classes.proofs.ClassFacts.{exit_pointed}
 use Rattle.prim_classes.proofs.classes.symbol_argument.Goals as goal
 

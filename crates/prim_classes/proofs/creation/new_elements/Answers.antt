@@ -1,6 +1,7 @@
 use Rattle.std.proofs.Common.{rules}
 use Rattle.prim_parts.proofs.Does.{does_then, computes_then}
-use Rattle.prim_classes.proofs.Steps.{steps, computes_stops}
+use Rattle.prim_classes.proofs.Steps.{steps}
+use Rattle.prim_parts.proofs.Onward.{computes_stops}
 use Rattle.prim_classes.proofs.Counts.{count_same}
 use Rattle.prim_classes.proofs.creation.new_elements.Goals as goal
 

@@ -1,6 +1,6 @@
 use Rattle.std.proofs.Common.{rules}
 use Rattle.prim_parts.proofs.Does.{does_then, does_assoc}
-use Rattle.prim_classes.proofs.Steps.{does_stops}
+use Rattle.prim_parts.proofs.Onward.{does_stops}
 use Rattle.prim_classes.proofs.Shorts.{elements_split}
 use Rattle.prim_classes.proofs.printing.elements_text.Goals as goal
 

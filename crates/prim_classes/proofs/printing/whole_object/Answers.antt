@@ -4,7 +4,8 @@ use Rattle.prim_rules.specs.Printing.{array_text}
 use Rattle.prim_classes.specs.Prints.{shortened}
 use Rattle.std.proofs.Common.{List, sym, subst, ◌∙◌}
 use Rattle.prim_parts.proofs.Does.{does_then, does_reached, does_assoc}
-use Rattle.prim_classes.proofs.Steps.{does_stops, does_given}
+use Rattle.prim_classes.proofs.Steps.{does_given}
+use Rattle.prim_parts.proofs.Onward.{does_stops}
 use Rattle.prim_classes.proofs.Printed.{whole_by_class, whole_slots}
 use Rattle.prim_classes.proofs.printing.whole_object.Goals as goal
 

@@ -1,4 +1,4 @@
-use Rattle.prim_classes.proofs.Steps.{does_stops}
+use Rattle.prim_parts.proofs.Onward.{does_stops}
 use Rattle.prim_classes.proofs.Shorts.{mapped_stop}
 use Rattle.prim_classes.proofs.printing.with_element.Goals as goal
 

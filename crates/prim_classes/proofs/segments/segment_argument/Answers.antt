@@ -1,5 +1,5 @@
 use Rattle.prim_parts.proofs.Does.{does_then, does_exit, does_give, computes_then}
-use Rattle.prim_classes.proofs.Steps.{computes_stops}
+use Rattle.prim_parts.proofs.Onward.{computes_stops}
 use Rattle.prim_classes.proofs.Moves.{kind_same}
 use Rattle.prim_classes.proofs.segments.segment_argument.Goals as goal
 

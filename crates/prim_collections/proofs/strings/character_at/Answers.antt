@@ -1,5 +1,5 @@
 use Rattle.prim_parts.proofs.Does.{computes_give}
-use Rattle.prim_collections.proofs.Rows.{computes_on, computes_off}
+use Rattle.prim_parts.proofs.Onward.{computes_on, computes_off}
 use Rattle.std.proofs.lemmas.Result.{err_from_is_err_and}
 use Rattle.std.proofs.lemmas.Int.{to_z-of_z}
 use Rattle.std.proofs.Common.{rules, w64}

@@ -2,7 +2,8 @@ use Rattle.std.proofs.Common.{rules}
 use Rattle.std.specs.Int.{w64}
 use Rattle.std.specs.Prelude.{FitsSigned}
 use Rattle.std.proofs.lemmas.Int.{to_z-of_z}
-use Rattle.prim_numbers.proofs.Computing.{computes_on, computes_exit, answered_exit}
+use Rattle.prim_numbers.proofs.Computing.{computes_exit, answered_exit}
+use Rattle.prim_parts.proofs.Onward.{computes_on}
 use Rattle.prim_numbers.proofs.rows.as_character.Goals as goal
 
 pub returns-in_err-number : goal.returns-in_err-number

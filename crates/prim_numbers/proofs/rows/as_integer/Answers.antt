@@ -1,4 +1,5 @@
-use Rattle.prim_numbers.proofs.Computing.{computes_on, computes_exit}
+use Rattle.prim_numbers.proofs.Computing.{computes_exit}
+use Rattle.prim_parts.proofs.Onward.{computes_on}
 use Rattle.prim_numbers.proofs.rows.as_integer.Goals as goal
 
 pub returns-in_err-code : goal.returns-in_err-code

@@ -5,7 +5,7 @@ use Rattle.prim_rules.specs.Parts.{pairs_in}
 use Rattle.prim_rules.specs.Receivers.{write_receiver}
 use Rattle.prim_parts.specs.Does.{Does}
 use Rattle.prim_parts.proofs.Does.{does_then, does_stop, computes_then, computes_stop}
-use Rattle.prim_shared.specs.Held.{Reaches}
+use Rattle.prim_parts.specs.Reached.{Reaches}
 use Rattle.prim_shared.proofs.Steps.{handed}
 use Rattle.prim_shared.proofs.new_users.row_79.Goals as goal
 

@@ -1,4 +1,5 @@
-use Rattle.prim_shared.proofs.Steps.{handed_computed, computes_on, computes_off}
+use Rattle.prim_shared.proofs.Steps.{handed_computed}
+use Rattle.prim_parts.proofs.Onward.{computes_on, computes_off}
 use Rattle.prim_shared.proofs.shared.int_argument.Goals as goal
 
 pub returns-in_err-one_of : goal.returns-in_err-one_of

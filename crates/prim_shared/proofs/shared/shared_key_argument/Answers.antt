@@ -1,5 +1,6 @@
 use Rattle.prim_parts.proofs.Does.{computes_give}
-use Rattle.prim_shared.proofs.Steps.{computes_on, computes_off, computes_over}
+use Rattle.prim_shared.proofs.Steps.{computes_over}
+use Rattle.prim_parts.proofs.Onward.{computes_on, computes_off}
 use Rattle.std.proofs.lemmas.Result.{err_from_is_err_and}
 use Rattle.object_programs.specs.Programs.{check}
 use Rattle.object_programs.specs.declared.fault.Fault.TheVariants as fault

@@ -5,7 +5,7 @@ use Rattle.prim_parts.specs.Does.{Does}
 use Rattle.prim_parts.proofs.Does.{does_then, does_stop, computes_then, computes_stop}
 use Rattle.prim_shared.specs.declared.receivers.ReceiverKind.{ReceiverKind}
 use Rattle.prim_shared.specs.Kinds.{held_in}
-use Rattle.prim_shared.specs.Held.{Reaches}
+use Rattle.prim_parts.specs.Reached.{Reaches}
 use Rattle.prim_shared.specs.Told.{kind_listed, listed_by}
 use Rattle.prim_shared.proofs.Steps.{handed, over, again}
 use Rattle.prim_shared.proofs.Tells.{said_is, said_some}

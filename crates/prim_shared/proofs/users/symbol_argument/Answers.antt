@@ -1,4 +1,4 @@
-use Rattle.prim_shared.proofs.Steps.{computes_on, computes_off}
+use Rattle.prim_parts.proofs.Onward.{computes_on, computes_off}
 use Rattle.std.proofs.lemmas.Result.{err_from_is_err_and}
 use Rattle.prim_shared.proofs.users.symbol_argument.Goals as goal
 

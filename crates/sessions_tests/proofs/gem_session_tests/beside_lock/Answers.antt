@@ -1,4 +1,4 @@
-use Rattle.std.proofs.Common.{◌∙◌, ◌≡◌, ◌≤◌, ◌<◌, length, sym, ap, subst, arith}
+use Rattle.std.proofs.Common.{◌∙◌, ◌≤◌, ◌<◌, length, sym, ap, subst, arith}
 use Rattle.gem_meaning.specs.Events.{Told, told_more}
 use Rattle.stone_core.specs.Port.{event_of_lock}
 use Rattle.gem_session.specs.Running.{Arrives}

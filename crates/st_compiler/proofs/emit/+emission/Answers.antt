@@ -1,4 +1,4 @@
-use Rattle.std.proofs.Common.{◌≡◌, ℕ, suc, ◌+◌, false, true, length, sym, ◌∙◌, arith}
+use Rattle.std.proofs.Common.{◌≡◌, ℕ, ◌+◌, false, true, length, sym, ◌∙◌, arith}
 use Rattle.std.proofs.lemmas.Result.{on_ok_weaker}
 use Rattle.st_tree.specs.Trees.{sends, expressions}
 use Rattle.st_compiler.specs.TreeCode.{first_argument_code, rest_argument_codes, argument_codes, message_codes, message_code_of}

@@ -1,4 +1,4 @@
-use Rattle.std.proofs.Common.{◌≡◌, ◌<◌, ◌^◌, length}
+use Rattle.std.proofs.Common.{◌<◌, ◌^◌, length}
 use Rattle.st_compiler.specs.Emitted.{bodies}
 use Rattle.st_encoder.proofs.Writes.{BodiesLeft}
 use Rattle.st_encoder.proofs.writer.put_bodies.Given as goal

@@ -1,5 +1,5 @@
 use Rattle.std.proofs.Common.{◌≡◌, ◌∙◌, ◌⊎◌, inr, ◌≤◌, ◌+◌, ◌^◌, false, length, rules, refl, arith}
-use Rattle.st_compiler.specs.Emitted.{instructions, instruction_of}
+use Rattle.st_compiler.specs.Emitted.{instructions}
 use Rattle.st_encoder.specs.Bytes.{code_size, fit_from}
 use Rattle.st_encoder.specs.Written.{IsTooLarge}
 use Rattle.st_encoder.proofs.Writes.{count_size, code_step, code_stops, too_large_by}

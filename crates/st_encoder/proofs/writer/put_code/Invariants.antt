@@ -1,4 +1,4 @@
-use Rattle.std.proofs.Common.{◌≡◌, ◌<◌, ◌+◌, ◌^◌, length}
+use Rattle.std.proofs.Common.{◌≡◌, ◌+◌, length}
 use Rattle.st_compiler.specs.Emitted.{instructions}
 use Rattle.st_encoder.proofs.Writes.{CodeLeft}
 use Rattle.st_encoder.proofs.writer.put_code.Given as goal

@@ -4,7 +4,8 @@ use Rattle.object_programs.specs.Run.{and_then}
 use Rattle.gem_language.specs.OutOfScope.{own_global, or_in_globals, find_global}
 use Rattle.prim_parts.specs.Does.{Does}
 use Rattle.prim_parts.proofs.Does.{does_then, does_atom}
-use Rattle.st_outside.proofs.Steps.{does_stops, does_no_memory}
+use Rattle.st_outside.proofs.Steps.{does_no_memory}
+use Rattle.prim_parts.proofs.Onward.{does_stops}
 use Rattle.st_outside.proofs.globals.find_global.Goals as goal
 
 pub returns-in_err-own : goal.returns-in_err-own

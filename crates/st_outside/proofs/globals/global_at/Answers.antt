@@ -2,7 +2,8 @@ use Rattle.std.proofs.Common.{◌∙◌, ap}
 use Rattle.gem_object.specs.Edits.{value_at}
 use Rattle.gem_object.specs.declared.value.Value.{Value}
 use Rattle.prim_parts.proofs.Does.{does_atom, does_reached}
-use Rattle.st_outside.proofs.Steps.{does_stops, does_given, does_no_memory}
+use Rattle.st_outside.proofs.Steps.{does_given, does_no_memory}
+use Rattle.prim_parts.proofs.Onward.{does_stops}
 use Rattle.st_outside.proofs.globals.global_at.Goals as goal
 
 pub returns-in_err-read : goal.returns-in_err-read

@@ -3,7 +3,7 @@ use Rattle.gem_object.specs.declared.value.Value.{Value}
 use Rattle.gem_language.specs.OutOfScope.{find_global, global_value}
 use Rattle.prim_parts.specs.Does.{Does}
 use Rattle.prim_parts.proofs.Does.{does_then, does_give, does_compute}
-use Rattle.st_outside.proofs.Steps.{does_stops}
+use Rattle.prim_parts.proofs.Onward.{does_stops}
 use Rattle.st_outside.proofs.globals.global_value.Goals as goal
 
 pub returns-in_err-found : goal.returns-in_err-found

@@ -1,4 +1,4 @@
-use Rattle.st_outside.proofs.Steps.{computes_stops}
+use Rattle.prim_parts.proofs.Onward.{computes_stops}
 use Rattle.st_outside.proofs.instances.instance_value.Goals as goal
 
 pub returns-in_err-name : goal.returns-in_err-name

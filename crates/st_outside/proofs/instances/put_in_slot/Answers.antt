@@ -1,5 +1,6 @@
 use Rattle.prim_parts.proofs.Does.{does_then, computes_then}
-use Rattle.st_outside.proofs.Steps.{does_stops, does_given, computes_stops}
+use Rattle.st_outside.proofs.Steps.{does_given}
+use Rattle.prim_parts.proofs.Onward.{does_stops, computes_stops}
 use Rattle.st_outside.proofs.Slots.{put_where}
 use Rattle.st_outside.proofs.instances.put_in_slot.Goals as goal
 

@@ -1,5 +1,5 @@
 use Rattle.prim_parts.proofs.Does.{computes_then, does_then, does_atom}
-use Rattle.st_outside.proofs.Steps.{computes_stops}
+use Rattle.prim_parts.proofs.Onward.{computes_stops}
 use Rattle.st_outside.proofs.instances.set_instance_value.Goals as goal
 
 pub returns-in_err-name : goal.returns-in_err-name

@@ -6,7 +6,7 @@ use Rattle.running_objects.specs.Seen.{Seen, object_at}
 use Rattle.running_objects.specs.declared.stop.Stop.{Stop}
 use Rattle.running_objects.specs.declared.stop.Stop.TheVariants as stop
 use Rattle.st_outside.specs.Names.{first_in}
-use Rattle.st_outside.proofs.Steps.{handed}
+use Rattle.prim_parts.proofs.Onward.{handed}
 use Rattle.st_outside.proofs.Indexes.{IndexTold, IsReached, first_of_none, reached_more, few_own, goes_indexed, names_end, names_stop, names_none, names_last, names_above}
 use Rattle.st_outside.proofs.instances.variable_index.Goals as goal
 

@@ -9,7 +9,7 @@ use Rattle.running_objects.proofs.Running.{keeps_same}
 use Rattle.gem_language.specs.Literals.{constant_values}
 use Rattle.prim_parts.specs.Does.{Does}
 use Rattle.prim_parts.proofs.Does.{does_nothing}
-use Rattle.st_outside.proofs.Steps.{does_stops, handed}
+use Rattle.prim_parts.proofs.Onward.{does_stops, handed}
 use Rattle.st_outside.proofs.Elements.{values_of, prepended, values_end, values_stop, values_more}
 use Rattle.st_outside.proofs.literals.+values.Goals as goal
 

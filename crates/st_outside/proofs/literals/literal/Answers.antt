@@ -6,7 +6,7 @@ use Rattle.object_programs.specs.declared.fault.Fault.TheVariants as fault
 use Rattle.gem_language.specs.Literals.{constant_value, literal_value}
 use Rattle.prim_parts.specs.Does.{Does}
 use Rattle.prim_parts.proofs.Does.{computes_then}
-use Rattle.st_outside.proofs.Steps.{computes_stops}
+use Rattle.prim_parts.proofs.Onward.{computes_stops}
 use Rattle.st_outside.proofs.literals.literal.Goals as goal
 
 pub returns-in_err-check : goal.returns-in_err-check

@@ -1,6 +1,6 @@
 use Rattle.gem_language.specs.LookUp.{find_method}
 use Rattle.prim_parts.proofs.Does.{does_then}
-use Rattle.st_outside.proofs.Steps.{does_stops}
+use Rattle.prim_parts.proofs.Onward.{does_stops}
 use Rattle.st_outside.proofs.look_up.find_method.Goals as goal
 
 pub returns-in_err-start : goal.returns-in_err-start

@@ -1,4 +1,4 @@
-use Rattle.st_outside.proofs.Steps.{does_stops}
+use Rattle.prim_parts.proofs.Onward.{does_stops}
 use Rattle.st_outside.proofs.look_up.start_for_super.Goals as goal
 
 pub returns-in_err-start_of_receiver : goal.returns-in_err-start_of_receiver

@@ -4,7 +4,7 @@ use Rattle.gem_language.specs.LookUp.{up_classes, past_last}
 use Rattle.gem_language.specs.declared.found.Found.{Found}
 use Rattle.prim_parts.specs.Does.{Does}
 use Rattle.prim_parts.proofs.Does.{does_then, does_give}
-use Rattle.st_outside.proofs.Steps.{does_stops}
+use Rattle.prim_parts.proofs.Onward.{does_stops}
 use Rattle.st_outside.proofs.Ups.{goes_past}
 use Rattle.st_outside.proofs.look_up.up_side.Goals as goal
 

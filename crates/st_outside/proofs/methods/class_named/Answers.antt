@@ -5,7 +5,8 @@ use Rattle.object_programs.specs.declared.fault.Fault.TheVariants as fault
 use Rattle.running_objects.specs.Seen.{Seen}
 use Rattle.prim_parts.specs.Does.{Does}
 use Rattle.prim_parts.proofs.Does.{computes_then, known_then}
-use Rattle.st_outside.proofs.Steps.{computes_stops, known_stops}
+use Rattle.st_outside.proofs.Steps.{known_stops}
+use Rattle.prim_parts.proofs.Onward.{computes_stops}
 use Rattle.st_outside.proofs.methods.class_named.Goals as goal
 
 pub returns-in_err-name : goal.returns-in_err-name

@@ -1,6 +1,6 @@
 use Rattle.gem_language.specs.Install.{install}
 use Rattle.prim_parts.proofs.Does.{does_then}
-use Rattle.st_outside.proofs.Steps.{does_stops}
+use Rattle.prim_parts.proofs.Onward.{does_stops}
 use Rattle.st_outside.proofs.methods.install.Goals as goal
 
 pub returns-in_err-value : goal.returns-in_err-value

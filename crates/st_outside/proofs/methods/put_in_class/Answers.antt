@@ -5,7 +5,8 @@ use Rattle.gem_object.specs.declared.body.Method.{Method}
 use Rattle.gem_sound.specs.Parts.{class_of}
 use Rattle.running_objects.specs.Seen.{Seen, object_at}
 use Rattle.prim_parts.proofs.Does.{computes_then}
-use Rattle.st_outside.proofs.Steps.{computes_stops, does_no_memory}
+use Rattle.st_outside.proofs.Steps.{does_no_memory}
+use Rattle.prim_parts.proofs.Onward.{computes_stops}
 use Rattle.st_outside.proofs.Placing.{put_none, put_some, seen_fits, checked, put_so, put_too_long, short_source}
 use Rattle.st_outside.proofs.methods.put_in_class.Goals as goal
 

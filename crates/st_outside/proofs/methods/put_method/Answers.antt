@@ -1,5 +1,5 @@
 use Rattle.prim_parts.proofs.Does.{does_then, does_atom}
-use Rattle.st_outside.proofs.Steps.{access_stopped}
+use Rattle.prim_parts.proofs.Onward.{access_stopped}
 use Rattle.st_outside.proofs.methods.put_method.Goals as goal
 
 pub returns-in_err-read : goal.returns-in_err-read

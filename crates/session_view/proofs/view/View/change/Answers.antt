@@ -1,6 +1,5 @@
-use Rattle.std.proofs.Common.{◌≡◌, ◌∙◌, sym, ap, subst, None, true, inl, inr}
+use Rattle.std.proofs.Common.{◌∙◌, ap, None, true, inl, inr}
 use Rattle.std.proofs.lemmas.Result.{err_from_is_err_and}
-use Rattle.running_objects.specs.Seen.{Seen}
 use Rattle.plain_state.specs.Parts.{asked}
 use Rattle.plain_state.specs.Writes.{changed_to, is_changeable, accepts_body}
 use Rattle.session_view.specs.Calls.{size_due}

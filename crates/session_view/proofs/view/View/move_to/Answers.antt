@@ -1,4 +1,4 @@
-use Rattle.std.proofs.Common.{◌≡◌, ◌∙◌, sym, ap, subst, None, true, inl, inr}
+use Rattle.std.proofs.Common.{◌∙◌, ap, true, inl, inr}
 use Rattle.std.proofs.lemmas.Result.{err_from_is_err_and}
 use Rattle.object_programs.specs.Fixed.{fixed_by}
 use Rattle.object_programs.specs.Guard.{is_segment_at}

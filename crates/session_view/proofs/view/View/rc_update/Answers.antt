@@ -1,4 +1,4 @@
-use Rattle.std.proofs.Common.{◌≡◌, ◌∙◌, sym, ap, Some, None, inl, inr, rules}
+use Rattle.std.proofs.Common.{◌≡◌, ◌∙◌, ap, Some, None, inl, inr, rules}
 use Rattle.std.proofs.lemmas.Result.{err_from_is_err_and}
 use Rattle.plain_state.specs.Parts.{asked}
 use Rattle.plain_state.specs.Writes.{body_after}
