@@ -31,8 +31,9 @@ use stone_core::StonePort;
 ///
 /// # Errors
 ///
-/// `AllocError` where memory ran out for the replies, or where a transaction could not be begun.
-/// What the session has committed by then stays, and its locks are given back.
+/// `AllocError` where memory ran out for the look-up of the user, of the name that a lock or an
+/// unlock gives, or for the replies, or where a transaction could not be begun. What the session
+/// has committed by then stays, and its locks are given back.
 pub fn run_session<P: StonePort>(
     alloc: Global,
     port: &mut P,

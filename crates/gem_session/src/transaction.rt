@@ -64,7 +64,7 @@ impl Session {
     ///
     /// # Errors
     ///
-    /// `AllocError` where memory ran out for the reply.
+    /// `AllocError` where memory ran out for the look-up of the name or for the reply.
     pub(crate) fn lock<P: StonePort>(
         &mut self,
         port: &mut P,
@@ -103,7 +103,7 @@ impl Session {
     ///
     /// # Errors
     ///
-    /// `AllocError` where memory ran out for the reply.
+    /// `AllocError` where memory ran out for the look-up of the name or for the reply.
     pub(crate) fn unlock<P: StonePort>(
         &mut self,
         port: &mut P,

@@ -33,11 +33,13 @@ object_cost (Segment _) = 1
 object_cost (User _) = 1
 object_cost body = 1 + slots_of body
 
--- whether the object is within the limits of objects: slots, and bytes where it is stored (17 of
--- them for its class, its segment and the tag of its body)
+-- whether an object with this body is within the limits of objects: slots, and bytes where it is
+-- stored (17 of them for its class, its segment and the tag of its body)
+abbrev pub is_small : Body → Bool
+is_small body = nat_le (slots_of body) SLOTS_LIMIT && nat_le (17 + fields_size body) BYTES_LIMIT
+
 abbrev pub is_within_limits : Contents → Bool
-is_within_limits object =
-    nat_le (slots_of object.body) SLOTS_LIMIT && nat_le (17 + fields_size object.body) BYTES_LIMIT
+is_within_limits object = is_small object.body
 
 -- whether the transcript may have this text more
 abbrev pub may_write : Text → Budget → Bool

@@ -17,7 +17,7 @@ use gem_value::{Oid, Sequence};
 use std::alloc::{AllocError, Global};
 
 impl PlainState {
-    /// The names that were touched, ascending, in time of their number and its logarithm.
+    /// The names that were touched, ascending.
     ///
     /// # Errors
     ///
@@ -29,8 +29,7 @@ impl PlainState {
     }
 
     /// The ordinary objects of the view that were written, ascending by name, each as it is now and
-    /// without the number of a commit. The time is that of copies of them, and of sorting the names
-    /// of all that was changed.
+    /// without the number of a commit. They are copied.
     ///
     /// # Errors
     ///
@@ -57,7 +56,7 @@ impl PlainState {
     }
 
     /// The updates that were noted of each object, in their order, ascending by the objects' names.
-    /// The time is that of copies of them, and of sorting the names.
+    /// They are copied.
     ///
     /// # Errors
     ///

@@ -27,7 +27,8 @@ use Rattle.running_objects.proofs.Running.{keeps_same, seen_twice}
 use Rattle.running_objects.proofs.Bytes.{seen_small}
 use Rattle.body_growth.specs.declared.change.Change.{Change}
 use Rattle.body_growth.specs.Changes.{Shifts, Changes, Tells}
-use Rattle.prim_parts.specs.Limits.{is_small, TellsLimits, room_where, limits_of_update}
+use Rattle.object_programs.specs.Budget.{is_small}
+use Rattle.prim_parts.specs.Limits.{TellsLimits, room_where, limits_of_update}
 use Rattle.prim_parts.specs.Does.{Does, Computes}
 use Rattle.prim_parts.specs.Edits.{Replaces, Updates}
 use Rattle.prim_parts.proofs.Does.{does_then, does_stop, does_atom, does_give, does_fail, does_nothing}

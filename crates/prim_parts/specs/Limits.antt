@@ -11,17 +11,13 @@ use Rattle.gem_image.specs.Image.{Contents}
 use Rattle.gem_world.specs.Changes.{with_body}
 use Rattle.tree_meaning.specs.Place.{MadeBlock}
 use Rattle.object_programs.specs.Atom.{Room}
-use Rattle.object_programs.specs.Budget.{is_within_limits}
+use Rattle.object_programs.specs.Budget.{is_small, is_within_limits}
 use Rattle.object_programs.specs.Programs.{need, check}
 use Rattle.object_programs.specs.Run.{Run, give, atom, and_then}
 use Rattle.object_programs.specs.declared.fault.Fault.{Fault}
 use Rattle.object_programs.specs.declared.fault.Fault.TheVariants as fault
 use Rattle.object_programs.specs.declared.limits.TheConstants.{SLOTS_LIMIT, BYTES_LIMIT}
 use Rattle.running_objects.specs.Seen.{Seen, object_at}
-
--- whether an object with this body is within the limits of objects
-abbrev pub is_small : Body → Bool
-is_small body = nat_le (slots_of body) SLOTS_LIMIT && nat_le (17 + fields_size body) BYTES_LIMIT
 
 -- This tells whether the object of this name is within the limits after the change.
 abbrev pub TellsLimits : Change → ℕ → Seen → Bool → Type 0

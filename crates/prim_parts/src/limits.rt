@@ -2,7 +2,7 @@
 ghost use Rattle.std.specs.Prelude.{◌≡◌, ◌&&◌, ◌+◌, ◌-◌, nat_le};
 ghost use Rattle.body_growth.specs.Changes.{counted};
 ghost use Rattle.object_programs.specs.declared.limits.TheConstants.{BYTES_LIMIT, SLOTS_LIMIT};
-ghost use Rattle.prim_parts.specs.Limits.{is_small};
+ghost use Rattle.object_programs.specs.Budget.{is_small};
 
 use body_growth::Change;
 use gem_object::Body;

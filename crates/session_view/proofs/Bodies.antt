@@ -2,17 +2,18 @@
 use Rattle.std.proofs.Common.{◌≡◌, ◌∙◌, ◌≢◌, refl, ap, ℕ, Bool, true, false, cond, Option, Some, None}
 use Rattle.std.specs.Option.{option_or}
 use Rattle.std.specs.Ordering.{nat_cmp}
-use Rattle.std.specs.FinMap.{get-empty}
+use Rattle.std.specs.FinMap.{get, get-empty}
 use Rattle.gem_object.specs.Kinds.{is_shared}
 use Rattle.gem_object.specs.declared.body.Body.{Body}
 use Rattle.gem_image.specs.Image.{Image, Contents, objects_in}
-use Rattle.gem_world.specs.World.{Setting, World, as_of, are_shared, touch, is_made, is_private, with_name}
-use Rattle.gem_world.specs.Changes.{with_body, in_segment}
+use Rattle.gem_world.specs.World.{Setting, World, as_of, before_changes, are_shared, touch, is_made, is_private, with_name, next_name}
+use Rattle.gem_update.specs.declared.update.Update.{Update}
+use Rattle.gem_world.specs.Changes.{with_body, in_segment, note, make}
 use Rattle.object_programs.proofs.Worlds.{shown_asked, put_here, put_elsewhere}
 use Rattle.running_objects.specs.Seen.{Seen, object_at}
-use Rattle.plain_state.specs.Parts.{asked}
+use Rattle.plain_state.specs.Parts.{in_world, asked}
 use Rattle.plain_state.specs.State.{begun}
-use Rattle.plain_state.specs.Writes.{replaced_by, changed_to, moved_to}
+use Rattle.plain_state.specs.Writes.{replaced_by, changed_to, moved_to, updated_to, added}
 
 same_image : (found : Option Contents) → as_of found found ≡ found
 same_image None = refl
@@ -28,6 +29,14 @@ pub begun_shows : (image : Image) (user serial first name : ℕ)
 begun_shows image user serial first name =
     ap (λ (found : Option Contents). option_or found (as_of (objects_in image name) (objects_in image name))) (get-empty nat_cmp name)
     ∙ same_image (objects_in image name)
+
+-- what isn't among the changes is shown as the image has it
+pub unchanged_shows : (x : Seen) (name : ℕ) → x.setting.view ≡ x.setting.place → get x.world.changes name ≡ None
+    → object_at name x ≡ objects_in x.setting.place name
+unchanged_shows x name same none =
+    ap (λ (found : Option Contents). option_or found (before_changes name x.setting)) none
+    ∙ ap (λ (image : Image). as_of (objects_in x.setting.place name) (objects_in image name)) same
+    ∙ same_image (objects_in x.setting.place name)
 
 pub look_shows : (x : Seen) (name other : ℕ) → object_at other (asked name x) ≡ object_at other x
 look_shows x name other = shown_asked x.setting x.setting name other x.world
@@ -60,6 +69,47 @@ moved_shows x name segment old there =
     let once : Seen = asked name x in
     edited_here (asked segment once) name (in_segment segment) (object_at name (asked segment once)) old
     (look_shows once segment name ∙ look_shows x name name ∙ there)
+
+pub moves_elsewhere : (x : Seen) (name other segment : ℕ) → other ≢ name
+    → object_at other (moved_to name segment x) ≡ object_at other x
+moves_elsewhere x name other segment apart =
+    let once : Seen = asked name x in
+    edited_elsewhere (asked segment once) name other (in_segment segment) (object_at name (asked segment once)) apart
+    ∙ look_shows once segment other ∙ look_shows x name other
+
+-- a note of an update leaves what is shown
+noted_shows : (x : Seen) (name other : ℕ) (update : Update)
+    → object_at other (in_world (note name update x.setting) x) ≡ object_at other x
+unfolding note
+noted_shows x name other update = refl
+
+pub updated_shows : (x : Seen) (name : ℕ) (update : Update) (body : Body) (old : Contents) → object_at name x ≡ Some old
+    → object_at name (updated_to name update body x) ≡ Some (with_body body old)
+updated_shows x name update body old there =
+    let noted : Seen = in_world (note name update x.setting) (asked name x) in
+    edited_here noted name (with_body body) (object_at name noted) old
+    (noted_shows (asked name x) name name update ∙ look_shows x name name ∙ there)
+
+pub updates_elsewhere : (x : Seen) (name other : ℕ) (update : Update) (body : Body) → other ≢ name
+    → object_at other (updated_to name update body x) ≡ object_at other x
+updates_elsewhere x name other update body apart =
+    let noted : Seen = in_world (note name update x.setting) (asked name x) in
+    edited_elsewhere noted name other (with_body body) (object_at name noted) apart
+    ∙ noted_shows (asked name x) name other update ∙ look_shows x name other
+
+-- an object that is made stands under the next name
+pub made_shows : (x : Seen) (object : Contents) → object_at (next_name x.setting x.world) (added object x) ≡ Some object
+unfolding make
+made_shows x object =
+    let name = next_name x.setting x.world in
+    ap (λ (found : Option Contents). option_or found (before_changes name x.setting))
+    (get-insert_same x.world.changes name object name refl)
+
+pub made_beside : (x : Seen) (object : Contents) (other : ℕ) → other ≢ next_name x.setting x.world
+    → object_at other (added object x) ≡ object_at other x
+unfolding make
+made_beside x object other apart = ap (λ (found : Option Contents). option_or found (before_changes other x.setting))
+    (get-insert_other x.world.changes (next_name x.setting x.world) object other apart)
 
 -- ---- reduced-conflict objects of the image
 

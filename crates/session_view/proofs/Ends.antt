@@ -14,7 +14,8 @@ use Rattle.object_programs.specs.declared.limits.TheConstants.{COUNTER_LIMIT}
 use Rattle.running_objects.specs.Seen.{Seen}
 use Rattle.plain_state.specs.Parts.{asked}
 use Rattle.plain_state.specs.Writes.{accepts_body, body_after, updated_to}
-use Rattle.session_view.specs.Calls.{Due, write_due, is_small, size_due, segment_due, names_due, due_after, takes, updated, updated_by}
+use Rattle.object_programs.specs.Budget.{is_small}
+use Rattle.session_view.specs.Calls.{Due, write_due, size_due, segment_due, names_due, is_large_at, due_before, due_after, takes, updated, updated_by}
 use Rattle.session_view.specs.declared.fault.ViewFault.TheVariants as fault
 
 -- what a test holds of is there
@@ -83,6 +84,21 @@ pub names_allowed : (x : Seen) → x.world.next < COUNTER_LIMIT → names_due x 
 names_allowed x some = ap (λ b. cond b None (Some (fault.NamesUsed, x))) (lt-ltb x.world.next COUNTER_LIMIT some)
 
 -- ---- an update
+
+-- the object is above the limits as it is, or isn't
+module _ (x y : Seen) (same : y ≡ x) (name : ℕ) (answer : Bool) (told : answer ≡ is_large_at name y) where
+  large_here : answer ≡ is_large_at name x
+  large_here = told ∙ ap (is_large_at name) same
+
+  pub large_refused : (rest : Due) (z : Seen) → answer ≡ true → z ≡ asked name y
+      → due_before name x rest ≡ Some (fault.TooLarge, z)
+  large_refused rest z large after =
+      ap (λ b. cond b (Some (fault.TooLarge, asked name x)) rest) (sym large_here ∙ large)
+      ∙ ap (λ (s : Seen). Some (fault.TooLarge, s)) (sym (after ∙ ap (asked name) same))
+
+  pub large_allowed : (rest : Due) → answer ≡ false → due_before name x rest ≡ rest
+  large_allowed rest small =
+      ap (λ b. cond b (Some (fault.TooLarge, asked name x)) rest) (sym large_here ∙ small)
 
 module _ (x y : Seen) (same : y ≡ x) (name : ℕ) (update : Update) where
   -- what an object takes has a body

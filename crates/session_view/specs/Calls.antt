@@ -1,16 +1,15 @@
 -- How the calls of a view end: which fault is due, and what is seen afterwards.
-use Rattle.std.specs.Prelude.{◌≡◌, ◌⊎◌, ℕ, ◌+◌, Bool, ◌&&◌, cond, nat_le, nat_lt, Option, None, Some, Result, Ok, Err}
+use Rattle.std.specs.Prelude.{◌≡◌, ◌⊎◌, ℕ, Bool, not, cond, nat_lt, Option, None, Some, Result, Ok, Err}
 use Rattle.seg_rights.specs.Right.{allows_write}
 use Rattle.gem_object.specs.Kinds.{is_shared}
-use Rattle.gem_object.specs.Sizes.{fields_size}
-use Rattle.gem_object.specs.Slots.{slots_of}
 use Rattle.gem_object.specs.declared.body.Body.{Body}
 use Rattle.gem_update.specs.declared.update.Update.{Update}
 use Rattle.gem_image.specs.Rights.{right_in}
 use Rattle.gem_world.specs.World.{shown_objects}
 use Rattle.gem_world.specs.Access.{a_read, a_write, is_allowed}
 use Rattle.object_programs.specs.Guard.{holds_of}
-use Rattle.object_programs.specs.declared.limits.TheConstants.{SLOTS_LIMIT, BYTES_LIMIT, COUNTER_LIMIT}
+use Rattle.object_programs.specs.Budget.{is_small}
+use Rattle.object_programs.specs.declared.limits.TheConstants.{COUNTER_LIMIT}
 use Rattle.running_objects.specs.Seen.{Seen, object_at}
 use Rattle.plain_state.specs.Parts.{asked}
 use Rattle.plain_state.specs.Writes.{accepts_body, body_after, updated_to}
@@ -45,11 +44,6 @@ abbrev pub write_due : ℕ → Seen → (allowed : Due) → Due
 write_due name seen allowed = cond (is_allowed a_write name seen.setting seen.world) allowed
     (Some (fault.NoWrite name, asked name seen))
 
--- whether an object with this body is within the limits of objects (17 bytes are its class, its
--- segment and the tag of its body)
-abbrev pub is_small : Body → Bool
-is_small body = nat_le (slots_of body) SLOTS_LIMIT && nat_le (17 + fields_size body) BYTES_LIMIT
-
 abbrev pub size_due : Body → Seen → (small : Due) → Due
 size_due body touched small = cond (is_small body) small (Some (fault.TooLarge, touched))
 
@@ -73,14 +67,21 @@ names_due seen = cond (nat_lt seen.world.next COUNTER_LIMIT) None (Some (fault.N
 abbrev pub make_due : Body → Seen → Due
 make_due body seen = size_due body seen (names_due seen)
 
--- where a reduced-conflict object is updated, by the body that it then has
+-- where a reduced-conflict object is updated, by the body that it has and the one that it then has
+abbrev pub is_large_at : ℕ → Seen → Bool
+is_large_at name seen = holds_of (λ object. not (is_small object.body)) (object_at name seen)
+
+abbrev pub due_before : ℕ → Seen → (small : Due) → Due
+due_before name seen small =
+    cond (is_large_at name seen) (Some (fault.TooLarge, asked name seen)) small
+
 abbrev pub due_after : ℕ → Option Body → Seen → Due
 due_after name None seen = None
 due_after name (Some body) seen = size_due body (asked name seen) None
 
 abbrev pub update_due : ℕ → Update → Seen → Due
-update_due name update seen =
-    write_due name seen (due_after name (body_after name update seen) seen)
+update_due name update seen = write_due name seen
+    (due_before name seen (due_after name (body_after name update seen) seen))
 
 abbrev pub updated_by : ℕ → Update → Option Body → Seen → Seen
 updated_by name update None seen = seen

@@ -2,12 +2,13 @@
 //! touches, and then it is refused, or done.
 ghost use Rattle.std.specs.Prelude.{◌≡◌, ◌≤◌, ◌<◌, ◌+◌, true, IfOk};
 ghost use Rattle.gem_world.specs.World.{next_name};
+ghost use Rattle.object_programs.specs.Budget.{is_small};
 ghost use Rattle.object_programs.specs.Fixed.{fixed_by};
 ghost use Rattle.object_programs.specs.Guard.{is_segment_at};
 ghost use Rattle.object_programs.specs.declared.limits.TheConstants.{COUNTER_LIMIT};
 ghost use Rattle.plain_state.specs.Parts.{asked};
 ghost use Rattle.plain_state.specs.Writes.{changed_to, moved_to, added, is_changeable, accepts_body, may_add};
-ghost use Rattle.session_view.specs.Calls.{EndsBy, fault_in, look_fault, change_due, move_due, make_due, update_due, updated, is_small, is_shared_at, takes};
+ghost use Rattle.session_view.specs.Calls.{EndsBy, fault_in, look_fault, change_due, move_due, make_due, update_due, updated, is_large_at, is_shared_at, takes};
 
 use crate::fault::ViewFault;
 use crate::view::View;
@@ -20,8 +21,8 @@ use seg_rights::may_write;
 
 impl View {
     /// Looks at an ordinary object, or at one that was made in the transaction, which is then asked
-    /// for by `peek`. It touches the object, its segment and the user's profile, and takes no
-    /// memory.
+    /// for by `peek`. It touches the object, its segment and the user's profile, but for what was
+    /// made in the transaction, and takes no memory.
     ///
     /// # Errors
     ///
@@ -169,8 +170,8 @@ impl View {
     ///
     /// # Errors
     ///
-    /// `NoWrite` where the user may not write the object, and then `TooLarge`; `NoMemory` where
-    /// memory ran out.
+    /// `NoWrite` where the user may not write the object, and then `TooLarge` where it is above the
+    /// limits of objects or would be; `NoMemory` where memory ran out.
     pub fn rc_update(&mut self, oid: Oid, update: Update) -> Result<(), ViewFault>
         requires { takes oid update self.old.state.seen ≡ true }
         ensures ends { EndsBy (update_due oid update self.old.state.seen) self.old.state.seen
@@ -183,6 +184,10 @@ impl View {
             self.state.ask(oid);
             return Err(ViewFault::NoWrite(oid));
         }
+        if self.is_large(oid) {
+            self.state.ask(oid);
+            return Err(ViewFault::TooLarge);
+        }
         let Some(body) = self.state.body_after(oid, &update)? else {
             unreachable!()
         };
@@ -192,6 +197,16 @@ impl View {
         }
         self.state.change_by(oid, update, body)?;
         Ok(())
+    }
+
+    // Whether the object of this name is above the limits of objects, as merges may leave it.
+    fn is_large(&self, oid: Oid) -> bool
+        ensures { result ≡ is_large_at oid self.now.state.seen }
+    {
+        match self.state.object(oid) {
+            Some(object) => !is_small(&object.body),
+            None => false,
+        }
     }
 }
 

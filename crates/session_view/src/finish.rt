@@ -15,9 +15,7 @@ use std::alloc::AllocError;
 
 impl View {
     /// The record of the transaction, which ran these commands of this session, for its commit.
-    /// Objects are copied, with 0 as the number of their last commit. The time is that of what the
-    /// transaction changed, made, updated and touched, with its logarithm, and doesn't depend on
-    /// the image.
+    /// Objects are copied, with 0 as the number of their last commit.
     ///
     /// # Errors
     ///

@@ -89,7 +89,7 @@ impl View {
     }
 
     /// The object of this name, if there is one, as it is now. It takes no memory, asks for no
-    /// right and touches nothing.
+    /// right and touches nothing. What it says of the number of the last commit isn't claimed.
     pub fn peek(&self, oid: Oid) -> Option<&Object>
         ensures { option_map contents_of (option_copied result)
             ≡ object_at oid self.now.state.seen }

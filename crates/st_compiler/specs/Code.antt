@@ -1,7 +1,7 @@
 -- Code: the instructions of a part of a tree, and the blocks that they push, each with its own.
--- Blocks are numbered from 0 in the order of the text; where code is spelled in bytes, number 0 is the
--- whole tree, and each of these blocks has the number after its own. How the parts are put together
--- looks at no tree.
+-- Blocks are numbered from 0 in the order of the text; where code is spelled in bytes, number 0 is
+-- the whole tree, and each of these blocks has the number after its own. How the parts are put
+-- together looks at no tree.
 use Rattle.std.specs.Prelude.{ℕ, zero, suc, ◌+◌, pos, Bool, true, false, List, [], ◌∷◌, ◌++◌, length}
 use Rattle.st_tree.specs.Trees.{Closure}
 use Rattle.tree_meaning.specs.Place.{Place}

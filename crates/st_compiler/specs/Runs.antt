@@ -13,7 +13,7 @@ use Rattle.tree_meaning.specs.Bodies.{block_body}
 
 -- The code does what the program does, in each frame and state: from its first instruction and an
 -- empty stack there are enough instructions in at most as many stretches as there are units, and
--- one. The list has a number for each stretch; their sum is enough for the whole.
+-- one. The list has a number for each stretch.
 abbrev pub Runs : Outside → Setting → (table : List Piece) → (code : List Instruction)
     → (Frame → ValueRun) → Type 0
 Runs outside setting table code program = (frame : Frame) (state : State MadeBlock)

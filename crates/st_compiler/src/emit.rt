@@ -1,8 +1,7 @@
 //! The instructions of each part of a tree, in one cycle.
 //!
 //! Each function adds the code of a part to `code`, and the blocks that are pushed in it to
-//! `blocks`. `height` is how many values stand on the stack beneath what the part puts there; it never counts
-//! more than the part that is left allows.
+//! `blocks`. `height` is how many values stand on the stack beneath what the part puts there.
 #![tactic(auto, using(crate::proofs::Emits::emits))]
 
 ghost use Rattle.std.specs.Prelude.{◌≡◌, ◌+◌, ◌*◌, ◌≤◌, ◌^◌, ◌∷◌, ◌++◌, [], suc, zero, false, true, length, IfOk, OnOk};

@@ -2,8 +2,8 @@ use Rattle.std.proofs.Common.{◌≡◌, ◌∙◌, ap, Some, None, inl, inr, ru
 use Rattle.std.proofs.lemmas.Result.{err_from_is_err_and}
 use Rattle.plain_state.specs.Parts.{asked}
 use Rattle.plain_state.specs.Writes.{body_after}
-use Rattle.session_view.specs.Calls.{due_after}
-use Rattle.session_view.proofs.Ends.{write_refused, write_allowed, writable_there, size_refused, size_allowed, body_fits, due_here, updated_here}
+use Rattle.session_view.specs.Calls.{due_before, due_after}
+use Rattle.session_view.proofs.Ends.{write_refused, write_allowed, large_refused, large_allowed, writable_there, size_refused, size_allowed, body_fits, due_here, updated_here}
 use Rattle.session_view.proofs.view.View.rc_update.Goals as goal
 
 pub returns-in_err-reserve-clause-ends : goal.returns-in_err-reserve-clause-ends
@@ -15,7 +15,17 @@ pub returns-then-not-may_write-clause-ends : goal.returns-then-not-may_write-cla
 returns-then-not-may_write-clause-ends c =
     let x = c.args.self.now.state.seen in
     write_refused x c.reserve.new.self.seen c.reserve.ensures.unchanged c.args.oid c.may_write.result c.may_write.ensures
-    (due_after c.args.oid (body_after c.args.oid c.args.update x) x) c.ask.new.self.seen c.if-not-may_write.true c.ask.ensures.asked
+    (due_before c.args.oid x (due_after c.args.oid (body_after c.args.oid c.args.update x) x)) c.ask.new.self.seen c.if-not-may_write.true c.ask.ensures.asked
+
+pub returns-then-is_large-clause-ends : goal.returns-then-is_large-clause-ends
+returns-then-is_large-clause-ends c =
+    let x = c.args.self.now.state.seen in
+    let y = c.reserve.new.self.seen in
+    let after = (due_after c.args.oid (body_after c.args.oid c.args.update x) x) in
+    write_allowed x y c.reserve.ensures.unchanged c.args.oid c.may_write.result c.may_write.ensures
+    (due_before c.args.oid x after) c.if-not-may_write.false
+    ∙ large_refused x y c.reserve.ensures.unchanged c.args.oid c.is_large.result c.is_large.ensures
+    after c.ask-then-is_large.new.self.seen c.if-is_large.true c.ask-then-is_large.ensures.asked
 
 pub returns-in_err-body-clause-ends : goal.returns-in_err-body-clause-ends
 returns-in_err-body-clause-ends c =
@@ -28,7 +38,9 @@ returns-then-not-is_small-clause-ends c =
     let x = c.args.self.now.state.seen in
     let y = c.reserve.new.self.seen in
     write_allowed x y c.reserve.ensures.unchanged c.args.oid c.may_write.result c.may_write.ensures
-    (due_after c.args.oid (body_after c.args.oid c.args.update x) x) c.if-not-may_write.false
+    (due_before c.args.oid x (due_after c.args.oid (body_after c.args.oid c.args.update x) x)) c.if-not-may_write.false
+    ∙ large_allowed x y c.reserve.ensures.unchanged c.args.oid c.is_large.result c.is_large.ensures
+    (due_after c.args.oid (body_after c.args.oid c.args.update x) x) c.if-is_large.false
     ∙ due_here x y c.reserve.ensures.unchanged c.args.oid c.args.update c.in-Some.body is
     ∙ size_refused c.in-Some.body (asked c.args.oid x) c.ask-then-not-is_small.new.self.seen None c.is_small.result c.is_small.ensures
     c.if-not-is_small.true (c.ask-then-not-is_small.ensures.asked ∙ ap (asked c.args.oid) c.reserve.ensures.unchanged)
@@ -55,7 +67,9 @@ returns-clause-ends c =
     let x = c.args.self.now.state.seen in
     let y = c.reserve.new.self.seen in (
       write_allowed x y c.reserve.ensures.unchanged c.args.oid c.may_write.result c.may_write.ensures
-          (due_after c.args.oid (body_after c.args.oid c.args.update x) x) c.if-not-may_write.false
+          (due_before c.args.oid x (due_after c.args.oid (body_after c.args.oid c.args.update x) x)) c.if-not-may_write.false
+          ∙ large_allowed x y c.reserve.ensures.unchanged c.args.oid c.is_large.result c.is_large.ensures
+          (due_after c.args.oid (body_after c.args.oid c.args.update x) x) c.if-is_large.false
           ∙ due_here x y c.reserve.ensures.unchanged c.args.oid c.args.update c.in-Some.body is
           ∙ size_allowed c.in-Some.body (asked c.args.oid x) None c.is_small.result c.is_small.ensures c.if-not-is_small.false,
       updated_here x y c.reserve.ensures.unchanged c.args.oid c.args.update c.in-Some.body is
