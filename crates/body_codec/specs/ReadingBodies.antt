@@ -25,7 +25,7 @@ use Rattle.gem_object.specs.declared.body.Body.TheVariants.{Plain, Bytes, Dict, 
 use Rattle.gem_object.specs.declared.object.Object.{Object}
 use Rattle.gem_record.specs.declared.effect.Effect.{Effect}
 use Rattle.body_codec.specs.declared.fault.BodyRule.TheVariants as rule
-use Rattle.body_codec.specs.Reading.{◌&◌, Reader, breaks, made, number_at, byte_at, name_at, integer_at, times_at, text_at, bytes_at, value_at, key_at, coded_at, last_of, above_at, short_at, long_at, some_at}
+use Rattle.body_codec.specs.Reading.{◌>>=◌, ◌&◌, Reader, breaks, made, number_at, byte_at, name_at, integer_at, times_at, text_at, bytes_at, value_at, key_at, coded_at, last_of, above_at, short_at, long_at, some_at}
 
 -- the order of texts: by their bytes
 abbrev pub text_order : Text → Text → Ordering
