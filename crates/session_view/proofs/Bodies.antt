@@ -9,6 +9,7 @@ use Rattle.gem_image.specs.Image.{Image, Contents, objects_in}
 use Rattle.gem_world.specs.World.{Setting, World, as_of, before_changes, are_shared, touch, is_made, is_private, with_name, next_name}
 use Rattle.gem_update.specs.declared.update.Update.{Update}
 use Rattle.gem_world.specs.Changes.{with_body, in_segment, note, make}
+use Rattle.radix_pages.proofs.Tables.{get-insert_same, get-insert_other}
 use Rattle.object_programs.proofs.Worlds.{shown_asked, put_here, put_elsewhere}
 use Rattle.running_objects.specs.Seen.{Seen, object_at}
 use Rattle.plain_state.specs.Parts.{in_world, asked}
