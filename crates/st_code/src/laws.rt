@@ -40,8 +40,8 @@ pub fn marked_code_passes()
         → Content literals blocks lines marks → fault_of bytes literals blocks ≡ None }
 {}
 
-/// Code whose blocks are right is refused only where it breaks a rule: a variable, a scope, a height
-/// or a place where ways meet is judged by ways that come there, and by no other.
+/// Code whose blocks are right is refused only where it breaks a rule. Variables, scopes and heights
+/// are judged by ways that come there, and by nothing else.
 pub fn faults_are_breaks()
     ensures { (bytes : List ℕ) (literals : List Literal) (blocks : List BlockCode)
         (fault : CodeFault) → are_blocks (length bytes) blocks ≡ true
