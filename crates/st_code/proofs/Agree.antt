@@ -1,5 +1,5 @@
 -- Where no rule breaks, the first way brings what every way brings.
-use Rattle.std.proofs.Common.{◌≡◌, ◌≢◌, refl, sym, ap, subst, ◌∙◌, ◌⊎◌, inl, inr, ℕ, zero, suc, ◌+◌, ◌<◌, nat_eq, nat_lt, Bool, true, false, not, ◌&&◌, if◌then◌else◌, List, [], ◌∷◌, ◌++◌, length, replicate, take, drop, slice_get, slice_set, ◌-◌, ◌==◌, Option, None, Some, Result, Ok, Err, arith}
+use Rattle.std.proofs.Common.{◌≡◌, ◌≢◌, refl, sym, ap, subst, ◌∙◌, inl, inr, ℕ, zero, suc, ◌+◌, ◌<◌, nat_eq, nat_lt, Bool, true, false, not, ◌&&◌, if◌then◌else◌, List, [], ◌∷◌, ◌++◌, length, replicate, take, slice_get, slice_set, ◌-◌, ◌==◌, Option, None, Some, Result, Ok, Err, arith}
 use Rattle.std.specs.Prelude.{slice_range}
 use Rattle.std.specs.Cmp.Lexicographic.{pointwise, bytes_decides}
 use Rattle.std.proofs.lemmas.Bool.{false≢true, and_parts, eqb-true, eq-eqb}
@@ -16,7 +16,7 @@ use Rattle.st_code.specs.declared.rules.Agreement.{Agreement}
 use Rattle.st_code.specs.declared.rules.Agreement.TheVariants.{Scopes, Height}
 use Rattle.st_code.specs.declared.ways.Way.{Way}
 use Rattle.st_code.specs.Held.{Held}
-use Rattle.st_code.specs.Lines.{Lines, width, line_of, whole_line, line_by, line_at, with_first, after_line, lines_from, joined, lines_of, end_of, are_blocks, is_of}
+use Rattle.st_code.specs.Lines.{Lines, width, line_of, line_by, line_at, with_first, after_line, lines_from, joined, lines_of, end_of, are_blocks, is_of}
 use Rattle.st_code.specs.Operands.{first_pushes, operands_fit}
 use Rattle.st_code.specs.Ways.{Known, open_line, go_step, reach, start_way, first_ways, ways_on, known_of}
 use Rattle.st_code.specs.Comes.{IsOneOf, Comes, begins, goes}

@@ -1,3 +1,4 @@
 mod Reading
 mod Agree
 pub mod Passes
+mod Breaks

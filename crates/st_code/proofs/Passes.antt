@@ -1,6 +1,6 @@
 -- Where it is known what every way brings to each place, and every instruction is content with it,
 -- no rule breaks.
-use Rattle.std.proofs.Common.{◌≡◌, ◌≢◌, refl, sym, ap, subst, ◌∙◌, ◌⊎◌, inl, inr, ℕ, zero, suc, ◌+◌, ◌<◌, ◌≤◌, nat_eq, Bool, true, false, not, ◌&&◌, if◌then◌else◌, List, [], ◌∷◌, ◌++◌, length, length-append, replicate, slice_get, slice_set, ◌==◌, Option, None, Some, Result, Ok, Err, option_to_list, option_map, arith}
+use Rattle.std.proofs.Common.{◌≡◌, refl, sym, ap, subst, ◌∙◌, ◌⊎◌, inl, inr, ℕ, zero, suc, ◌+◌, ◌<◌, ◌≤◌, nat_eq, Bool, true, false, not, ◌&&◌, if◌then◌else◌, List, [], ◌∷◌, ◌++◌, length, length-append, replicate, slice_get, slice_set, ◌==◌, Option, None, Some, Result, Ok, option_to_list, option_map, arith}
 use Rattle.std.specs.Cmp.Lexicographic.{pointwise, bytes_decides}
 use Rattle.std.proofs.lemmas.Bool.{false≢true, eq-eqb}
 use Rattle.std.proofs.lemmas.List.{length-replicate}
@@ -9,8 +9,7 @@ use Rattle.op_table.specs.declared.ops.Op.{Op}
 use Rattle.op_table.specs.declared.ops.Op.TheVariants as op
 use Rattle.st_tree.specs.declared.nodes.Literal.{Literal}
 use Rattle.st_code.specs.declared.blocks.BlockCode.{BlockCode}
-use Rattle.st_code.specs.declared.fault.CodeFault.{CodeFault}
-use Rattle.st_code.specs.declared.fault.CodeFault.TheVariants.{Operand, Jump, Stack}
+use Rattle.st_code.specs.declared.fault.CodeFault.TheVariants.{Operand}
 use Rattle.st_code.specs.declared.line.Line.{Line}
 use Rattle.st_code.specs.declared.rules.Agreement.{Agreement}
 use Rattle.st_code.specs.declared.rules.Agreement.TheVariants.{Scopes, Height}
@@ -20,7 +19,7 @@ use Rattle.st_code.specs.Lines.{Lines, lines_of, are_blocks, is_of}
 use Rattle.st_code.specs.Operands.{first_pushes, operands_fit, pushes_block}
 use Rattle.st_code.specs.Ways.{Known, open_line, go_step, reach, first_ways, start_way, jumps, goes_on, next_way, jump_way, block_way, ways_on, known_of}
 use Rattle.st_code.specs.Comes.{IsOneOf}
-use Rattle.st_code.specs.Faults.{lowest, lowest_fault, jump_faults, jump_fault, same, agrees, meetings, scopes_fit, scope_faults, operand_faults, no_pushes, operand_fault, stack_fits, stack_faults_by, stack_faults, stack_fault, unless_at, line_fault, fault_of}
+use Rattle.st_code.specs.Faults.{lowest, lowest_fault, jump_faults, jump_fault, same, agrees, meetings, scopes_fit, scope_faults, operand_faults, no_pushes, operand_fault, stack_fits, stack_faults_by, stack_faults, stack_fault, line_fault, fault_of}
 use Rattle.st_code.specs.Content.{IsMark, start_held, Leads, Content}
 use Rattle.st_code.proofs.Agree.{IsKnown}
 
@@ -41,7 +40,7 @@ set_length [] at x = refl
 set_length (first ∷ rest) zero x = refl
 set_length (first ∷ rest) (suc at) x = ap (λ (n : ℕ). suc n) (set_length rest at x)
 
-get_of_set : {A : Type 0} (xs : List A) (at : ℕ) (x : A) (other : ℕ) (y : A)
+pub get_of_set : {A : Type 0} (xs : List A) (at : ℕ) (x : A) (other : ℕ) (y : A)
     → slice_get (slice_set xs at x) other ≡ Some y
     → ((at ≡ other) × (x ≡ y)) ⊎ (slice_get xs other ≡ Some y)
 get_of_set [] at x other y is = inr is
@@ -63,7 +62,7 @@ if_true : {A : Type 0} (test : Bool) (one two : A) → test ≡ true → (if tes
 if_true true one two is = refl
 if_true false one two is = absurd (false≢true is)
 
-one_of_either : (xs ys : List Way) (way : Way) → IsOneOf (xs ++ ys) way → IsOneOf xs way ⊎ IsOneOf ys way
+pub one_of_either : (xs ys : List Way) (way : Way) → IsOneOf (xs ++ ys) way → IsOneOf xs way ⊎ IsOneOf ys way
 one_of_either [] ys way is = inr is
 one_of_either (x ∷ xs) ys way (inl is) = inl (inl is)
 one_of_either (x ∷ xs) ys way (inr is) = further (one_of_either xs ys way is)
@@ -215,7 +214,7 @@ AreMarked marks ways = (way : Way) → IsOneOf ways way → IsMark marks way.to 
 abbrev IsMarked : List Held → Known → Type 0
 IsMarked marks known = (at : ℕ) (held : Held) → IsKnown at held known → IsMark marks at held
 
-open_there : (block : ℕ) (line : Option (Option Line)) (known : Option (Option Held)) (found : Line)
+pub open_there : (block : ℕ) (line : Option (Option Line)) (known : Option (Option Held)) (found : Line)
     → open_line block line known ≡ Some found → (line ≡ Some (Some found)) × (known ≡ Some None)
 open_there block (Some (Some line)) (Some None) found is = (by (line.block == block) is, refl)
   where
@@ -304,7 +303,7 @@ left_replicate : (count : ℕ) → left (replicate count None) ≡ count
 left_replicate zero = refl
 left_replicate (suc count) = ap (λ (n : ℕ). suc n) (left_replicate count)
 
-nothing_known : (count at : ℕ) (held : Held) → IsKnown at held (replicate count None) → ⊥
+pub nothing_known : (count at : ℕ) (held : Held) → IsKnown at held (replicate count None) → ⊥
 nothing_known zero at held is = absurd (cc)
 nothing_known (suc count) zero held is = absurd (cc)
 nothing_known (suc count) (suc at) held is = nothing_known count at held is
@@ -333,7 +332,7 @@ set_there (first ∷ rest) (suc at) held within = set_there rest at held (omega 
 
 module _ (lines : Lines) (blocks : List BlockCode) where
   -- a step from a known place leads to a known one, or is to be gone yet
-  abbrev Owes : List Way → Known → Type 0
+  abbrev pub Owes : List Way → Known → Type 0
   Owes ways known = (at : ℕ) (held : Held) (line : Line) (way : Way) → IsKnown at held known
       → slice_get lines at ≡ Some (Some line) → IsOneOf (ways_on blocks line held) way
       → is_of way.block (slice_get lines way.to) ≡ true → IsReached known way.to ⊎ IsOneOf ways way
@@ -433,7 +432,7 @@ few_first : (blocks : List BlockCode) → length (first_ways blocks) ≤ 1
 few_first [] = omega arith
 few_first (first ∷ later) = omega arith
 
-known_closed : (lines : Lines) (blocks : List BlockCode) → Owes lines blocks [] (known_of lines blocks)
+pub known_closed : (lines : Lines) (blocks : List BlockCode) → Owes lines blocks [] (known_of lines blocks)
 unfolding known_of
 known_closed lines blocks =
     let none : Known = replicate (length lines) None in

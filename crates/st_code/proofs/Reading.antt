@@ -1,11 +1,9 @@
 -- What is read, and what is left to read.
-use Rattle.std.proofs.Common.{◌≡◌, ℕ, zero, suc, ◌+◌, ◌-◌, ◌<◌, ◌≤◌, nat_lt, Bool, true, false, ◌&&◌, List, [], ◌∷◌, ◌++◌, length, take, drop, Option, None, Some, Result, Ok, Err, refl, sym, ap, subst, ◌∙◌, arith, append_assoc}
+use Rattle.std.proofs.Common.{◌≡◌, ℕ, zero, suc, ◌+◌, ◌<◌, ◌≤◌, nat_lt, Bool, true, false, ◌&&◌, List, [], ◌∷◌, length, None, Err, refl, ap, arith}
 use Rattle.std.proofs.lemmas.Bool.{false≢true}
 use Rattle.std.proofs.lemmas.Bool.Decides.{nat_tests}
-use Rattle.std.proofs.lemmas.List.{append-nil}
 use Rattle.st_code.specs.declared.blocks.BlockCode.{BlockCode}
-use Rattle.st_code.specs.declared.line.Line.{Line}
-use Rattle.st_code.specs.Lines.{Lines, end_of, ascend, starts_at, are_blocks, line_at, with_first, after_line, lines_from, joined}
+use Rattle.st_code.specs.Lines.{end_of, ascend, starts_at, are_blocks, line_at, after_line, lines_from}
 
 -- no instruction begins here
 pub none_begins : (block at skip : ℕ) (bytes : List ℕ) → 0 < length bytes → skip ≡ 0 → line_at block at bytes ≡ None

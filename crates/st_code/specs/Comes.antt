@@ -1,5 +1,5 @@
 -- Ways: to which places one comes, and with what.
-use Rattle.std.specs.Prelude.{◌≡◌, ◌⊎◌, ℕ, Bool, true, List, [], ◌∷◌, slice_get, Option, Some}
+use Rattle.std.specs.Prelude.{◌≡◌, ◌⊎◌, ℕ, true, List, [], ◌∷◌, slice_get, Some}
 use Rattle.st_code.specs.declared.blocks.BlockCode.{BlockCode}
 use Rattle.st_code.specs.declared.line.Line.{Line}
 use Rattle.st_code.specs.declared.ways.Way.{Way}

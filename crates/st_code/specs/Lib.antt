@@ -6,3 +6,4 @@ pub mod Ways
 pub mod Comes
 pub mod Faults
 pub mod Content
+pub mod Breaks

@@ -1,5 +1,5 @@
 -- What operands may be: literals and blocks.
-use Rattle.std.specs.Prelude.{ℕ, suc, ◌+◌, ◌==◌, nat_lt, Bool, true, false, not, ◌&&◌, ◌||◌, if◌then◌else◌, List, [], ◌∷◌, slice_get, slice_set, Option, None, Some}
+use Rattle.std.specs.Prelude.{ℕ, ◌+◌, ◌==◌, nat_lt, Bool, true, false, not, ◌&&◌, ◌||◌, if◌then◌else◌, List, [], ◌∷◌, slice_get, slice_set, Option, None, Some}
 use Rattle.op_table.specs.declared.ops.Op.{Op}
 use Rattle.op_table.specs.declared.ops.Op.TheVariants.{PushLit, MakeLit, PushName, StoreName, Send, SuperSend, PushBlock}
 use Rattle.st_tree.specs.declared.nodes.Literal.{Literal}

@@ -1,5 +1,5 @@
 -- Ways through code: where an instruction leads, and what a way brings there.
-use Rattle.std.specs.Prelude.{ℕ, zero, suc, ◌+◌, ◌-◌, ◌==◌, Bool, true, false, not, ◌&&◌, if◌then◌else◌, List, [], ◌∷◌, ◌++◌, length, drop, replicate, slice_get, slice_set, Option, None, Some, option_map, option_to_list}
+use Rattle.std.specs.Prelude.{ℕ, zero, suc, ◌+◌, ◌-◌, ◌==◌, Bool, true, false, not, if◌then◌else◌, List, [], ◌∷◌, ◌++◌, length, drop, replicate, slice_get, slice_set, Option, None, Some, option_map, option_to_list}
 use Rattle.op_table.specs.declared.ops.Op.{Op}
 use Rattle.op_table.specs.declared.ops.Op.TheVariants.{Send, SuperSend, ReturnMethod, ReturnHome, ReturnBlock, Jump, JumpTrue, JumpFalse, Enter, Leave, LoopNext, LoopStep}
 use Rattle.st_code.specs.declared.blocks.BlockCode.{BlockCode}

@@ -7,7 +7,9 @@ ghost use Rattle.st_code.specs.Lines.{Lines, lines_of, are_blocks};
 ghost use Rattle.st_code.specs.Comes.{Comes};
 ghost use Rattle.st_code.specs.Content.{Content};
 ghost use Rattle.st_code.specs.Faults.{scopes_fit, stack_fits, fault_of};
+ghost use Rattle.st_code.specs.Breaks.{Breaks};
 ghost use Rattle.st_code.specs.declared.blocks.BlockCode.{BlockCode};
+ghost use Rattle.st_code.specs.declared.fault.CodeFault.{CodeFault};
 ghost use Rattle.st_code.specs.declared.line.Line.{Line};
 
 /// In checked code all ways to a place bring the same there.
@@ -36,4 +38,13 @@ pub fn marked_code_passes()
         (lines : Lines) (marks : List Held)
         → are_blocks (length bytes) blocks ≡ true → lines_of bytes 0 blocks ≡ Ok lines
         → Content literals blocks lines marks → fault_of bytes literals blocks ≡ None }
+{}
+
+/// Code whose blocks are right is refused only where it breaks a rule. Variables, scopes and heights
+/// are judged by ways that come there, and by nothing else.
+pub fn faults_are_breaks()
+    ensures { (bytes : List ℕ) (literals : List Literal) (blocks : List BlockCode)
+        (fault : CodeFault) → are_blocks (length bytes) blocks ≡ true
+        → fault_of bytes literals blocks ≡ Some fault
+        → Breaks literals blocks (lines_of bytes 0 blocks) fault }
 {}

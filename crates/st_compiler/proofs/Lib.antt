@@ -9,3 +9,4 @@ pub mod Blocks
 pub mod OneAnswer
 pub mod Heights
 pub mod Emits
+pub mod InOrder

@@ -4,3 +4,4 @@ pub mod TreeCode
 pub mod Machine
 pub mod Runs
 pub mod Emitted
+pub mod MadeBlocks

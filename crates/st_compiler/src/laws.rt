@@ -1,6 +1,6 @@
 //! What follows from the definitions alone. Each law is the contract of a function that does
 //! nothing.
-ghost use Rattle.std.specs.Prelude.{◌≡◌, ℕ, List, length, All, Some};
+ghost use Rattle.std.specs.Prelude.{◌≡◌, ℕ, List, length, map, All, Some};
 ghost use Rattle.st_tree.specs.Trees.{Program};
 ghost use Rattle.gem_object.specs.declared.value.Value.{Value};
 ghost use Rattle.gem_world.specs.World.{Setting};
@@ -11,6 +11,7 @@ ghost use Rattle.tree_meaning.specs.Bodies.{method_body, chunk_body, block_body}
 ghost use Rattle.st_compiler.specs.Instruction.{Instruction, op_of, operands_of};
 ghost use Rattle.st_compiler.specs.Code.{Piece};
 ghost use Rattle.st_compiler.specs.TreeCode.{method_code, chunk_code};
+ghost use Rattle.st_compiler.specs.MadeBlocks.{statements_blocks};
 ghost use Rattle.st_compiler.specs.Machine.{Next, act, execute};
 ghost use Rattle.st_compiler.specs.Runs.{SameAfter, Runs, IsBlockCode, Agree, EveryRun};
 ghost use Rattle.gem_language.specs.Sends.{outside};
@@ -77,4 +78,13 @@ pub fn every_run_means_tree()
     ensures chunk_blocks { (depth : ℕ) (setting : Setting) (tree : Program)
         → All (λ piece. EveryRun (outside depth) setting (chunk_code tree 0).pieces piece.code
         (block_body (outside depth) piece.tree piece.place)) (chunk_code tree 0).pieces }
+{}
+
+/// Blocks are numbered in the order of the text, each before those in it. Those that a special form
+/// goes into aren't made, and have no number.
+pub fn blocks_are_in_order()
+    ensures method { (tree : Program)
+        → map (λ piece. piece.tree) (method_code tree 0).pieces ≡ statements_blocks tree.body }
+    ensures chunk { (tree : Program)
+        → map (λ piece. piece.tree) (chunk_code tree 0).pieces ≡ statements_blocks tree.body }
 {}

@@ -66,7 +66,7 @@ value_old (value.Block block) = refl
 
 -- ---- lists
 
-get_lt : {A : Type 0} (xs : List A) (at : ℕ) (x : A) → slice_get xs at ≡ Some x → at < length xs
+pub get_lt : {A : Type 0} (xs : List A) (at : ℕ) (x : A) → slice_get xs at ≡ Some x → at < length xs
 get_lt [] at x is = absurd (cc)
 get_lt (first ∷ rest) zero x is = omega arith
 get_lt (first ∷ rest) (suc at) x is = omega (arith, get_lt rest at x is)
@@ -320,7 +320,7 @@ module _ (table : List Piece) (all : List Row) (literals : List Literal) (block 
         (symbol_is (value_literal answer) lits.0 (λ found. literal_fits (row_for (op_of (PushLit answer))).op found)
         (value_old answer))
         refl (omega arith) refl refl refl
-        (go (suc own.height) (own.height - 0 + 1) own.scopes (omega arith) does)
+        (go (suc own.height) (own.height - 0 + 1) own.scopes (omega arith) does.1)
     good (MakeLit tree) here lits does =
         plain number at at_literal (MakeLit tree) own here place
         (symbol_is (constant_literal tree) lits.0 (λ found. literal_fits (row_for (op_of (MakeLit tree))).op found) does.0)
@@ -395,7 +395,7 @@ module _ (table : List Piece) (all : List Row) (literals : List Literal) (block 
     good (JumpBack behind) here lits does =
         only_jumps number at at_literal (JumpBack behind) own here place (number - behind) refl refl refl (omega arith) refl
         refl refl
-        (land (number - behind) own.height (own.height - 0 + 0) own.scopes (omega arith) does)
+        (land (number - behind) own.height (own.height - 0 + 0) own.scopes (omega arith) does.1)
     good (JumpTrue ahead) here lits does =
         may_jump number at at_literal (JumpTrue ahead) own here place (suc number + ahead) refl refl refl
         (omega (arith, does.1)) refl refl
@@ -425,9 +425,9 @@ module _ (table : List Piece) (all : List Row) (literals : List Literal) (block 
         (land (suc number + ahead) does.0 (own.height - 2 + 0) own.scopes (omega (arith, does.1)) does.3)
     good (LoopStep behind) here lits does =
         may_jump number at at_literal (LoopStep behind) own here place (number - behind) refl refl refl
-        (omega (arith, does.1)) refl refl
-        (go does.0 (own.height - 2 + 0) own.scopes (omega (arith, does.1)) does.2)
-        (land (number - behind) (suc (suc does.0)) (own.height - 2 + 2) own.scopes (omega (arith, does.1)) does.3)
+        (omega (arith, does.2)) refl refl
+        (go does.1 (own.height - 2 + 0) own.scopes (omega (arith, does.2)) does.3)
+        (land (number - behind) (suc (suc does.1)) (own.height - 2 + 2) own.scopes (omega (arith, does.2)) does.4)
 
   -- all instructions of the block
   abbrev pub GoodRow : ℕ → Row → Type 0

@@ -7,5 +7,6 @@ pub mod Reading
 pub mod Pushed
 pub mod Good
 pub mod Solid
+pub mod ReadBack
 pub mod Texts
 pub mod Writes

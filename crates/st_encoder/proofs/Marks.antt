@@ -5,7 +5,8 @@ use Rattle.tree_meaning.specs.Bodies.{params_count, temps_count}
 use Rattle.st_code.specs.Held.{Held}
 use Rattle.st_code.specs.Faults.{is_variable}
 use Rattle.st_code.specs.Operands.{is_new}
-use Rattle.st_encoder.specs.Bytes.{constant_literal}
+use Rattle.st_encoder.specs.Bytes.{constant_literal, value_literal}
+use Rattle.st_encoder.specs.Decoded.{value_in}
 use Rattle.st_compiler.specs.Instruction.{Instruction, PushSelf, PushNil, PushTrue, PushFalse, PushLit, MakeLit, PushLocal, StoreLocal, PushName, StoreName, Pop, Dup, Send, SuperSend, PushBlock, ReturnMethod, ReturnHome, ReturnBlock, Jump, JumpBack, JumpTrue, JumpFalse, TakeUnit, Enter, Leave, LoopStart, LoopNext, LoopStep}
 use Rattle.st_compiler.specs.Code.{Piece, jump_unless}
 use Rattle.st_compiler.proofs.Steps.{HasAt, first_has, then_has}
@@ -34,7 +35,9 @@ module _ (table : List Piece) where
   Does marks number PushNil m = slice_get marks (suc number) ≡ Some (mark (suc m.height) m.scopes m.around)
   Does marks number PushTrue m = slice_get marks (suc number) ≡ Some (mark (suc m.height) m.scopes m.around)
   Does marks number PushFalse m = slice_get marks (suc number) ≡ Some (mark (suc m.height) m.scopes m.around)
-  Does marks number (PushLit answer) m = slice_get marks (suc number) ≡ Some (mark (suc m.height) m.scopes m.around)
+  Does marks number (PushLit answer) m =
+      (value_in (value_literal answer) ≡ Some answer)
+      × (slice_get marks (suc number) ≡ Some (mark (suc m.height) m.scopes m.around))
   Does marks number (MakeLit tree) m =
       (is_new (constant_literal tree) ≡ true)
       × (slice_get marks (suc number) ≡ Some (mark (suc m.height) m.scopes m.around))
@@ -68,7 +71,8 @@ module _ (table : List Piece) where
   Does marks number ReturnHome m = m.height ≡ 1
   Does marks number ReturnBlock m = m.height ≡ 1
   Does marks number (Jump ahead) m = slice_get marks (suc number + ahead) ≡ Some (mark m.height m.scopes m.around)
-  Does marks number (JumpBack behind) m = slice_get marks (number - behind) ≡ Some (mark m.height m.scopes m.around)
+  Does marks number (JumpBack behind) m =
+      (behind ≤ number) × (slice_get marks (number - behind) ≡ Some (mark m.height m.scopes m.around))
   Does marks number (JumpTrue ahead) m =
       (under : ℕ) × (m.height ≡ suc under)
       × (slice_get marks (suc number) ≡ Some (mark under m.scopes m.around))
@@ -91,7 +95,7 @@ module _ (table : List Piece) where
       × (slice_get marks (suc number) ≡ Some (mark (suc (suc (suc under))) m.scopes m.around))
       × (slice_get marks (suc number + ahead) ≡ Some (mark under m.scopes m.around))
   Does marks number (LoopStep behind) m =
-      (under : ℕ) × (m.height ≡ suc (suc under))
+      (behind ≤ number) × (under : ℕ) × (m.height ≡ suc (suc under))
       × (slice_get marks (suc number) ≡ Some (mark under m.scopes m.around))
       × (slice_get marks (number - behind) ≡ Some (mark (suc (suc under)) m.scopes m.around))
 
@@ -269,7 +273,10 @@ module _ (table : List Piece) where
         record {
           own = less;
           here = ends.1.0;
-          does = at_same all number (suc there - (length one + length two + 3)) less (omega arith) earlier.0;
+          does = (
+            omega arith,
+            at_same all number (suc there - (length one + length two + 3)) less (omega arith) earlier.0,
+          );
         } in
         let nil : Fits all (suc (suc there)) PushNil = record { own = less; here = ends.1.1.0; does = last } in (
           earlier.0,
@@ -338,6 +345,7 @@ module _ (table : List Piece) where
           own = two;
           here = ends.1.0;
           does = (
+            omega arith,
             under,
             refl,
             last,

@@ -298,22 +298,22 @@ all_length start literal (body ∷ later) =
 
 -- ---- all blocks
 
-part_between : (front own back : List ℕ) (start end : ℕ) → length front ≡ start → end ≡ start + length own
-    → slice_range (front ++ (own ++ back)) start end ≡ own
-part_between front own back start end from to =
+drop_front : {A : Type 0} (before after : List A) → drop (length before) (before ++ after) ≡ after
+drop_front [] after = refl
+drop_front (first ∷ before) after = drop_front before after
+
+take_front : {A : Type 0} (before after : List A) → take (length before) (before ++ after) ≡ before
+take_front [] after = refl
+take_front {A = A} (first ∷ before) after = ap (λ (all : List A). first ∷ all) (take_front before after)
+
+pub part_between : {A : Type 0} (front own back : List A) (start end : ℕ) → length front ≡ start
+    → end ≡ start + length own → slice_range (front ++ (own ++ back)) start end ≡ own
+part_between {A = A} front own back start end from to =
     let count : end - start ≡ length own = omega (arith, to) in
     let dropped : drop start (front ++ (own ++ back)) ≡ own ++ back =
     ap (λ (n : ℕ). drop n (front ++ (own ++ back))) (sym from) ∙ drop_front front (own ++ back) in
     ap (λ (n : ℕ). take n (drop start (front ++ (own ++ back)))) count
-    ∙ ap (λ (bytes : List ℕ). take (length own) bytes) dropped ∙ take_front own back
-  where
-    drop_front : (before after : List ℕ) → drop (length before) (before ++ after) ≡ after
-    drop_front [] after = refl
-    drop_front (first ∷ before) after = drop_front before after
-
-    take_front : (before after : List ℕ) → take (length before) (before ++ after) ≡ before
-    take_front [] after = refl
-    take_front (first ∷ before) after = ap (λ (bytes : List ℕ). first ∷ bytes) (take_front before after)
+    ∙ ap (λ (all : List A). take (length own) all) dropped ∙ take_front own back
 
 -- A block with what every way brings to each of its instructions, and the scopes around it.
 pub record Block : Type 0 where

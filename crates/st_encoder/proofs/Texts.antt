@@ -1,4 +1,4 @@
--- The bytes of a text's code pass the check.
+-- The bytes of a text's code pass the check, and are read as its code.
 use Rattle.std.proofs.Common.{◌≡◌, ◌∙◌, refl, ap, subst, ℕ, zero, suc, ◌+◌, ◌<◌, ◌^◌, nat_lt, true, List, [], ◌∷◌, ◌++◌, length, length-append, append_assoc, map, slice_get, Option, Some, None, arith}
 use Rattle.std.proofs.lemmas.Bool.{and_parts}
 use Rattle.std.proofs.lemmas.Bool.Decides.{nat_tests}
@@ -13,9 +13,10 @@ use Rattle.st_code.proofs.Passes.{passes}
 use Rattle.st_compiler.specs.Instruction.{Instruction, Pop, PushSelf, ReturnMethod}
 use Rattle.st_compiler.specs.Code.{Piece, Part, Gen, only, seq}
 use Rattle.st_compiler.specs.TreeCode.{statements_in_turn_code, statement_codes, method_code, chunk_code}
-use Rattle.st_compiler.specs.Emitted.{Body, tree_body, piece_body, text_code_by}
+use Rattle.st_compiler.specs.Emitted.{Body, tree_body, piece_body, text_code_by, text_code}
 use Rattle.st_compiler.proofs.Steps.{first_has}
 use Rattle.st_encoder.specs.Bytes.{code_size, bytes_of, all_literals, blocks_of, total_size, bodies_fit, are_small, text_bytes, text_literals, text_blocks, text_fits}
+use Rattle.st_encoder.specs.Decoded.{decoded, block_body, text_and_blocks}
 use Rattle.st_encoder.proofs.Marks.{sizes, mark, Lies, one_lies, after_one, then_lies, Whole, ends_whole}
 use Rattle.st_encoder.proofs.Pushes.{pushes, piece_pushes, within}
 use Rattle.st_encoder.proofs.Sits.{AllStand, only_sits, seq_sits}
@@ -23,6 +24,7 @@ use Rattle.st_encoder.proofs.TreeSits.{text_sits}
 use Rattle.st_encoder.proofs.Rows.{lines_in, marks_in}
 use Rattle.st_encoder.proofs.Reading.{Block, bodies_in, all_rows, end_is, all_length, reads_all}
 use Rattle.st_encoder.proofs.Solid.{Solid, AllSolid, body_pushes, has_self, text_content}
+use Rattle.st_encoder.proofs.ReadBack.{reads_back}
 
 -- ---- the code of a text
 
@@ -115,6 +117,12 @@ module _ (table : List Piece) where
   stand_bodies number (piece ∷ rest) stand =
       ap (λ (one : Body). one ∷ bodies_in (stand_blocks (suc number) rest stand.1)) (body_same piece.tree piece.code)
       ∙ ap (λ (others : List Body). piece_body piece ∷ others) (stand_bodies (suc number) rest stand.1)
+
+  stand_read : (number : ℕ) (pieces : List Piece) (stand : AllStand table number pieces)
+      → bodies_in (stand_blocks number pieces stand) ≡ map block_body pieces
+  stand_read number [] stand = refl
+  stand_read number (piece ∷ rest) stand =
+      ap (λ (others : List Body). block_body piece ∷ others) (stand_read (suc number) rest stand.1)
 
   stand_solid : (number : ℕ) (pieces : List Piece) (stand : AllStand table number pieces)
       → AllSolid table (suc number) (stand_blocks number pieces stand)
@@ -237,8 +245,42 @@ module _ (tree : Program) (part : Part) (stands : TextStands part tree) where
       subst (λ (all : List Body). are_small all ≡ true
       → fault_of (bytes_of 0 0 all) (all_literals all) (blocks_of 0 all) ≡ None) bodies_same block_passes small
 
+  block_reads : are_small (bodies_in (text_block ∷ pieces)) ≡ true
+      → decoded (bytes_of 0 0 (bodies_in (text_block ∷ pieces))) (all_literals (bodies_in (text_block ∷ pieces)))
+      (blocks_of 0 (bodies_in (text_block ∷ pieces)))
+      ≡ Some (bodies_in (text_block ∷ pieces))
+  block_reads small =
+      let own = bodies_in (text_block ∷ pieces) in
+      reads_back part.pieces (text_block ∷ pieces) solid
+      (and_parts (nat_lt (total_size own) (2 ^ 32)) (bodies_fit 0 0 own) small).1
+
+  part_reads : are_small bodies ≡ true
+      → decoded (bytes_of 0 0 bodies) (all_literals bodies) (blocks_of 0 bodies) ≡ Some (text_and_blocks tree part)
+  part_reads small =
+      subst (λ (all : List Body). are_small all ≡ true
+      → decoded (bytes_of 0 0 all) (all_literals all) (blocks_of 0 all) ≡ Some (bodies_in (text_block ∷ pieces)))
+      bodies_same block_reads small
+      ∙ ap (λ (others : List Body). Some (text_block.body ∷ others))
+      (stand_read part.pieces 0 part.pieces stands.stand)
+
 pub text_passes : (tree : Program) → text_fits tree ≡ true
     → fault_of (text_bytes tree) (text_literals tree) (text_blocks tree) ≡ None
 unfolding text_fits text_bytes text_literals text_blocks
 text_passes tree small =
     part_passes tree (text_code_by tree.selector tree 0) (text_stands tree tree.selector) small
+
+text_reads : (tree : Program) → text_fits tree ≡ true
+    → decoded (text_bytes tree) (text_literals tree) (text_blocks tree) ≡ Some (text_and_blocks tree (text_code tree 0))
+unfolding text_fits text_bytes text_literals text_blocks
+text_reads tree small = part_reads tree (text_code_by tree.selector tree 0) (text_stands tree tree.selector) small
+
+pub method_reads : (tree : Program) (selector : Text) → tree.selector ≡ Some selector → text_fits tree ≡ true
+    → decoded (text_bytes tree) (text_literals tree) (text_blocks tree)
+    ≡ Some (text_and_blocks tree (method_code tree 0))
+method_reads tree selector is small =
+    text_reads tree small ∙ ap (λ (found : Option Text). Some (text_and_blocks tree (text_code_by found tree 0))) is
+
+pub chunk_reads : (tree : Program) → tree.selector ≡ None → text_fits tree ≡ true
+    → decoded (text_bytes tree) (text_literals tree) (text_blocks tree) ≡ Some (text_and_blocks tree (chunk_code tree 0))
+chunk_reads tree is small =
+    text_reads tree small ∙ ap (λ (found : Option Text). Some (text_and_blocks tree (text_code_by found tree 0))) is

@@ -262,7 +262,8 @@ module _ (table : List Piece) where
       (λ all number next. (refl, height, refl, next)))
       (after_one table (PushLit (Int (pos 1))) _ (inner (suc height)) (inner (suc (suc height)))
       (here (suc (suc (suc height))))
-      (one_lies table (PushLit (Int (pos 1))) (inner (suc height)) (inner (suc (suc height))) (λ all number next. next))
+      (one_lies table (PushLit (Int (pos 1))) (inner (suc height)) (inner (suc (suc height)))
+      (λ all number next. (refl, next)))
       (after_one table (PushLocal 0 0) _ (inner (suc (suc height))) (inner (suc (suc (suc height))))
       (here (suc (suc (suc height))))
       (one_lies table (PushLocal 0 0) (inner (suc (suc height))) (inner (suc (suc (suc height))))
@@ -399,13 +400,13 @@ module _ (table : List Piece) where
   literal_does : (tree : Constant) (all : List Held) (number : ℕ) (m : Held)
       → slice_get all (suc number) ≡ Some (mark (suc m.height) m.scopes m.around)
       → Does table all number (literal_op (plain_constant tree) tree) m
-  literal_does (int value) all number m next = next
-  literal_does (char code) all number m next = next
+  literal_does (int value) all number m next = (refl, next)
+  literal_does (char code) all number m next = (refl, next)
   literal_does (str bytes) all number m next = (refl, next)
-  literal_does (symbol bytes) all number m next = next
-  literal_does nothing all number m next = next
-  literal_does yes all number m next = next
-  literal_does no all number m next = next
+  literal_does (symbol bytes) all number m next = (refl, next)
+  literal_does nothing all number m next = (refl, next)
+  literal_does yes all number m next = (refl, next)
+  literal_does no all number m next = (refl, next)
   literal_does (array items) all number m next = (refl, next)
 
   literal_pushes : (found : Option Value) (tree : Constant) (number : ℕ) → pushes_by number (literal_op found tree) ≡ 0

@@ -1,5 +1,4 @@
 use Rattle.std.proofs.Common.{◌≡◌, Some, sym, ◌∙◌}
-use Rattle.st_code.specs.Held.{Held}
 use Rattle.st_code.proofs.Agree.{checked, known_is}
 use Rattle.st_code.proofs.laws.ways_agree.Goals as goal
 

@@ -1,7 +1,7 @@
 use Rattle.std.proofs.Common.{◌≡◌, true, List, length, subst, arith}
 use Rattle.st_code.specs.declared.blocks.BlockCode.{BlockCode}
 use Rattle.st_code.specs.Lines.{ascend}
-use Rattle.st_code.proofs.Reading.{ends_above, ends_within, are_from_zero}
+use Rattle.st_code.proofs.Reading.{ends_above, ends_within}
 use Rattle.st_code.proofs.line.read_lines.Goals as goal
 
 pub part_of-part-requires-clause-above : goal.part_of-part-requires-clause-above
