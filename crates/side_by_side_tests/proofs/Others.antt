@@ -1,0 +1,245 @@
+-- A port whose Stone others use, too.
+use Rattle.std.proofs.Common.{◌≡◌, ◌≢◌, ◌∙◌, refl, sym, ap, ap₂, subst, ℕ, ◌+◌, ◌-◌, ◌<◌, ◌≤◌, ◌==◌, ◌&&◌, Bool, true, false, true≢false, IsSome, is_some, IsTrue, ◌↔◌, List, [], ◌∷◌, ◌++◌, length, get_or, Some, Result, Ok, Err, IfOk, IfErr, append_assoc, arith}
+use Rattle.std.specs.FinMap.{get}
+use Rattle.std.specs.List.{fold}
+use Rattle.std.specs.List.{slice_get}
+use Rattle.std.proofs.lemmas.Option.{slice_get_read}
+use Rattle.std.proofs.lemmas.Bool.{eqb-true, eq-eqb, le-leb, and_parts}
+use Rattle.gem_image.specs.Image.{Image}
+use Rattle.gem_record.specs.declared.record.TxnRecord.{TxnRecord}
+use Rattle.lock_table.specs.Locks.{kind_held}
+use Rattle.lock_table.specs.declared.lock.LockKind.{LockKind}
+use Rattle.gem_meaning.specs.declared.event.What.TheVariants.{Placed, Held, Dropped, Left}
+use Rattle.shell_words.specs.Script.{SessionCommands}
+use Rattle.kernel_image.specs.Objects.{kernel_image}
+use Rattle.gem_meaning.specs.Opened.{Opened, base_serial, largest_serial}
+use Rattle.gem_meaning.specs.Events.{Event, Told, Standing, after_event, after_events, standing, events_of, OthersCame, told_more}
+use Rattle.gem_meaning.specs.Serial.{IsRecorded, HoldsSome, CanServe}
+use Rattle.gem_meaning.specs.Locks.{leaving}
+use Rattle.stone_core.specs.declared.port.Begun.{Begun}
+use Rattle.stone_core.specs.declared.port.CommitAnswer.{CommitAnswer}
+use Rattle.stone_core.specs.declared.port.LockAnswer.{LockAnswer}
+use Rattle.stone_core.specs.Port.{PortState, CommitSays, LockSays, UnlockSays, LogoutSays, GoesOn, AnswerFits, LockFits, BeginSays, event_of_answer, event_of_lock, dropping}
+use Rattle.stone_core.specs.Stone.{is_session}
+use Rattle.history_laws.proofs.Apart.{records_stay}
+use Rattle.history_laws.proofs.Locked.{still_there}
+use Rattle.history_laws.proofs.Views.{after_more}
+use Rattle.history_laws.proofs.Turns.{none_of}
+use Rattle.gem_session.specs.Running.{Arrives}
+use Rattle.gem_session.proofs.Others.{extends_by, extends_twice}
+use Rattle.gem_server.specs.Server.{kernel_opening}
+use Rattle.gem_server.proofs.Kernel.{kernel_serial}
+use Rattle.gem_server.proofs.Turns.{nothing_more}
+use Rattle.side_by_side_tests.specs.Overtaken.{is_overtaken, IsOvertaking}
+
+-- a Stone that nobody else uses, as a port
+abbrev pub alone : Told → PortState
+alone t = record { told = t; serves = is_session t.opened.script; alone = true }
+
+-- the session that is overtaken is one of the script
+pub is_of_script : (script : List SessionCommands) (session : ℕ) → is_overtaken script session ≡ true → is_session script session ≡ true
+is_of_script script session is = (and_parts (is_session script session) (session + 1 == length script) is).0
+
+-- the Stone as the port of the session that is overtaken
+abbrev pub shared : Told → PortState
+shared t = record { told = t; serves = is_overtaken t.opened.script; alone = false }
+
+not_the_same : (script : List SessionCommands) (session number : ℕ) → is_overtaken script session ≡ true → number + 1 < length script → session ≢ number
+not_the_same script session number last before same =
+    let is : session + 1 ≡ length script =
+    eqb-true (session + 1) (length script) (and_parts (is_session script session) (session + 1 == length script) last).1 in
+    omega (arith, is, before, same)
+
+-- what another session does over a Stone that is alone is of others
+pub another_came : (s t : Told) (session number : ℕ) → GoesOn number (alone s) (alone t) → number + 1 < length s.opened.script
+    → is_overtaken s.opened.script session ≡ true → OthersCame session s.events t.events
+another_came s t session number on before last =
+    let more = on.extends in
+    let unmoved = (on.alone refl).1 session (not_the_same s.opened.script session number last before) in
+    (more.0, nothing_more session s.events more.0 (sym (ap (events_of session) more.1) ∙ unmoved), more.1)
+
+-- a call of the Stone, after others
+pub goes_on_shared : (session : ℕ) (s t u : Told) → t.opened ≡ s.opened
+    → OthersCame session s.events t.events → GoesOn session (alone t) (alone u)
+    → GoesOn session (shared s) (shared u)
+goes_on_shared session s t u opened came on = record {
+  opened = on.opened ∙ opened;
+  extends = extends_twice s.events t.events u.events (extends_by session s.events t.events came) on.extends;
+  serves = λ other served. ap (λ (o : Opened). is_overtaken o.script other) (on.opened ∙ opened) ∙ served;
+  alone = λ is. absurd (true≢false (sym is));
+  consistent = on.consistent;
+}
+
+later_is : (s t : Told) (session : ℕ) → t.opened ≡ s.opened → (came : OthersCame session s.events t.events)
+    → t ≡ told_more s came.0
+later_is s t session opened came =
+    ap₂ (λ (o : Opened) (es : List Event). record { opened = o; events = es }) opened came.2
+
+-- the record of the session holds when others have come
+pub recorded_shared : (s t : Told) (r : TxnRecord) → t.opened ≡ s.opened
+    → OthersCame r.session s.events t.events → IsRecorded s r → IsRecorded t r
+recorded_shared s t r opened came recorded =
+    subst (λ (x : Told). IsRecorded x r) (sym (later_is s t r.session opened came)) (records_stay s came.0 r came.1 recorded)
+
+there_after : (o : Opened) (s : Standing) (more : List Event) (oid : ℕ) → IsSome (get s.image oid)
+    → IsSome (get (fold (after_event o) s more).image oid)
+there_after o s [] oid there = there
+there_after o s (event ∷ more) oid there = there_after o (after_event o s event) more oid (one event)
+  where
+    one : (e : Event) → IsSome (get (after_event o s e).image oid)
+    one (session, Placed e) = still_there o s e oid there
+    one (session, Held at kind) = there
+    one (session, Dropped at) = there
+    one (session, Left) = there
+
+-- an object is there when others have come
+pub there_shared : (s t : Told) (session oid : ℕ) → t.opened ≡ s.opened → OthersCame session s.events t.events
+    → IsSome (get (standing s).image oid) → IsSome (get (standing t).image oid)
+there_shared s t session oid opened came there =
+    subst (λ (x : Told). IsSome (get (standing x).image oid)) (sym (later_is s t session opened came))
+    (subst (λ (x : Standing). IsSome (get x.image oid)) (sym (after_more s.opened s.events came.0))
+    (there_after s.opened (standing s) came.0 oid there))
+
+-- ---- what the calls say, after others
+
+module _ (o : Opened) (before between after : List Event) (session : ℕ) (came : OthersCame session before between) where
+  none_came : (others : List Event) → events_of session others ≡ [] → events_of session (came.0 ++ others) ≡ []
+  none_came others none = none_of session came.0 others came.1 none
+
+  joined : (others : List Event) → between ++ others ≡ before ++ (came.0 ++ others)
+  joined others = ap (λ es. es ++ others) came.2 ∙ append_assoc before came.0 others
+
+  came_twice : OthersCame session between after → OthersCame session before after
+  came_twice more = (came.0 ++ more.0, none_came more.0 more.1, more.2 ∙ joined more.0)
+
+  begin_after : (image : Image) (number : ℕ) → BeginSays o session between after image number
+      → BeginSays o session before after image number
+  begin_after image number says = record {
+    others_came = came_twice says.others_came;
+    image_is = says.image_is;
+    number_is = says.number_is;
+    sound = says.sound;
+    serial_bound = says.serial_bound;
+    free = says.free;
+  }
+
+  lock_after : (oid : ℕ) (asked : LockKind) (answer : LockAnswer) → LockSays o between after session oid asked answer
+      → LockSays o before after session oid asked answer
+  lock_after oid asked answer says = record {
+    others = came.0 ++ says.others;
+    are_others = none_came says.others says.are_others;
+    events = says.events ∙ ap (λ es. es ++ event_of_lock session oid answer) (joined says.others);
+    fits = subst (λ es. LockFits (after_events o es) session oid asked answer) (joined says.others) says.fits;
+  }
+
+  unlock_after : (oid : ℕ) (held : Bool) → UnlockSays o between after session oid held → UnlockSays o before after session oid held
+  unlock_after oid held says = record {
+    others = came.0 ++ says.others;
+    are_others = none_came says.others says.are_others;
+    events = says.events ∙ ap (λ es. es ++ dropping held session oid) (joined says.others);
+    held_is = subst (λ es. held ≡ is_some (kind_held (after_events o es).locks session oid)) (joined says.others) says.held_is;
+  }
+
+  logout_after : LogoutSays o between after session → LogoutSays o before after session
+  logout_after says = record {
+    others = came.0 ++ says.others;
+    are_others = none_came says.others says.are_others;
+    holds = says.holds;
+    events = says.events ∙ ap (λ es. es ++ leaving says.holds session) (joined says.others);
+    exactly = subst (λ es. IsTrue says.holds ↔ HoldsSome (after_events o es) session) (joined says.others) says.exactly;
+  }
+
+commit_after : (o : Opened) (before between after : List Event) (r : TxnRecord) (answer : CommitAnswer)
+    → OthersCame r.session before between → CommitSays o between after r answer → CommitSays o before after r answer
+commit_after o before between after r answer came says =
+    let is = joined o before between after r.session came says.others in
+    record {
+      others = came.0 ++ says.others;
+      are_others = none_came o before between after r.session came says.others says.are_others;
+      events = says.events ∙ ap (λ es. es ++ event_of_answer r answer) is;
+      fits = subst (λ es. AnswerFits (after_events o es) r answer) is says.fits;
+    }
+
+module _ (s t u : Told) (opened : t.opened ≡ s.opened) where
+  pub commit_shared : (r : TxnRecord) (answer : CommitAnswer) → OthersCame r.session s.events t.events
+      → CommitSays t.opened t.events u.events r answer → CommitSays s.opened s.events u.events r answer
+  commit_shared r answer came says = commit_after s.opened s.events t.events u.events r answer came
+      (subst (λ o. CommitSays o t.events u.events r answer) opened says)
+
+  module _ (session : ℕ) (came : OthersCame session s.events t.events) where
+    pub begin_shared : (image : Image) (number : ℕ) → BeginSays t.opened session t.events u.events image number
+        → BeginSays s.opened session s.events u.events image number
+    begin_shared image number says = begin_after s.opened s.events t.events u.events session came image number
+        (subst (λ o. BeginSays o session t.events u.events image number) opened says)
+
+    pub still_others : OthersCame session t.events u.events → OthersCame session s.events u.events
+    still_others = came_twice s.opened s.events t.events u.events session came
+
+    pub lock_shared : (oid : ℕ) (asked : LockKind) (answer : LockAnswer) → LockSays t.opened t.events u.events session oid asked answer
+        → LockSays s.opened s.events u.events session oid asked answer
+    lock_shared oid asked answer says = lock_after s.opened s.events t.events u.events session came oid asked answer
+        (subst (λ o. LockSays o t.events u.events session oid asked answer) opened says)
+
+    pub unlock_shared : (oid : ℕ) (held : Bool) → UnlockSays t.opened t.events u.events session oid held
+        → UnlockSays s.opened s.events u.events session oid held
+    unlock_shared oid held says = unlock_after s.opened s.events t.events u.events session came oid held
+        (subst (λ o. UnlockSays o t.events u.events session oid held) opened says)
+
+    pub logout_shared : LogoutSays t.opened t.events u.events session → LogoutSays s.opened s.events u.events session
+    logout_shared says = logout_after s.opened s.events t.events u.events session came
+        (subst (λ o. LogoutSays o t.events u.events session) opened says)
+
+-- ---- the Stone over the kernel's image
+
+pub kernel_base : (script : List SessionCommands) → base_serial (kernel_opening script) ≡ 1
+unfolding base_serial
+kernel_base script = let none : largest_serial kernel_image ≤ 0 = kernel_serial in omega (arith, none)
+
+-- ---- the session that is overtaken, and those before it
+
+pub begins_overtaken : (t : Told) (script : List SessionCommands) (first : ℕ) → t.opened.script ≡ script → CanServe t.opened
+    → base_serial t.opened ≡ 1 → first + 2 ≤ length script
+    → ((session : ℕ) → first < session → events_of session t.events ≡ []) → IsOvertaking t script (first + 1)
+begins_overtaken t script first is serves base count fresh = record {
+  script_is = is;
+  opening = serves;
+  base = base;
+  first = omega arith;
+  last = omega (arith, count);
+  fresh = λ session later other. fresh session (omega (arith, later));
+}
+
+is_served : (script : List SessionCommands) (session : ℕ) → 1 ≤ session → session ≤ length script
+    → is_session script session ≡ true
+is_served script session first last =
+    ap₂ (λ a b. a && b) (le-leb 1 session first) (le-leb session (length script) last)
+
+pub arrives_overtaken : (t : Told) (scripts : List SessionCommands) (session : ℕ) (script : SessionCommands)
+    → t.opened.script ≡ scripts → CanServe t.opened → base_serial t.opened ≡ 1 → session + 1 ≡ length scripts → 1 ≤ session
+    → events_of session t.events ≡ [] → script ≡ get_or scripts (session - 1) script → Arrives (shared t) session session script
+arrives_overtaken t scripts session script same serves base last some fresh is =
+    let size : length scripts ≡ length t.opened.script = ap length (sym same) in
+    record {
+      serves = ap₂ (λ a b. a && b) (is_served t.opened.script session some (omega (arith, last, size)))
+          (eq-eqb (session + 1) (length t.opened.script) (last ∙ size));
+      opened = serves;
+      fresh = fresh;
+      range = (some, omega (arith, last, size));
+      serial_is = omega (arith, base, some);
+      of_script = subst (λ (all : List SessionCommands). slice_get all (session - 1) ≡ Some script) (sym same)
+          (slice_get_read scripts (length scripts) (session - 1) script refl (omega (arith, last, some)) is);
+    }
+
+-- what a call that begins a transaction says, after others
+pub begun_shared : {E : Type 0} (s t u : Told) (session : ℕ) → t.opened ≡ s.opened → OthersCame session s.events t.events
+    → (result : Result Begun E)
+    → IfOk result (λ begun. BeginSays t.opened session t.events u.events begun.image begun.number)
+    → IfOk result (λ begun. BeginSays s.opened session s.events u.events begun.image begun.number)
+begun_shared s t u session opened came (Ok begun) says = begin_shared s t u opened session came begun.image begun.number says
+begun_shared s t u session opened came (Err ended) says = says
+
+pub starved_shared : {E : Type 0} (s t u : Told) (session : ℕ) → t.opened ≡ s.opened → OthersCame session s.events t.events
+    → (result : Result Begun E) → IfErr result (λ ended. OthersCame session t.events u.events)
+    → IfErr result (λ ended. OthersCame session s.events u.events)
+starved_shared s t u session opened came (Ok begun) others = others
+starved_shared s t u session opened came (Err ended) others = still_others s t u opened session came others
