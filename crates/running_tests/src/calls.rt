@@ -1,7 +1,7 @@
 // What the calls of single parts answer, and commands as values, on the image of the kernel.
 ghost use Rattle.std.specs.Prelude.{◌≡◌, ◌<◌};
 
-use crate::replies::{note, told};
+use chunk_tables::{note, told};
 use gem_object::{BlockRef, Value};
 use kernel_state::begin;
 use object_programs::Fault;

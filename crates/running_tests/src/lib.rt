@@ -7,7 +7,3 @@
 mod calls;
 #[cfg(test)]
 mod replies;
-#[cfg(test)]
-mod rows;
-#[cfg(test)]
-mod scripts;

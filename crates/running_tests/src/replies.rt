@@ -1,15 +1,15 @@
 // What commands are replied to, on the image of the kernel.
 ghost use Rattle.std.specs.Prelude.{◌≡◌, ◌<◌, ◌≤◌, ◌^◌};
 
-use crate::rows::{
-    ANY, BLOCKS, CLASSES, DICTIONARIES, FORMS, LIMITS, NUMBERS, RIGHTS, SEQUENCES, SHARED, STRINGS,
+use chunk_tables::{
+    ANY, BLOCKS, CLASSES, DICTIONARIES, FORMS, LIMITS, NAMES_LEFT, NUMBERS, RIGHTS, SCRIPTS,
+    SEQUENCES, SHARED, STRINGS, note, told,
 };
-use crate::scripts::{NAMES_LEFT, SCRIPTS};
 use kernel_state::{Begins, begin};
 use plain_state::PlainState;
 use radix_pages::Steps;
 use session_view::View;
-use st_plain::{Reply, install_source, run_text};
+use st_plain::{install_source, run_text};
 use std::alloc::{AllocError, Global};
 use std::marker::Brand;
 use std::sync::ledger::{Blank, Ledger};
@@ -20,29 +20,6 @@ use texts::Text;
 
 /// The bytes of stack of a thread that runs chunks: 2,000 activations fill 14 to 34 MiB.
 const STACK: usize = 256 << 20;
-
-/// The reply in the words of a report.
-pub(crate) fn told(alloc: Global, reply: &Reply) -> Result<Vec<u8>, AllocError> {
-    match reply {
-        Reply::NotRead { at, rule } => {
-            Ok(format!(in alloc; "parse P{} at {}", *rule, *at)?.into_bytes())
-        }
-        Reply::Failed(fault) => {
-            Ok(format!(in alloc; "error E{} {fault}", fault.number())?.into_bytes())
-        }
-        Reply::Ran => behind(alloc, b"ok", b""),
-        Reply::Printed(text) => behind(alloc, b"", text.bytes()),
-        Reply::Installed(selector) => behind(alloc, b"method ", selector.bytes()),
-    }
-}
-
-/// A text and another behind it.
-fn behind(alloc: Global, front: &[u8], text: &[u8]) -> Result<Vec<u8>, AllocError> {
-    let mut both = Vec::new(alloc);
-    both.extend_from_slice(front)?;
-    both.extend_from_slice(text)?;
-    Ok(both)
-}
 
 /// What a chunk is replied to whose value is printed.
 fn reply_to<S: Begins>(alloc: Global, state: &mut S, chunk: &str) -> Result<Vec<u8>, AllocError> {
@@ -89,12 +66,6 @@ fn check_rows<S: Begins, L: Ledger>(
         }
     }
     Ok(())
-}
-
-/// Notes a line.
-pub(crate) fn note(wrong: &mut String, line: &str) -> Result<(), AllocError> {
-    wrong.push_str(line)?;
-    wrong.push('\n')
 }
 
 /// What one command of a script is replied to.

@@ -2,7 +2,7 @@
 // and `class` (a method of the class side) with a class and a source. An empty line begins anew.
 
 /// Methods, instance variables, returns and look-up.
-pub(crate) const SCRIPTS: &str = "\
+pub const SCRIPTS: &str = "\
 run Object subclass: #Maker instVarNames: #() inDictionary: UserGlobals => ok
 method Maker make ^[^5] => method make
 print Maker new make value => error E8 dead home
@@ -86,7 +86,7 @@ method Foo bar ^1 => error E10 no read right: 1:3
 ";
 
 /// One script, where no more than two names are left.
-pub(crate) const NAMES_LEFT: &str = "\
+pub const NAMES_LEFT: &str = "\
 print UserProfile newUser: #DataCurator => error E5 argument kind
 print UserProfile newUser: #Al => error E16 names used up
 print Array new: 1. Array new: 1 => #(nil)

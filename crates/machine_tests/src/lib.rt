@@ -1,0 +1,7 @@
+//! Room: running. Tests `st_machine` beside the plain evaluator, on a `plain_state`.
+//!
+//! A crate that has its tests in itself is proved once more with them.
+#![tactic(auto)]
+
+#[cfg(test)]
+mod machine_tests;

@@ -1,0 +1,287 @@
+// What the machine replies to commands: what the plain evaluator replies, on the image of the
+// kernel.
+ghost use Rattle.std.specs.Prelude.{◌≡◌, ◌<◌};
+
+use chunk_tables::{
+    ANY, BLOCKS, CLASSES, DICTIONARIES, FORMS, LIMITS, NUMBERS, RIGHTS, SCRIPTS, SEQUENCES, SHARED,
+    STRINGS, note, told,
+};
+use kernel_state::{Begins, begin};
+use plain_state::PlainState;
+use radix_pages::Steps;
+use st_machine::CodeCache;
+use std::alloc::{AllocError, Global};
+use std::marker::Brand;
+use std::sync::ledger::{Blank, Ledger};
+use std::test::Fail;
+use std::thread;
+use std::thread::Builder;
+use texts::Text;
+
+/// The bytes of stack of a thread that runs chunks.
+const STACK: usize = 256 << 20;
+
+/// One method more than the cache keeps.
+const METHODS: u32 = 257;
+
+/// What the machine replies to a chunk.
+fn reply_to<S: Begins>(
+    alloc: Global,
+    state: &mut S,
+    cache: &mut CodeCache,
+    prints: bool,
+    chunk: &str,
+) -> Result<Vec<u8>, AllocError> {
+    state.begin_chunk();
+    let text = Text::copy_of(alloc, chunk.as_bytes())?;
+    let reply = st_machine::run_text(alloc, state, cache, prints, &text)?;
+    told(alloc, &reply)
+}
+
+/// What the plain evaluator replies to a chunk whose value is printed.
+fn plain_reply_to<S: Begins>(
+    alloc: Global,
+    state: &mut S,
+    chunk: &str,
+) -> Result<Vec<u8>, AllocError> {
+    state.begin_chunk();
+    let text = Text::copy_of(alloc, chunk.as_bytes())?;
+    let reply = st_plain::run_text(alloc, state, true, &text)?;
+    told(alloc, &reply)
+}
+
+/// Whether both reply to a chunk as is wanted, each on a state of its own.
+fn both_reply<S: Begins, L: Ledger>(
+    alloc: Global,
+    cache: &mut CodeCache,
+    chunk: &str,
+    wanted: &str,
+    steps: &mut Steps<L>,
+) -> Result<bool, AllocError> {
+    let mut first = begin::<S, L>(alloc, 1, steps)?;
+    let mut second = begin::<S, L>(alloc, 1, steps)?;
+    let reply = reply_to(alloc, &mut first, cache, true, chunk)?;
+    let plain = plain_reply_to(alloc, &mut second, chunk)?;
+    Ok(reply.as_slice() == wanted.as_bytes() && plain.as_slice() == wanted.as_bytes())
+}
+
+/// Runs each of these chunks by both. Those that aren't replied to as they should be are noted.
+fn check_rows<S: Begins, L: Ledger>(
+    alloc: Global,
+    cache: &mut CodeCache,
+    rows: &str,
+    steps: &mut Steps<L>,
+    wrong: &mut String,
+) -> Result<(), AllocError> {
+    for row in rows.lines() {
+        let Some((chunk, wanted)) = row.split_once(" => ") else {
+            note(wrong, row)?;
+            continue;
+        };
+        if !both_reply::<S, L>(alloc, cache, chunk, wanted, steps)? {
+            note(wrong, row)?;
+        }
+    }
+    Ok(())
+}
+
+/// What one command of a script is replied to.
+fn reply_to_command<S: Begins>(
+    alloc: Global,
+    state: &mut S,
+    cache: &mut CodeCache,
+    word: &str,
+    rest: &str,
+) -> Result<Vec<u8>, AllocError> {
+    if word == "print" {
+        return reply_to(alloc, state, cache, true, rest);
+    }
+    if word == "run" {
+        return reply_to(alloc, state, cache, false, rest);
+    }
+    state.begin_chunk();
+    let Some((class, source)) = rest.split_once(' ') else {
+        return Ok(Vec::new(alloc));
+    };
+    let class = Text::copy_of(alloc, class.as_bytes())?;
+    let source = Text::copy_of(alloc, source.as_bytes())?;
+    let reply = st_plain::install_source(alloc, state, word == "class", &class, &source)?;
+    told(alloc, &reply)
+}
+
+/// Whether a line of a script, a command and what is wanted, is replied to so.
+fn line_replies<S: Begins>(
+    alloc: Global,
+    state: &mut S,
+    cache: &mut CodeCache,
+    line: &str,
+) -> Result<bool, AllocError> {
+    let Some((command, wanted)) = line.split_once(" => ") else {
+        return Ok(false);
+    };
+    let Some((word, rest)) = command.split_once(' ') else {
+        return Ok(false);
+    };
+    Ok(reply_to_command(alloc, state, cache, word, rest)?.as_slice() == wanted.as_bytes())
+}
+
+/// Runs scripts over one cache: each begins after an empty line.
+fn check_scripts<S: Begins, L: Ledger>(
+    alloc: Global,
+    cache: &mut CodeCache,
+    scripts: &str,
+    steps: &mut Steps<L>,
+    wrong: &mut String,
+) -> Result<(), AllocError> {
+    let mut state = begin::<S, L>(alloc, 1, steps)?;
+    for line in scripts.lines() {
+        if line.is_empty() {
+            state = begin::<S, L>(alloc, 1, steps)?;
+            continue;
+        }
+        if !line_replies(alloc, &mut state, cache, line)? {
+            note(wrong, line)?;
+        }
+    }
+    Ok(())
+}
+
+/// The rows that aren't replied to as they should be.
+fn wrong_rows<S: Begins, L: Ledger>(alloc: Global, blank: Blank) -> Result<String, AllocError>
+    requires name { blank.name ≡ L.name }
+    requires parts { blank.parts ≡ L.parts }
+    requires some_parts { 0 < L.parts }
+{
+    let mut steps = Steps::<L>::start(blank);
+    let mut wrong = String::new(alloc);
+    let mut cache = CodeCache::new(alloc)?;
+    for rows in [
+        ANY,
+        NUMBERS,
+        BLOCKS,
+        SEQUENCES,
+        STRINGS,
+        CLASSES,
+        DICTIONARIES,
+        SHARED,
+        FORMS,
+        RIGHTS,
+        LIMITS,
+    ] {
+        check_rows::<S, L>(alloc, &mut cache, rows, &mut steps, &mut wrong)?;
+    }
+    Ok(wrong)
+}
+
+/// The lines of scripts that aren't replied to as they should be.
+fn wrong_lines<S: Begins, L: Ledger>(alloc: Global, blank: Blank) -> Result<String, AllocError>
+    requires name { blank.name ≡ L.name }
+    requires parts { blank.parts ≡ L.parts }
+    requires some_parts { 0 < L.parts }
+{
+    let mut steps = Steps::<L>::start(blank);
+    let mut wrong = String::new(alloc);
+    let mut cache = CodeCache::new(alloc)?;
+    check_scripts::<S, L>(alloc, &mut cache, SCRIPTS, &mut steps, &mut wrong)?;
+    Ok(wrong)
+}
+
+/// Gives the class Many its methods, each of which answers its number.
+fn install_many<S: Begins>(alloc: Global, state: &mut S) -> Result<(), AllocError> {
+    let class = Text::copy_of(alloc, b"Many")?;
+    for number in 1..METHODS + 1 {
+        state.begin_chunk();
+        let source = format!(in alloc; "m{number} ^{number}")?;
+        let source = Text::copy_of(alloc, source.as_bytes())?;
+        st_plain::install_source(alloc, state, false, &class, &source)?;
+    }
+    Ok(())
+}
+
+/// Sends all of them. Those that don't answer their number are noted.
+fn send_many<S: Begins>(
+    alloc: Global,
+    state: &mut S,
+    cache: &mut CodeCache,
+    wrong: &mut String,
+) -> Result<(), AllocError> {
+    for number in 1..METHODS + 1 {
+        let chunk = format!(in alloc; "Many new m{number}")?;
+        let wanted = format!(in alloc; "{number}")?;
+        let reply = reply_to(alloc, state, cache, true, chunk.as_str())?;
+        if reply.as_slice() != wanted.as_bytes() {
+            note(wrong, chunk.as_str())?;
+        }
+    }
+    Ok(())
+}
+
+/// The sends that aren't answered as they should be, where one method more than the cache keeps is
+/// sent, and then all once more.
+fn wrong_sends<S: Begins, L: Ledger>(alloc: Global, blank: Blank) -> Result<String, AllocError>
+    requires name { blank.name ≡ L.name }
+    requires parts { blank.parts ≡ L.parts }
+    requires some_parts { 0 < L.parts }
+{
+    let mut steps = Steps::<L>::start(blank);
+    let mut wrong = String::new(alloc);
+    let mut cache = CodeCache::new(alloc)?;
+    let mut state = begin::<S, L>(alloc, 1, &mut steps)?;
+    let class = "Object subclass: #Many instVarNames: #() inDictionary: UserGlobals";
+    reply_to(alloc, &mut state, &mut cache, false, class)?;
+    install_many(alloc, &mut state)?;
+    send_many(alloc, &mut state, &mut cache, &mut wrong)?;
+    send_many(alloc, &mut state, &mut cache, &mut wrong)?;
+    Ok(wrong)
+}
+
+fn rows_by_brand<S: Begins>(alloc: Global) -> Result<String, AllocError> {
+    wrong_rows::<S, Brand>(alloc, Blank::new(1))
+}
+
+fn lines_by_brand<S: Begins>(alloc: Global) -> Result<String, AllocError> {
+    wrong_lines::<S, Brand>(alloc, Blank::new(1))
+}
+
+fn sends_by_brand<S: Begins>(alloc: Global) -> Result<String, AllocError> {
+    wrong_sends::<S, Brand>(alloc, Blank::new(1))
+}
+
+#[test]
+fn machine_rows(rt: HostRuntime) -> Result<(), Fail> {
+    let wrong = thread::scope(thread::scope_env(), &rt, |scope| {
+        let work = || rows_by_brand::<PlainState>(rt.alloc());
+        match Builder::new().stack_size(STACK).spawn_scoped(scope, work) {
+            Ok(child) => child.join(&rt),
+            Err(_) => Err(AllocError),
+        }
+    })?;
+    assert_eq!(rt; wrong.as_str(), "");
+    Ok(())
+}
+
+#[test]
+fn machine_scripts(rt: HostRuntime) -> Result<(), Fail> {
+    let wrong = thread::scope(thread::scope_env(), &rt, |scope| {
+        let work = || lines_by_brand::<PlainState>(rt.alloc());
+        match Builder::new().stack_size(STACK).spawn_scoped(scope, work) {
+            Ok(child) => child.join(&rt),
+            Err(_) => Err(AllocError),
+        }
+    })?;
+    assert_eq!(rt; wrong.as_str(), "");
+    Ok(())
+}
+
+#[test]
+fn machine_sends(rt: HostRuntime) -> Result<(), Fail> {
+    let wrong = thread::scope(thread::scope_env(), &rt, |scope| {
+        let work = || sends_by_brand::<PlainState>(rt.alloc());
+        match Builder::new().stack_size(STACK).spawn_scoped(scope, work) {
+            Ok(child) => child.join(&rt),
+            Err(_) => Err(AllocError),
+        }
+    })?;
+    assert_eq!(rt; wrong.as_str(), "");
+    Ok(())
+}

@@ -1,0 +1,9 @@
+pub mod Runs
+pub mod Upper
+pub mod Ends
+pub mod PartRuns
+pub mod Standing
+pub mod Sent
+pub mod Pieces
+pub mod Outlines
+pub mod Kept

@@ -1,0 +1,165 @@
+use Rattle.std.proofs.Common.{◌∙◌, refl, sym, ap, ◌<◌, ◌++◌, ◌∷◌, List, [], length, get_or, take, reverse, replicate, slice_get, arith}
+use Rattle.std.proofs.lemmas.Grind.{common_steps}
+use Rattle.std.proofs.lemmas.Result.{err_from_is_err_and}
+use Rattle.gem_object.specs.declared.value.Value.TheVariants.{Nil}
+use Rattle.tree_meaning.specs.Bodies.{temps_count, method_body, block_body}
+use Rattle.tree_meaning.specs.declared.place.Mark.{Mark}
+use Rattle.gem_language.specs.Commands.{selector_of}
+use Rattle.gem_language.specs.Sends.{outside}
+use Rattle.st_compiler.specs.Instruction.{Instruction}
+use Rattle.st_compiler.specs.Emitted.{instruction_of}
+use Rattle.st_plain.proofs.Activations.{activation_ran, evaluation_ran, method_ran, made_ran}
+use Rattle.st_machine.specs.Layers.{Layers}
+use Rattle.st_machine.specs.Parts.{table_of, part_code, part_run, framed}
+use Rattle.st_machine.proofs.Ends.{receiver_is, rest_is, never_empty, whatever}
+use Rattle.st_machine.proofs.Outlines.{method_framed, block_framed, method_ran_by, block_ran_by}
+use Rattle.st_machine.proofs.PartRuns.{part_runs}
+use Rattle.st_machine.proofs.Standing.{stands_empty, stands_next, stands_back, stands_leaves, stands_stop, never_stuck, never_past}
+use Rattle.st_machine.proofs.Sent.{sent_answers, sent_stops}
+use Rattle.st_machine.proofs.machine.+machine.Goals as goal
+
+pub send-returns-in_err-answer-clause-led : goal.send-returns-in_err-answer-clause-led
+send-returns-in_err-answer-clause-led g t c =
+    let within : c.args.count < length c.args.stack.now.own = grind (arith, common_steps) in
+    let p = err_from_is_err_and c.from_residual.result c.from_residual.ensures.1 in
+    rw (p.1, p.2) (sent_stops c.args.depth (table_of c.args.code.now) c.args.selector.now c.args.count c.args.at
+    c.args.stack.now.own c.args.chain.now.own c.answer_of.new.chain.own c.args.frame.now
+    (g.O.Objects.seen c.args.objects.now) (g.O.Objects.seen c.answer_of.new.objects) c.args.locals.now c.answer_of.new.locals
+    c.args.to_super within c.in_err-answer.field-0.0 c.answer_of.new.stack.own c.in_err-answer.ensures.ran)
+
+pub send-returns-clause-led : goal.send-returns-clause-led
+send-returns-clause-led g t c =
+    let within : c.args.count < length c.args.stack.now.own = grind (arith, common_steps) in
+    sent_answers c.args.depth (table_of c.args.code.now) c.args.selector.now c.args.count c.args.at
+    c.args.stack.now.own c.args.chain.now.own c.answer_of.new.chain.own c.args.frame.now
+    (g.O.Objects.seen c.args.objects.now) (g.O.Objects.seen c.answer_of.new.objects) c.args.locals.now c.answer_of.new.locals
+    c.args.to_super within c.in_ok-answer.answer c.push.new.self.own c.in_ok-next_of.field-0 c.in_ok-next_of.ensures.place
+    (ap (λ (one : Layers Mark). one.own) c.in_ok-answer.ensures.chain)
+    (c.in_ok-push.ensures.pushed ∙ ap (λ (rest : List _). c.in_ok-answer.answer ∷ rest) c.in_ok-answer.ensures.own)
+    c.in_ok-answer.ensures.ran
+
+pub call_method-returns-clause-ran : goal.call_method-returns-clause-ran
+call_method-returns-clause-ran g t c =
+    method_ran c.args.depth (omega (arith, c.if-depth-eq0.false)) c.args.code.now c.args.holder c.args.class_side
+    (get_or c.args.stack.now.own c.args.count Nil) (reverse (take c.args.count c.args.stack.now.own)) c.activate.ensures.ran
+
+pub call_made-returns-clause-ran : goal.call_made-returns-clause-ran
+call_made-returns-clause-ran g t c =
+    made_ran c.args.depth (omega (arith, c.if-depth-eq0.false)) c.args.made.now c.args.arguments.items c.evaluate.ensures.ran
+
+pub evaluate-returns-clause-ran : goal.evaluate-returns-clause-ran
+evaluate-returns-clause-ran g t c =
+    let inner = framed (c.mark-mark.result ∷ reverse c.scopes.result.now) c.outline.result.now in
+    evaluation_ran (block_body (outside c.args.depth) c.args.made.now.tree c.args.made.now.place) (temps_count c.args.made.now.tree)
+    c.args.made.now.frame c.args.arguments.items c.run_inside-ended.result c.mark-mark.result inner
+    (c.args.arguments.items ++ replicate c.temps_count.result Nil) c.temps_count.result c.mark-mark.ensures
+    (block_framed c.outline.result.now c.args.made.now.frame c.mark-mark.result c.scopes.result.now c.outline.ensures c.scopes.ensures)
+    refl c.temps_count.ensures c.in_ok-open_scope.ensures.opened
+    (block_ran_by (outside c.args.depth) c.code-number.result.0.now c.code-number.result.1 inner c.args.made.now c.code-number.ensures.tree
+    c.code-number.ensures.place c.run_inside-ended.ensures.ran) c.leave_block.ensures
+
+pub activate-unreachable-requires : goal.activate-unreachable-requires
+activate-unreachable-requires g t c =
+    never_empty c.args.stack.now.own c.args.count c.requires.height
+    (sym c.in_ok-begin_method.ensures.own ∙ c.in_default.ensures.popped.0)
+
+pub activate-returns-clause-own : goal.activate-returns-clause-own
+activate-returns-clause-own g t c =
+    whatever c.leave_method.result
+    (ap (λ (one : Layers _). one.own) c.run_inside-ended.ensures.stack
+    ∙ rest_is c.args.stack.now.own c.args.count Nil c.in-Some.receiver c.pop.new.self.own c.requires.height
+    (sym c.in_ok-begin_method.ensures.own ∙ c.in-Some.ensures.popped))
+
+pub activate-returns-clause-ran : goal.activate-returns-clause-ran
+activate-returns-clause-ran g t c =
+    let receiver = get_or c.args.stack.now.own c.args.count Nil in
+    let arguments = reverse (take c.args.count c.args.stack.now.own) in
+    let frame = framed (c.mark-mark.result ∷ []) c.in_ok-frame.frame in
+    activation_ran (method_body (outside c.args.depth) c.args.code.now) (length c.args.code.now.temps) c.args.holder c.args.class_side
+    receiver arguments c.run_inside-ended.result c.mark-mark.result c.in-Some.receiver frame
+    (arguments ++ replicate c.temps_count.result Nil) c.temps_count.result c.mark-mark.ensures
+    (receiver_is c.args.stack.now.own c.args.count Nil c.in-Some.receiver c.pop.new.self.own c.requires.height
+    (sym c.in_ok-begin_method.ensures.own ∙ c.in-Some.ensures.popped))
+    (method_framed c.in_ok-frame.frame c.mark-mark.result c.in-Some.receiver c.args.holder c.args.class_side c.args.locals.now
+    c.mark-mark.ensures c.in_ok-frame.ensures)
+    refl c.temps_count.ensures c.in_ok-begin_method.ensures.begun
+    (method_ran_by (outside c.args.depth) c.args.code.now (selector_of c.args.code.now) frame c.requires.method
+    c.run_inside-ended.ensures.ran) c.leave_method.ensures
+
+pub execute-run-init : goal.execute-run-init
+execute-run-init g t c = record {
+  standing = stands_empty (outside c.args.depth) (table_of c.args.code.now) (part_code c.args.code.now c.args.part)
+      (part_run (outside c.args.depth) c.args.code.now c.args.part) (framed c.args.chain.now.own c.args.frame.now)
+      (g.O.Objects.seen c.args.objects.now) c.args.locals.now c.args.stack.now.own c.requires.empty
+      (part_runs (outside c.args.depth) (g.O.Objects.seen c.args.objects.now).setting c.args.code.now c.args.part c.requires.part);
+  below = refl;
+  outer = refl;
+}
+
+pub execute-unreachable-requires : goal.execute-unreachable-requires
+execute-unreachable-requires g t c =
+    let none = c.in_default.ensures.is in
+    never_past (outside c.args.depth) (table_of c.args.code.now) (part_code c.args.code.now c.args.part)
+    c.run.invariant.standing
+    (ap (λ (code : List Instruction). slice_get code c.run.at) (sym c.code_of-instrs.ensures) ∙ sym none)
+
+pub execute-run-preserved-in-Goes : goal.execute-run-preserved-in-Goes
+execute-run-preserved-in-Goes g t c = record {
+  standing = stands_next (outside c.args.depth) (table_of c.args.code.now) (part_code c.args.code.now c.args.part)
+      (part_run (outside c.args.depth) c.args.code.now c.args.part (framed c.args.chain.now.own c.args.frame.now))
+      (g.O.Objects.seen c.args.objects.now) (g.O.Objects.seen c.run.objects) (g.O.Objects.seen c.step-led.new.objects)
+      c.args.locals.now c.run.locals c.step-led.new.locals c.run.at c.run.stack.own c.step-led.new.stack.own
+      c.run.chain.own c.step-led.new.chain.own c.args.frame.now c.run.invariant.standing
+      (instruction_of c.in-Some.instr.now)
+      (ap (λ (code : List Instruction). slice_get code c.run.at) (sym c.code_of-instrs.ensures) ∙ sym c.in-Some.ensures.is)
+      c.in-Ok.ensures.keeps c.in-Goes.place (rw c.in-Goes.is at c.in-Ok.ensures.led);
+  below = c.in-Ok.ensures.stack ∙ c.run.invariant.below;
+  outer = c.in-Ok.ensures.chain ∙ c.run.invariant.outer;
+}
+
+pub execute-run-preserved : goal.execute-run-preserved
+execute-run-preserved g t c = record {
+  standing = stands_back (outside c.args.depth) (table_of c.args.code.now) (part_code c.args.code.now c.args.part)
+      (part_run (outside c.args.depth) c.args.code.now c.args.part (framed c.args.chain.now.own c.args.frame.now))
+      (g.O.Objects.seen c.args.objects.now) (g.O.Objects.seen c.run.objects) (g.O.Objects.seen c.step-led.new.objects)
+      c.args.locals.now c.run.locals c.step-led.new.locals c.run.at c.run.stack.own c.step-led.new.stack.own
+      c.run.chain.own c.step-led.new.chain.own c.args.frame.now c.run.invariant.standing
+      (instruction_of c.in-Some.instr.now)
+      (ap (λ (code : List Instruction). slice_get code c.run.at) (sym c.code_of-instrs.ensures) ∙ sym c.in-Some.ensures.is)
+      c.in-Ok.ensures.keeps c.in-Jumps.place (rw c.in-Jumps.is at c.in-Ok.ensures.led);
+  below = c.in-Ok.ensures.stack ∙ c.run.invariant.below;
+  outer = c.in-Ok.ensures.chain ∙ c.run.invariant.outer;
+}
+
+pub execute-returns-in-Err-clause-ran : goal.execute-returns-in-Err-clause-ran
+execute-returns-in-Err-clause-ran g t c =
+    stands_stop (outside c.args.depth) (table_of c.args.code.now) (part_code c.args.code.now c.args.part)
+    (part_run (outside c.args.depth) c.args.code.now c.args.part (framed c.args.chain.now.own c.args.frame.now))
+    (g.O.Objects.seen c.args.objects.now) (g.O.Objects.seen c.run.objects) (g.O.Objects.seen c.step-led.new.objects)
+    c.args.locals.now c.run.locals c.step-led.new.locals c.run.at c.run.stack.own c.step-led.new.stack.own
+    c.run.chain.own c.step-led.new.chain.own c.args.frame.now c.run.invariant.standing
+    (instruction_of c.in-Some.instr.now)
+    (ap (λ (code : List Instruction). slice_get code c.run.at) (sym c.code_of-instrs.ensures) ∙ sym c.in-Some.ensures.is)
+    c.in-Err.ensures.keeps c.in-Err.stop c.in-Err.ensures.led
+
+pub execute-returns-in-Leaves-clause-ran : goal.execute-returns-in-Leaves-clause-ran
+execute-returns-in-Leaves-clause-ran g t c =
+    stands_leaves (outside c.args.depth) (table_of c.args.code.now) (part_code c.args.code.now c.args.part)
+    (part_run (outside c.args.depth) c.args.code.now c.args.part (framed c.args.chain.now.own c.args.frame.now))
+    (g.O.Objects.seen c.args.objects.now) (g.O.Objects.seen c.run.objects) (g.O.Objects.seen c.step-led.new.objects)
+    c.args.locals.now c.run.locals c.step-led.new.locals c.run.at c.run.stack.own c.step-led.new.stack.own
+    c.run.chain.own c.step-led.new.chain.own c.args.frame.now c.run.invariant.standing
+    (instruction_of c.in-Some.instr.now)
+    (ap (λ (code : List Instruction). slice_get code c.run.at) (sym c.code_of-instrs.ensures) ∙ sym c.in-Some.ensures.is)
+    c.in-Ok.ensures.keeps c.in-Leaves.answer (rw c.in-Leaves.is at c.in-Ok.ensures.led)
+
+pub execute-unreachable-requires-in-Stuck : goal.execute-unreachable-requires-in-Stuck
+execute-unreachable-requires-in-Stuck g t c =
+    never_stuck (outside c.args.depth) (table_of c.args.code.now) (part_code c.args.code.now c.args.part)
+    (part_run (outside c.args.depth) c.args.code.now c.args.part (framed c.args.chain.now.own c.args.frame.now))
+    (g.O.Objects.seen c.args.objects.now) (g.O.Objects.seen c.run.objects) (g.O.Objects.seen c.step-led.new.objects)
+    c.args.locals.now c.run.locals c.step-led.new.locals c.run.at c.run.stack.own c.step-led.new.stack.own
+    c.run.chain.own c.step-led.new.chain.own c.args.frame.now c.run.invariant.standing
+    (instruction_of c.in-Some.instr.now)
+    (ap (λ (code : List Instruction). slice_get code c.run.at) (sym c.code_of-instrs.ensures) ∙ sym c.in-Some.ensures.is)
+    c.in-Ok.ensures.keeps (rw c.in-Stuck.is at c.in-Ok.ensures.led)

@@ -1,0 +1,50 @@
+-- What one instruction led to.
+use Rattle.std.specs.Prelude.{◌≡◌, ℕ, ◌<◌, List, Some, Result, Ok, Err}
+use Rattle.gem_object.specs.declared.value.Value.{Value}
+use Rattle.object_programs.specs.Local.{Local}
+use Rattle.object_programs.specs.Run.{gives, returns, fails, State}
+use Rattle.running_objects.specs.Seen.{Seen, with_local}
+use Rattle.running_objects.specs.declared.stop.Stop.{Stop}
+use Rattle.running_objects.specs.declared.stop.Stop.TheVariants as stop
+use Rattle.tree_meaning.specs.Place.{Frame, MadeBlock}
+use Rattle.tree_meaning.specs.Meaning.{Outside}
+use Rattle.tree_meaning.specs.declared.place.Mark.{Mark}
+use Rattle.st_compiler.specs.Instruction.{Instruction}
+use Rattle.st_compiler.specs.Code.{Piece}
+use Rattle.st_compiler.specs.Machine.{CodeEnd, over, stuck, Next, act}
+use Rattle.st_machine.specs.Parts.{framed}
+use Rattle.st_machine.specs.declared.flow.Flow.{Flow}
+use Rattle.st_machine.specs.declared.flow.Flow.TheVariants.{Goes, Jumps, Leaves, Stuck}
+
+-- Code goes on, jumps back or ends so: `end` is what the instruction gives, whatever is done from
+-- the next place on and after a jump back. Where memory ran out nothing is said.
+abbrev pub LedTo : (end : Next → Next → CodeEnd) → Result Flow Stop → (stack : List Value) → Frame
+    → State MadeBlock → Type 0
+LedTo end (Ok (Goes place)) stack frame state =
+    (next back : Next) → end next back ≡ next place stack frame state
+LedTo end (Ok (Jumps place)) stack frame state =
+    (next back : Next) → end next back ≡ back place stack frame state
+LedTo end (Ok (Leaves answer)) stack frame state =
+    (next back : Next) → end next back ≡ over (record { end = gives answer; state = state })
+LedTo end (Ok Stuck) stack frame state = (next back : Next) → end next back ≡ stuck
+LedTo end (Err (stop.Fails fault)) stack frame state =
+    (next back : Next) → end next back ≡ over (record { end = fails fault; state = state })
+LedTo end (Err (stop.Returns answer home)) stack frame state =
+    (next back : Next) → end next back ≡ over (record { end = returns answer home; state = state })
+LedTo end (Err stop.NoMemory) stack frame state = Unit {0}
+
+-- An instruction was carried out at a place, with a stack and with scopes: it ended so, and left
+-- this stack and these scopes.
+abbrev pub LedBy : Outside → (table : List Piece) → Instruction → (place : ℕ)
+    → (stack : List Value) → (scopes : List Mark) → Frame → (before : Seen) → Local MadeBlock
+    → Result Flow Stop → (left : List Value) → (inner : List Mark) → (after : Seen)
+    → Local MadeBlock → Type 0
+LedBy outside table one place stack scopes frame before local result left inner after later =
+    LedTo (λ next back. act outside before.setting table (Some one) next back place stack
+    (framed scopes frame) (with_local before local)) result left (framed inner frame)
+    (with_local after later)
+
+-- what goes on does so further on
+abbrev pub IsForward : (place : ℕ) → Flow → Type 0
+IsForward place (Goes next) = place < next
+IsForward place other = Unit {0}

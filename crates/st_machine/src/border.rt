@@ -1,0 +1,120 @@
+//! What stands between objects and variables: calls that do something to objects, said with the
+//! variables at hand, which they leave as they are. A frame here has no scopes: those of the
+//! activation that runs stand on a stack, and nothing here asks for them.
+ghost use Rattle.std.specs.Prelude.{◌≡◌};
+ghost use Rattle.object_programs.specs.Atom.{Tick};
+ghost use Rattle.object_programs.specs.Run.{atom};
+ghost use Rattle.prim_rules.specs.Rules.{rule_of};
+ghost use Rattle.prim_rules.specs.Printing.{print_text};
+ghost use Rattle.gem_language.specs.LookUp.{find_method};
+ghost use Rattle.gem_language.specs.OutOfScope.{read_out_of_scope, write_out_of_scope};
+ghost use Rattle.gem_language.specs.Literals.{literal_value};
+ghost use Rattle.st_tree.specs.Views.{constant_of};
+ghost use Rattle.running_objects.specs.Ran.{Ran};
+ghost use Rattle.st_machine.specs.Parts.{framed};
+
+use crate::layers::Layers;
+use crate::locals::Locals;
+use crate::outline::Outline;
+use gem_language::Found;
+use gem_object::Value;
+use prim_rules::PrimitiveAnswer;
+use running_objects::{Objects, Stop};
+use st_tree::Literal;
+use std::alloc::Global;
+use texts::Text;
+use tree_meaning::Mark;
+
+/// Takes a unit: E13 where none is left.
+pub(crate) fn take_unit<O: Objects>(objects: &mut O, locals: &Locals) -> Result<(), Stop>
+    ensures { Ran (atom Tick) (O.seen objects.old) locals.now result (O.seen objects.new)
+        locals.now }
+{
+    objects.tick()
+}
+
+/// The method that answers a message with this selector to the receiver.
+pub(crate) fn find_method<O: Objects>(
+    objects: &mut O,
+    locals: &Locals,
+    chain: &Layers<Mark>,
+    to_super: bool,
+    frame: &Outline,
+    receiver: &Value,
+    selector: &Text,
+) -> Result<Option<Found>, Stop>
+    ensures { Ran (find_method to_super (framed chain.now.own frame.now) receiver.now selector.now)
+        (O.seen objects.old) locals.now result (O.seen objects.new) locals.now }
+{
+    st_outside::find_method(objects, to_super, frame.frame(), receiver, selector)
+}
+
+/// What the primitive of this number comes to.
+pub(crate) fn primitive<O: Objects>(
+    alloc: Global,
+    objects: &mut O,
+    locals: &Locals,
+    number: u8,
+    receiver: &Value,
+    arguments: &[Value],
+) -> Result<PrimitiveAnswer, Stop>
+    ensures { Ran (rule_of number receiver.now arguments.now) (O.seen objects.old) locals.now
+        result (O.seen objects.new) locals.now }
+{
+    prim_calls::call(alloc, objects, number, receiver, arguments)
+}
+
+/// The value of a name that is no variable in scope.
+pub(crate) fn read_name<O: Objects>(
+    objects: &mut O,
+    locals: &Locals,
+    chain: &Layers<Mark>,
+    name: &Text,
+    frame: &Outline,
+) -> Result<Value, Stop>
+    ensures { Ran (read_out_of_scope name.now (framed chain.now.own frame.now))
+        (O.seen objects.old) locals.now result (O.seen objects.new) locals.now }
+{
+    st_outside::read_name(objects, name, frame.frame())
+}
+
+/// An assignment to a name that is no variable in scope; it answers the value.
+pub(crate) fn write_name<O: Objects>(
+    objects: &mut O,
+    locals: &Locals,
+    chain: &Layers<Mark>,
+    name: &Text,
+    frame: &Outline,
+    value: Value,
+) -> Result<Value, Stop>
+    ensures { Ran (write_out_of_scope name.now (framed chain.now.own frame.now) value)
+        (O.seen objects.old) locals.now result (O.seen objects.new) locals.now }
+{
+    st_outside::write_name(objects, name, frame.frame(), value)
+}
+
+/// The new object of a string or an array that is written out in the text.
+pub(crate) fn literal<O: Objects>(
+    alloc: Global,
+    objects: &mut O,
+    locals: &Locals,
+    literal: &Literal,
+) -> Result<Value, Stop>
+    ensures { Ran (literal_value (constant_of literal.now)) (O.seen objects.old) locals.now result
+        (O.seen objects.new) locals.now }
+{
+    st_outside::literal(alloc, objects, literal)
+}
+
+/// The print text of a value.
+pub(crate) fn print<O: Objects>(
+    alloc: Global,
+    objects: &mut O,
+    locals: &Locals,
+    value: &Value,
+) -> Result<Text, Stop>
+    ensures { Ran (print_text value.now) (O.seen objects.old) locals.now result
+        (O.seen objects.new) locals.now }
+{
+    prim_classes::print_text(alloc, objects, value)
+}

@@ -1,0 +1,134 @@
+//! A stack that all activations share.
+ghost use Rattle.std.specs.Prelude.{◌≡◌, ◌≤◌, ◌∷◌, length, reverse, take, drop, get_or, slice_get, option_copied, IfOk, OnOk, OnErr};
+ghost use Rattle.st_machine.specs.Layers.{nothing_on, begun, ended, Popped};
+
+use std::alloc::{AllocError, Global};
+use std::marker::Model;
+
+/// A stack that all activations share: each has its own part of it, above those of the activations
+/// that wait for it. A send takes no memory here, once the stack has been as high before.
+#[derive(Drop)]
+pub(crate) struct Layers<T> {
+    items: Vec<T>,
+    base: usize,
+}
+
+impl<T> Model for Layers<T> {
+    ghost use Rattle.std.specs.Prelude.{◌≤◌, length, reverse, take, drop};
+    ghost use Rattle.st_machine.specs.Layers.{Layers as TwoLayers};
+
+    ghost Value = { TwoLayers T };
+
+    ghost view = { λ layers. record {
+      own = reverse (drop layers.base layers.items.items);
+      below = take layers.base layers.items.items;
+    } };
+
+    ghost invariant = { λ layers. layers.base ≤ length layers.items.items };
+}
+
+impl<T: Drop> Layers<T> {
+    /// An empty stack, before anything runs. It takes no memory.
+    pub(crate) fn new(alloc: Global) -> Layers<T>
+        ensures { result ≡ nothing_on T }
+    {
+        Layers {
+            items: Vec::new(alloc),
+            base: 0,
+        }
+    }
+
+    /// How many items the activation that runs has put there.
+    pub(crate) fn height(&self) -> usize
+        ensures { result ≡ length self.now.own }
+    {
+        self.items.len() - self.base
+    }
+
+    /// Puts an item on top. Where it finds no memory all is as before.
+    pub(crate) fn push(&mut self, item: T) -> Result<(), AllocError>
+        ensures pushed { OnOk result (self.new.own ≡ item ∷ self.old.own) }
+        ensures unchanged { OnErr result (self.new.own ≡ self.old.own) }
+        ensures below { self.new.below ≡ self.old.below }
+    {
+        Ok(self.items.push(item)?)
+    }
+
+    /// Takes the uppermost item, where the activation that runs has put one there.
+    pub(crate) fn pop(&mut self) -> Option<T>
+        ensures popped { Popped result self.old.own self.new.own }
+        ensures below { self.new.below ≡ self.old.below }
+    {
+        if self.items.len() <= self.base {
+            return None;
+        }
+        self.items.pop()
+    }
+
+    /// The item at this depth, of which 0 is the uppermost one's.
+    pub(crate) fn item(&self, depth: usize) -> Option<&T>
+        ensures { option_copied result ≡ slice_get self.now.own depth }
+    {
+        if depth >= self.items.len() - self.base {
+            return None;
+        }
+        self.items.get(self.items.len() - 1 - depth)
+    }
+
+    /// So many of the uppermost items, the uppermost one last.
+    pub(crate) fn upper(&self, count: usize) -> &[T]
+        requires { count ≤ length self.now.own }
+        ensures { result.now ≡ reverse (take count self.now.own) }
+    {
+        &self.items[self.items.len() - count..]
+    }
+
+    /// All items of the activation that runs, the uppermost one last.
+    pub(crate) fn own(&self) -> &[T]
+        ensures { result.now ≡ reverse self.now.own }
+    {
+        &self.items[self.base..]
+    }
+
+    /// Drops so many of the uppermost items.
+    pub(crate) fn drop_upper(&mut self, count: usize)
+        requires { count ≤ length self.old.own }
+        ensures own { self.new.own ≡ drop count self.old.own }
+        ensures below { self.new.below ≡ self.old.below }
+    {
+        let left = self.items.len() - count;
+        self.items.truncate(left);
+    }
+
+    /// Takes so many of the uppermost items away and gives them, the uppermost one last. Where it
+    /// finds no memory all is as before.
+    pub(crate) fn take_upper(&mut self, count: usize) -> Result<Vec<T>, AllocError>
+        requires { count ≤ length self.old.own }
+        ensures taken { IfOk result (λ taken. taken.items ≡ reverse (take count self.old.own)) }
+        ensures own { OnOk result (self.new.own ≡ drop count self.old.own) }
+        ensures below { self.new.below ≡ self.old.below }
+    {
+        let left = self.items.len() - count;
+        self.items.split_off(left)
+    }
+
+    /// An activation begins. What is answered is wanted at its end.
+    pub(crate) fn begin(&mut self) -> usize
+        ensures base { result ≡ length self.old.below }
+        ensures begun { self.new ≡ begun self.old }
+    {
+        let base = self.base;
+        self.base = self.items.len();
+        base
+    }
+
+    /// An activation ends, with all that it has put there. So many items stood below the one that
+    /// goes on.
+    pub(crate) fn end(&mut self, base: usize)
+        requires { base ≤ length self.old.below }
+        ensures { self.new ≡ ended base self.old }
+    {
+        self.items.truncate(self.base);
+        self.base = base;
+    }
+}

@@ -1,0 +1,51 @@
+//! The ends of activations.
+ghost use Rattle.tree_meaning.specs.Scopes.{leave_method, leave_block};
+ghost use Rattle.st_plain.specs.Leaving.{LeftSo};
+
+use crate::locals::Locals;
+use gem_object::Value;
+use running_objects::{Objects, Stop};
+use tree_meaning::Mark;
+
+/// A method's end: its activation lives no more, and what came since it began is given back. A
+/// value that returns to it is its answer.
+pub(crate) fn leave_method<O: Objects>(
+    objects: &O,
+    locals: &mut Locals,
+    mark: Mark,
+    ended: Result<Value, Stop>,
+) -> Result<Value, Stop>
+    ensures { LeftSo (leave_method mark) ended (O.seen objects.now) locals.old result locals.new }
+{
+    locals.end_living(mark.living);
+    locals.give_back(mark);
+    match ended {
+        Ok(answer) => Ok(answer),
+        Err(Stop::Fails(fault)) => Err(Stop::Fails(fault)),
+        Err(Stop::Returns(answer, home)) => {
+            if home == mark.living {
+                return Ok(answer);
+            }
+            Err(Stop::Returns(answer, home))
+        }
+        Err(Stop::NoMemory) => Err(Stop::NoMemory),
+    }
+}
+
+/// A block's end: its scope is given back.
+pub(crate) fn leave_block<O: Objects>(
+    objects: &O,
+    locals: &mut Locals,
+    mark: Mark,
+    ended: Result<Value, Stop>,
+) -> Result<Value, Stop>
+    ensures { LeftSo (leave_block mark) ended (O.seen objects.now) locals.old result locals.new }
+{
+    locals.give_back(mark);
+    match ended {
+        Ok(answer) => Ok(answer),
+        Err(Stop::Fails(fault)) => Err(Stop::Fails(fault)),
+        Err(Stop::Returns(answer, home)) => Err(Stop::Returns(answer, home)),
+        Err(Stop::NoMemory) => Err(Stop::NoMemory),
+    }
+}

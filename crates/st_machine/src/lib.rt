@@ -1,0 +1,30 @@
+//! Room: running. Gives the machine: runs the code of chunks and commands over any objects. Knows
+//! nothing of how objects are kept, of the Stone and of other sessions.
+#![tactic(auto)]
+
+mod border;
+mod cache;
+mod chunk;
+mod code_block;
+mod command;
+mod conditions;
+mod flow;
+mod jumps;
+mod layers;
+mod leaving;
+mod locals;
+mod loops;
+mod machine;
+mod names;
+mod outline;
+mod places;
+mod pushes;
+mod returns;
+mod scopes;
+mod shared_code;
+mod variables;
+
+pub use cache::CodeCache;
+pub use chunk::run_chunk;
+pub use command::{print_value, run_command, run_text};
+pub use shared_code::SharedCode;

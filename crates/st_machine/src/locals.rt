@@ -1,0 +1,205 @@
+//! Variables, made blocks and activations.
+ghost use Rattle.std.specs.Prelude.{◌≡◌, ◌≤◌, ◌++◌, ◌∷◌, [], length, get_or, set, reverse, take, drop, replicate, slice_get, option_copied, IfOk, OnOk, OnErr};
+ghost use Rattle.gem_object.specs.declared.value.Value.TheVariants.{Nil};
+ghost use Rattle.object_programs.specs.Local.{nothing};
+ghost use Rattle.tree_meaning.specs.Place.{MadeBlock as TreeBlock};
+ghost use Rattle.tree_meaning.specs.Scopes.{mark, open_scope, begin_method, is_living, end_living, give_back, with_value};
+
+use crate::code_block::CodeBlock;
+use crate::layers::Layers;
+use crate::variables::Variables;
+use gem_object::Value;
+use std::alloc::{AllocError, Global};
+use std::marker::Model;
+use tree_meaning::Mark;
+
+/// The variables of a running chunk by their scopes, the blocks that it made, and its activations,
+/// with whether each still lives. All stand in the order in which they came.
+#[derive(Drop)]
+pub(crate) struct Locals {
+    scopes: Vec<Variables>,
+    blocks: Vec<CodeBlock>,
+    living: Vec<bool>,
+}
+
+impl Model for Locals {
+    ghost use Rattle.gem_object.specs.contracts.value.Value as value;
+    ghost use Rattle.tree_meaning.specs.contracts.place.Mark as mark;
+    ghost use Rattle.object_programs.specs.Local.{Local};
+    ghost use Rattle.tree_meaning.specs.Place.{MadeBlock as TreeBlock};
+    ghost use Rattle.st_locals.specs.Codes.{local_code};
+
+    ghost Value = { Local TreeBlock };
+
+    ghost coded = { local_code value.the_row.coded mark.the_row.coded };
+
+    ghost view = { λ locals. record {
+      scopes = locals.scopes.items;
+      blocks = locals.blocks.items;
+      living = locals.living.items;
+    } };
+}
+
+impl Locals {
+    /// Nothing: before anything is evaluated. It takes no memory.
+    pub(crate) fn new(alloc: Global) -> Locals
+        ensures { result ≡ nothing TreeBlock }
+    {
+        Locals {
+            scopes: Vec::new(alloc),
+            blocks: Vec::new(alloc),
+            living: Vec::new(alloc),
+        }
+    }
+
+    /// How much stands now: what a scope or an activation that begins now keeps.
+    pub(crate) fn mark(&self) -> Mark
+        ensures { result ≡ mark self.now }
+    {
+        Mark {
+            scopes: self.scopes.len() as u64,
+            blocks: self.blocks.len() as u64,
+            living: self.living.len() as u64,
+        }
+    }
+
+    /// Opens a scope with these variables, and so many more that are nil. Where it finds no memory
+    /// all is as before.
+    pub(crate) fn open_scope(&mut self, values: Vec<Value>, nils: usize) -> Result<(), AllocError>
+        ensures opened { OnOk result
+            (self.new ≡ open_scope (values.items ++ replicate nils Nil) self.old) }
+        ensures unchanged { OnErr result (self.new ≡ self.old) }
+    {
+        let values = with_nils(values, nils)?;
+        Ok(self.scopes.push(Variables { values })?)
+    }
+
+    /// Begins an activation, which lives. The variables of its scope are so many of the uppermost
+    /// values of the stack, the uppermost one last, which are taken from there, and so many more
+    /// that are nil. Where it finds no memory the variables are as before.
+    pub(crate) fn begin_method(
+        &mut self,
+        stack: &mut Layers<Value>,
+        count: usize,
+        temps: usize,
+    ) -> Result<(), AllocError>
+        requires { count ≤ length stack.old.own }
+        ensures begun { OnOk result (self.new
+            ≡ begin_method (reverse (take count stack.old.own) ++ replicate temps Nil) self.old) }
+        ensures own { OnOk result (stack.new.own ≡ drop count stack.old.own) }
+        ensures below { stack.new.below ≡ stack.old.below }
+        ensures unchanged { OnErr result (self.new ≡ self.old) }
+    {
+        let arguments = stack.take_upper(count)?;
+        self.begin_with(with_nils(arguments, temps)?)
+    }
+
+    /// The same with these variables.
+    fn begin_with(&mut self, values: Vec<Value>) -> Result<(), AllocError>
+        ensures begun { OnOk result (self.new ≡ begin_method values.items self.old) }
+        ensures unchanged { OnErr result (self.new ≡ self.old) }
+    {
+        self.living.reserve(1)?;
+        self.scopes.push(Variables { values })?;
+        Ok(self.living.push(true)?)
+    }
+
+    /// Whether the activation of this number lives. There may be none: then it doesn't.
+    pub(crate) fn is_living(&self, number: u64) -> bool
+        ensures { result ≡ is_living number self.now }
+    {
+        let number = number as usize;
+        number < self.living.len() && self.living[number]
+    }
+
+    /// Ends the activation of this number, if there is one.
+    pub(crate) fn end_living(&mut self, number: u64)
+        ensures { self.new ≡ end_living number self.old }
+    {
+        let number = number as usize;
+        if number < self.living.len() {
+            self.living[number] = false;
+        }
+    }
+
+    /// Gives back the scopes and the activations that came since this much stood, unless a block
+    /// was made since.
+    pub(crate) fn give_back(&mut self, mark: Mark)
+        ensures { self.new ≡ give_back mark self.old }
+    {
+        if self.blocks.len() as u64 == mark.blocks {
+            self.scopes.truncate(mark.scopes as usize);
+            self.living.truncate(mark.living as usize);
+        }
+    }
+
+    /// A copy of the value of a variable of the scope of this number. Nil where there is no such
+    /// variable.
+    pub(crate) fn value(&self, scope: u64, index: usize) -> Result<Value, AllocError>
+        ensures { IfOk result (λ value.
+            value ≡ get_or (get_or self.now.scopes scope []) index Nil) }
+    {
+        value_in(&self.scopes, scope, index)
+    }
+
+    /// Puts a value into a variable of the scope of this number. Where there is no such variable
+    /// nothing changes. It takes no memory.
+    pub(crate) fn set_value(&mut self, scope: u64, index: usize, value: Value)
+        ensures { self.new ≡ with_value scope index value self.old }
+    {
+        put_value(&mut self.scopes, scope, index, value);
+    }
+
+    /// Adds a block; its number. Where it finds no memory all is as before.
+    pub(crate) fn add_block(&mut self, made: CodeBlock) -> Result<u64, AllocError>
+        ensures number { IfOk result (λ number. number ≡ length self.old.blocks) }
+        ensures added { OnOk result
+            (self.new ≡ record self.old { blocks = self.old.blocks ++ made ∷ [] }) }
+        ensures unchanged { OnErr result (self.new ≡ self.old) }
+    {
+        let number = self.blocks.len() as u64;
+        self.blocks.push(made)?;
+        Ok(number)
+    }
+
+    /// The block of this number, if there is one.
+    pub(crate) fn block(&self, number: u64) -> Option<&CodeBlock>
+        ensures { option_copied result ≡ slice_get self.now.blocks number }
+    {
+        self.blocks.get(number as usize)
+    }
+}
+
+/// A copy of the value at an index of the scope of a number, and nil where there is none.
+fn value_in(scopes: &Vec<Variables>, number: u64, index: usize) -> Result<Value, AllocError>
+    ensures { IfOk result (λ value. value ≡ get_or (get_or scopes.now.items number []) index Nil) }
+{
+    let number = number as usize;
+    if number < scopes.len() {
+        scopes[number].value(index)
+    } else {
+        Ok(Value::Nil)
+    }
+}
+
+/// Puts a value at an index of the scope of a number, where there is one.
+fn put_value(scopes: &mut Vec<Variables>, number: u64, index: usize, value: Value)
+    ensures { scopes.new.items ≡ set scopes.old.items number
+        (set (get_or scopes.old.items number []) index value) }
+{
+    let number = number as usize;
+    if number < scopes.len() {
+        scopes[number].put(index, value);
+    }
+}
+
+/// These values, and then so many that are nil.
+fn with_nils(values: Vec<Value>, nils: usize) -> Result<Vec<Value>, AllocError>
+    ensures { IfOk result (λ all. all.items ≡ values.items ++ replicate nils Nil) }
+{
+    let mut all = values;
+    for _nil in 0..nils {
+        all.push(Value::Nil)?;
+    }
+    Ok(all)
+}

@@ -1,0 +1,737 @@
+//! The machine: code, sends and activations, in one cycle.
+//!
+//! Each function says of which program it does what, from the objects and the variables at hand.
+//! `depth` is how many activations more may begin. The arguments of a message stand on the stack,
+//! the last one on top, with the receiver below them.
+#![tactic(auto, using(crate::proofs::Runs::runs))]
+
+ghost use Rattle.std.specs.Prelude.{◌≡◌, ◌<◌, [], ◌∷◌, suc, length, get_or, take, drop, reverse, slice_get, option_map, option_copied, nat_eq, IfOk, IfSome, Some};
+ghost use Rattle.gem_object.specs.declared.value.Value.TheVariants.{Nil};
+ghost use Rattle.st_grammar.specs.Grammar.{method};
+ghost use Rattle.st_grammar_laws.specs.TreeOf.{tree_of};
+ghost use Rattle.tree_meaning.specs.Bodies.{params_count, temps_count, method_body, block_body};
+ghost use Rattle.tree_meaning.specs.Calls.{activation, evaluation, call_block_at};
+ghost use Rattle.object_programs.specs.Run.{and_then};
+ghost use Rattle.prim_rules.specs.Rules.{rule_of};
+ghost use Rattle.gem_language.specs.Commands.{selector_of};
+ghost use Rattle.gem_language.specs.Sends.{outside, callee, send_by, call_found, call_code, call_source, primitive_value};
+ghost use Rattle.running_objects.specs.Seen.{Keeps};
+ghost use Rattle.running_objects.specs.Ran.{Ran};
+ghost use Rattle.st_compiler.specs.TreeCode.{send_op};
+ghost use Rattle.st_compiler.specs.Emitted.{instruction_of, instructions};
+ghost use Rattle.st_machine.specs.Led.{LedBy, IsForward};
+ghost use Rattle.st_machine.specs.Parts.{table_of, HasPart, part_run, framed};
+
+use crate::border::{find_method, primitive, take_unit};
+use crate::cache::CodeCache;
+use crate::code_block::CodeBlock;
+use crate::conditions::jump_unless;
+use crate::flow::Flow;
+use crate::jumps::{jump, jump_back, spend_unit};
+use crate::layers::Layers;
+use crate::leaving::{leave_block, leave_method};
+use crate::locals::Locals;
+use crate::loops::{loop_next, loop_start, loop_step};
+use crate::names::{push_block, push_local, push_name, store_local, store_name};
+use crate::outline::Outline;
+use crate::places::next_of;
+use crate::pushes::{duplicate, make_literal, pop, push_self, push_singleton, push_value};
+use crate::returns::{return_block, return_home, return_method};
+use crate::scopes::{enter, leave, put_scopes};
+use crate::shared_code::{Part, SharedCode};
+use gem_language::Found;
+use gem_object::{MethodCode, Value};
+use gem_value::Oid;
+use object_programs::Fault;
+use prim_rules::PrimitiveAnswer;
+use running_objects::{Objects, Stop};
+use st_compiler::Instr;
+use std::alloc::Global;
+use texts::Text;
+use tree_meaning::{Mark, Singleton};
+
+/// Runs a part of a text, from its first instruction to its end. The activation that runs has
+/// nothing on the stack yet.
+#[cycle(machine)]
+pub(crate) fn execute<O: Objects>(
+    alloc: Global,
+    objects: &mut O,
+    locals: &mut Locals,
+    stack: &mut Layers<Value>,
+    chain: &mut Layers<Mark>,
+    cache: &mut CodeCache,
+    frame: &Outline,
+    code: &SharedCode,
+    part: Part,
+    depth: u32,
+) -> Result<Value, Stop>
+    requires part { HasPart code.now part }
+    requires empty { stack.old.own ≡ [] }
+    ensures ran { Ran (part_run (outside depth) code.now part (framed chain.old.own frame.now))
+        (O.seen objects.old) locals.old result (O.seen objects.new) locals.new }
+    ensures stack { stack.new.below ≡ stack.old.below }
+    ensures chain { chain.new.below ≡ chain.old.below }
+{
+    let instrs = code.code_of(part);
+    let mut at = 0;
+    let mut jumps: u64 = 0;
+    'run: loop {
+        let Some(instr) = instr_at(instrs, at) else {
+            unreachable!()
+        };
+        let led = step(
+            alloc, objects, locals, stack, chain, cache, frame, code, instr, at, depth,
+        );
+        let flow = match led {
+            Ok(flow) => flow,
+            Err(stop) => return Err(stop),
+        };
+        match flow {
+            Flow::Goes(place) => at = place,
+            Flow::Jumps(place) => {
+                let Some(more) = jumps.checked_add(1) else {
+                    return Err(Stop::NoMemory);
+                };
+                jumps = more;
+                at = place;
+            }
+            Flow::Leaves(answer) => return Ok(answer),
+            Flow::Stuck => unreachable!(),
+        }
+    }
+}
+
+/// The instruction at a place.
+fn instr_at(instrs: &[Instr], at: usize) -> Option<&Instr>
+    ensures is { option_map instruction_of (option_copied result)
+        ≡ slice_get (instructions instrs.now) at }
+    ensures within { IfSome result (λ _. at < length instrs.now) }
+{
+    instrs.get(at)
+}
+
+/// Carries out one instruction.
+#[cycle(machine)]
+fn step<O: Objects>(
+    alloc: Global,
+    objects: &mut O,
+    locals: &mut Locals,
+    stack: &mut Layers<Value>,
+    chain: &mut Layers<Mark>,
+    cache: &mut CodeCache,
+    frame: &Outline,
+    code: &SharedCode,
+    instr: &Instr,
+    at: usize,
+    depth: u32,
+) -> Result<Flow, Stop>
+    ensures keeps { Keeps (O.seen objects.old) (O.seen objects.new) }
+    ensures led { LedBy (outside depth) (table_of code.now) (instruction_of instr.now) at
+        stack.old.own chain.old.own frame.now (O.seen objects.old) locals.old result
+        stack.new.own chain.new.own (O.seen objects.new) locals.new }
+    ensures forward { IfOk result (IsForward at) }
+    ensures stack { stack.new.below ≡ stack.old.below }
+    ensures chain { chain.new.below ≡ chain.old.below }
+{
+    match instr {
+        Instr::PushSelf => push_self(objects, locals, stack, chain, frame, code, at, depth),
+        Instr::PushNil => push_singleton(
+            objects,
+            locals,
+            stack,
+            chain,
+            frame,
+            code,
+            Singleton::Nil,
+            at,
+            depth,
+        ),
+        Instr::PushTrue => push_singleton(
+            objects,
+            locals,
+            stack,
+            chain,
+            frame,
+            code,
+            Singleton::True,
+            at,
+            depth,
+        ),
+        Instr::PushFalse => push_singleton(
+            objects,
+            locals,
+            stack,
+            chain,
+            frame,
+            code,
+            Singleton::False,
+            at,
+            depth,
+        ),
+        Instr::PushLit(value) => {
+            push_value(objects, locals, stack, chain, frame, code, value, at, depth)
+        }
+        Instr::MakeLit(tree) => make_literal(
+            alloc, objects, locals, stack, chain, frame, code, tree, at, depth,
+        ),
+        Instr::PushLocal(scope, index) => push_local(
+            objects, locals, stack, chain, frame, code, *scope, *index, at, depth,
+        ),
+        Instr::StoreLocal(scope, index) => store_local(
+            objects, locals, stack, chain, frame, code, *scope, *index, at, depth,
+        ),
+        Instr::PushName(name) => {
+            push_name(objects, locals, stack, chain, frame, code, name, at, depth)
+        }
+        Instr::StoreName(name) => {
+            store_name(objects, locals, stack, chain, frame, code, name, at, depth)
+        }
+        Instr::Pop => pop(objects, locals, stack, chain, frame, code, at, depth),
+        Instr::Dup => duplicate(objects, locals, stack, chain, frame, code, at, depth),
+        Instr::Send(selector, count) => send(
+            alloc, objects, locals, stack, chain, cache, frame, code, false, selector, *count, at,
+            depth,
+        ),
+        Instr::SuperSend(selector, count) => send(
+            alloc, objects, locals, stack, chain, cache, frame, code, true, selector, *count, at,
+            depth,
+        ),
+        Instr::PushBlock(number) => push_block(
+            alloc, objects, locals, stack, chain, frame, code, *number, at, depth,
+        ),
+        Instr::ReturnMethod => return_method(objects, locals, stack, chain, frame, code, at, depth),
+        Instr::ReturnHome => return_home(objects, locals, stack, chain, frame, code, at, depth),
+        Instr::ReturnBlock => return_block(objects, locals, stack, chain, frame, code, at, depth),
+        Instr::Jump(ahead) => jump(
+            objects, locals, stack, chain, frame, code, *ahead, at, depth,
+        ),
+        Instr::JumpBack(back) => {
+            jump_back(objects, locals, stack, chain, frame, code, *back, at, depth)
+        }
+        Instr::JumpTrue(ahead) => jump_unless(
+            objects, locals, stack, chain, frame, code, false, *ahead, at, depth,
+        ),
+        Instr::JumpFalse(ahead) => jump_unless(
+            objects, locals, stack, chain, frame, code, true, *ahead, at, depth,
+        ),
+        Instr::TakeUnit => spend_unit(objects, locals, stack, chain, frame, code, at, depth),
+        Instr::Enter(count) => enter(
+            alloc, objects, locals, stack, chain, frame, code, *count, at, depth,
+        ),
+        Instr::Leave => leave(objects, locals, stack, chain, frame, code, at, depth),
+        Instr::LoopStart => loop_start(objects, locals, stack, chain, frame, code, at, depth),
+        Instr::LoopNext(ahead) => {
+            loop_next(
+                objects, locals, stack, chain, frame, code, *ahead, at, depth,
+            )
+        }
+        Instr::LoopStep(back) => {
+            loop_step(objects, locals, stack, chain, frame, code, *back, at, depth)
+        }
+    }
+}
+
+/// Sends a message with so many arguments.
+#[cycle(machine)]
+fn send<O: Objects>(
+    alloc: Global,
+    objects: &mut O,
+    locals: &mut Locals,
+    stack: &mut Layers<Value>,
+    chain: &mut Layers<Mark>,
+    cache: &mut CodeCache,
+    frame: &Outline,
+    code: &SharedCode,
+    to_super: bool,
+    selector: &Text,
+    count: usize,
+    at: usize,
+    depth: u32,
+) -> Result<Flow, Stop>
+    ensures keeps { Keeps (O.seen objects.old) (O.seen objects.new) }
+    ensures led { LedBy (outside depth) (table_of code.now) (send_op to_super selector.now count) at
+        stack.old.own chain.old.own frame.now (O.seen objects.old) locals.old result
+        stack.new.own chain.new.own (O.seen objects.new) locals.new }
+    ensures forward { IfOk result (IsForward at) }
+    ensures stack { stack.new.below ≡ stack.old.below }
+    ensures chain { chain.new.below ≡ chain.old.below }
+{
+    if stack.height() <= count {
+        return Ok(Flow::Stuck);
+    }
+    let answer = answer_of(
+        alloc, objects, locals, stack, chain, cache, frame, to_super, selector, count, depth,
+    )?;
+    stack.push(answer)?;
+    Ok(Flow::Goes(next_of(at)?))
+}
+
+/// The answer to a message: a unit, the look-up, and the method.
+#[cycle(machine)]
+#[tactic(auto, using(crate::proofs::Runs::runs), unfolding(gem_language::specs::Sends::send_by))]
+fn answer_of<O: Objects>(
+    alloc: Global,
+    objects: &mut O,
+    locals: &mut Locals,
+    stack: &mut Layers<Value>,
+    chain: &mut Layers<Mark>,
+    cache: &mut CodeCache,
+    frame: &Outline,
+    to_super: bool,
+    selector: &Text,
+    count: usize,
+    depth: u32,
+) -> Result<Value, Stop>
+    requires { count < length stack.old.own }
+    ensures ran { Ran (send_by (callee depth) to_super selector.now (framed chain.old.own frame.now)
+        (get_or stack.old.own count Nil) (take count stack.old.own))
+        (O.seen objects.old) locals.old result (O.seen objects.new) locals.new }
+    ensures own { IfOk result (λ _. stack.new.own ≡ drop (suc count) stack.old.own) }
+    ensures stack { stack.new.below ≡ stack.old.below }
+    ensures chain { chain.new ≡ chain.old }
+{
+    take_unit(objects, locals)?;
+    let Some(receiver) = stack.item(count) else {
+        unreachable!()
+    };
+    let found = find_method(objects, locals, chain, to_super, frame, receiver, selector)?;
+    call_found(
+        alloc, objects, locals, stack, chain, cache, selector, found, count, depth,
+    )
+}
+
+/// The method that was found is called: E1 where none was.
+#[cycle(machine)]
+fn call_found<O: Objects>(
+    alloc: Global,
+    objects: &mut O,
+    locals: &mut Locals,
+    stack: &mut Layers<Value>,
+    chain: &mut Layers<Mark>,
+    cache: &mut CodeCache,
+    selector: &Text,
+    found: Option<Found>,
+    count: usize,
+    depth: u32,
+) -> Result<Value, Stop>
+    requires { count < length stack.old.own }
+    ensures ran { Ran (call_found (callee depth) selector.now found
+        (get_or stack.old.own count Nil) (reverse (take count stack.old.own)))
+        (O.seen objects.old) locals.old result (O.seen objects.new) locals.new }
+    ensures own { IfOk result (λ _. stack.new.own ≡ drop (suc count) stack.old.own) }
+    ensures stack { stack.new.below ≡ stack.old.below }
+    ensures chain { chain.new ≡ chain.old }
+{
+    match found {
+        Some(found) => call_code(
+            alloc, objects, locals, stack, chain, cache, selector, &found, count, depth,
+        ),
+        None => Err(Stop::Fails(Fault::NotUnderstood(selector.clone()?))),
+    }
+}
+
+/// What a method does: its primitive, or its source.
+#[cycle(machine)]
+fn call_code<O: Objects>(
+    alloc: Global,
+    objects: &mut O,
+    locals: &mut Locals,
+    stack: &mut Layers<Value>,
+    chain: &mut Layers<Mark>,
+    cache: &mut CodeCache,
+    selector: &Text,
+    found: &Found,
+    count: usize,
+    depth: u32,
+) -> Result<Value, Stop>
+    requires { count < length stack.old.own }
+    ensures ran { Ran (call_code (callee depth) selector.now found.now found.now.code
+        (get_or stack.old.own count Nil) (reverse (take count stack.old.own)))
+        (O.seen objects.old) locals.old result (O.seen objects.new) locals.new }
+    ensures own { IfOk result (λ _. stack.new.own ≡ drop (suc count) stack.old.own) }
+    ensures stack { stack.new.below ≡ stack.old.below }
+    ensures chain { chain.new ≡ chain.old }
+{
+    match &found.code {
+        MethodCode::Primitive(number) => {
+            call_primitive(
+                alloc, objects, locals, stack, chain, cache, *number, count, depth,
+            )
+        }
+        MethodCode::Source(source) => {
+            call_source(
+                alloc, objects, locals, stack, chain, cache, selector, found, source, count, depth,
+            )
+        }
+    }
+}
+
+/// What a primitive comes to.
+#[cycle(machine)]
+fn call_primitive<O: Objects>(
+    alloc: Global,
+    objects: &mut O,
+    locals: &mut Locals,
+    stack: &mut Layers<Value>,
+    chain: &mut Layers<Mark>,
+    cache: &mut CodeCache,
+    number: u8,
+    count: usize,
+    depth: u32,
+) -> Result<Value, Stop>
+    requires { count < length stack.old.own }
+    ensures ran { Ran (and_then (rule_of number
+        (get_or stack.old.own count Nil) (reverse (take count stack.old.own)))
+        (λ answer. primitive_value (callee depth) answer))
+        (O.seen objects.old) locals.old result (O.seen objects.new) locals.new }
+    ensures own { IfOk result (λ _. stack.new.own ≡ drop (suc count) stack.old.own) }
+    ensures stack { stack.new.below ≡ stack.old.below }
+    ensures chain { chain.new ≡ chain.old }
+{
+    let Some(receiver) = stack.item(count) else {
+        unreachable!()
+    };
+    let answer = primitive(alloc, objects, locals, number, receiver, stack.upper(count))?;
+    stack.drop_upper(count + 1);
+    value_of_primitive(alloc, objects, locals, stack, chain, cache, answer, depth)
+}
+
+/// What a primitive's answer comes to: its value, or that of the block that it evaluates.
+#[cycle(machine)]
+fn value_of_primitive<O: Objects>(
+    alloc: Global,
+    objects: &mut O,
+    locals: &mut Locals,
+    stack: &mut Layers<Value>,
+    chain: &mut Layers<Mark>,
+    cache: &mut CodeCache,
+    answer: PrimitiveAnswer,
+    depth: u32,
+) -> Result<Value, Stop>
+    ensures ran { Ran (primitive_value (callee depth) answer)
+        (O.seen objects.old) locals.old result (O.seen objects.new) locals.new }
+    ensures stack { stack.new ≡ stack.old }
+    ensures chain { chain.new ≡ chain.old }
+{
+    match answer {
+        PrimitiveAnswer::Gives(value) => Ok(value),
+        PrimitiveAnswer::Evaluates(block, arguments) => call_block(
+            alloc,
+            objects,
+            locals,
+            stack,
+            chain,
+            cache,
+            block.number,
+            arguments.into_items(),
+            depth,
+        ),
+    }
+}
+
+/// A method with source is run by its code; E1 where the source has no tree.
+#[cycle(machine)]
+fn call_source<O: Objects>(
+    alloc: Global,
+    objects: &mut O,
+    locals: &mut Locals,
+    stack: &mut Layers<Value>,
+    chain: &mut Layers<Mark>,
+    cache: &mut CodeCache,
+    selector: &Text,
+    found: &Found,
+    source: &Text,
+    count: usize,
+    depth: u32,
+) -> Result<Value, Stop>
+    requires { count < length stack.old.own }
+    ensures ran { Ran (call_source (callee depth) selector.now found.now
+        (tree_of method source.now) (get_or stack.old.own count Nil)
+        (reverse (take count stack.old.own)))
+        (O.seen objects.old) locals.old result (O.seen objects.new) locals.new }
+    ensures own { IfOk result (λ _. stack.new.own ≡ drop (suc count) stack.old.own) }
+    ensures stack { stack.new.below ≡ stack.old.below }
+    ensures chain { chain.new ≡ chain.old }
+{
+    match cache.code_of(alloc, source)? {
+        Some(code) => call_method(
+            alloc,
+            objects,
+            locals,
+            stack,
+            chain,
+            cache,
+            &code,
+            found.holder,
+            found.class_side,
+            count,
+            depth,
+        ),
+        None => Err(Stop::Fails(Fault::NotUnderstood(selector.clone()?))),
+    }
+}
+
+/// A method with code is called: E14 where no activation may begin.
+#[cycle(machine)]
+fn call_method<O: Objects>(
+    alloc: Global,
+    objects: &mut O,
+    locals: &mut Locals,
+    stack: &mut Layers<Value>,
+    chain: &mut Layers<Mark>,
+    cache: &mut CodeCache,
+    code: &SharedCode,
+    holder: Oid,
+    class_side: bool,
+    count: usize,
+    depth: u32,
+) -> Result<Value, Stop>
+    requires height { count < length stack.old.own }
+    requires method { code.now.selector ≡ Some (selector_of code.now) }
+    ensures ran { Ran ((callee depth).method code.now holder class_side
+        (get_or stack.old.own count Nil) (reverse (take count stack.old.own)))
+        (O.seen objects.old) locals.old result (O.seen objects.new) locals.new }
+    ensures own { IfOk result (λ _. stack.new.own ≡ drop (suc count) stack.old.own) }
+    ensures stack { stack.new.below ≡ stack.old.below }
+    ensures chain { chain.new ≡ chain.old }
+{
+    if depth == 0 {
+        return Err(Stop::Fails(Fault::Depth));
+    }
+    activate(
+        alloc,
+        objects,
+        locals,
+        stack,
+        chain,
+        cache,
+        code,
+        holder,
+        class_side,
+        count,
+        depth - 1,
+    )
+}
+
+/// The activation of a method, in which so many more may begin.
+#[cycle(machine)]
+fn activate<O: Objects>(
+    alloc: Global,
+    objects: &mut O,
+    locals: &mut Locals,
+    stack: &mut Layers<Value>,
+    chain: &mut Layers<Mark>,
+    cache: &mut CodeCache,
+    code: &SharedCode,
+    holder: Oid,
+    class_side: bool,
+    count: usize,
+    depth: u32,
+) -> Result<Value, Stop>
+    requires height { count < length stack.old.own }
+    requires method { code.now.selector ≡ Some (selector_of code.now) }
+    ensures ran { Ran (activation (method_body (outside depth) code.now) (length code.now.temps)
+        holder class_side (get_or stack.old.own count Nil) (reverse (take count stack.old.own)))
+        (O.seen objects.old) locals.old result (O.seen objects.new) locals.new }
+    ensures own { IfOk result (λ _. stack.new.own ≡ drop (suc count) stack.old.own) }
+    ensures stack { stack.new.below ≡ stack.old.below }
+    ensures chain { chain.new ≡ chain.old }
+{
+    let mark = locals.mark();
+    locals.begin_method(stack, count, code.temps_count())?;
+    let Some(receiver) = stack.pop() else {
+        unreachable!()
+    };
+    let frame = Outline::of(alloc, receiver, mark.living, holder, class_side)?;
+    let ended = run_inside(
+        alloc,
+        objects,
+        locals,
+        stack,
+        chain,
+        cache,
+        &frame,
+        &[],
+        mark,
+        code,
+        Part::Whole,
+        depth,
+    );
+    leave_method(objects, locals, mark, ended)
+}
+
+/// Runs a part of a text with these scopes, the innermost one last, and the one of this mark inside
+/// them, above what stands on the stack.
+#[cycle(machine)]
+pub(crate) fn run_inside<O: Objects>(
+    alloc: Global,
+    objects: &mut O,
+    locals: &mut Locals,
+    stack: &mut Layers<Value>,
+    chain: &mut Layers<Mark>,
+    cache: &mut CodeCache,
+    frame: &Outline,
+    scopes: &[Mark],
+    mark: Mark,
+    code: &SharedCode,
+    part: Part,
+    depth: u32,
+) -> Result<Value, Stop>
+    requires { HasPart code.now part }
+    ensures ran { Ran (part_run (outside depth) code.now part
+        (framed (mark ∷ reverse scopes.now) frame.now))
+        (O.seen objects.old) locals.old result (O.seen objects.new) locals.new }
+    ensures stack { stack.new ≡ stack.old }
+    ensures chain { chain.new ≡ chain.old }
+{
+    let values = stack.begin();
+    let marks = chain.begin();
+    let ended = run_with(
+        alloc, objects, locals, stack, chain, cache, frame, scopes, mark, code, part, depth,
+    );
+    chain.end(marks);
+    stack.end(values);
+    ended
+}
+
+/// The same, where the activation that runs has no scopes and no values yet.
+#[cycle(machine)]
+fn run_with<O: Objects>(
+    alloc: Global,
+    objects: &mut O,
+    locals: &mut Locals,
+    stack: &mut Layers<Value>,
+    chain: &mut Layers<Mark>,
+    cache: &mut CodeCache,
+    frame: &Outline,
+    scopes: &[Mark],
+    mark: Mark,
+    code: &SharedCode,
+    part: Part,
+    depth: u32,
+) -> Result<Value, Stop>
+    requires part { HasPart code.now part }
+    requires no_values { stack.old.own ≡ [] }
+    requires no_scopes { chain.old.own ≡ [] }
+    ensures ran { Ran (part_run (outside depth) code.now part
+        (framed (mark ∷ reverse scopes.now) frame.now))
+        (O.seen objects.old) locals.old result (O.seen objects.new) locals.new }
+    ensures stack { stack.new.below ≡ stack.old.below }
+    ensures chain { chain.new.below ≡ chain.old.below }
+{
+    put_scopes(chain, scopes, mark)?;
+    execute(
+        alloc, objects, locals, stack, chain, cache, frame, code, part, depth,
+    )
+}
+
+/// The made block of this number is called: E9 unless it takes so many arguments.
+#[cycle(machine)]
+#[tactic(auto, using(crate::proofs::Runs::runs), unfolding(tree_meaning::specs::Calls::call_block_at))]
+fn call_block<O: Objects>(
+    alloc: Global,
+    objects: &mut O,
+    locals: &mut Locals,
+    stack: &mut Layers<Value>,
+    chain: &mut Layers<Mark>,
+    cache: &mut CodeCache,
+    number: u64,
+    arguments: Vec<Value>,
+    depth: u32,
+) -> Result<Value, Stop>
+    ensures ran { Ran (call_block_at (callee depth).block number arguments.items)
+        (O.seen objects.old) locals.old result (O.seen objects.new) locals.new }
+    ensures stack { stack.new ≡ stack.old }
+    ensures chain { chain.new ≡ chain.old }
+{
+    let Some(made) = locals.block(number) else {
+        return Err(Stop::Fails(Fault::ArgumentKind));
+    };
+    let made = made.clone()?;
+    if !takes(&made, &arguments) {
+        return Err(Stop::Fails(Fault::BlockArgumentCount));
+    }
+    call_made(
+        alloc, objects, locals, stack, chain, cache, &made, arguments, depth,
+    )
+}
+
+/// Whether a block takes so many arguments.
+fn takes(made: &CodeBlock, arguments: &[Value]) -> bool
+    ensures { result ≡ nat_eq (length arguments.now) (params_count made.now.tree) }
+{
+    arguments.len() == made.params_count()
+}
+
+/// A made block is called: E14 where no activation may begin.
+#[cycle(machine)]
+fn call_made<O: Objects>(
+    alloc: Global,
+    objects: &mut O,
+    locals: &mut Locals,
+    stack: &mut Layers<Value>,
+    chain: &mut Layers<Mark>,
+    cache: &mut CodeCache,
+    made: &CodeBlock,
+    arguments: Vec<Value>,
+    depth: u32,
+) -> Result<Value, Stop>
+    ensures ran { Ran ((callee depth).block made.now arguments.items)
+        (O.seen objects.old) locals.old result (O.seen objects.new) locals.new }
+    ensures stack { stack.new ≡ stack.old }
+    ensures chain { chain.new ≡ chain.old }
+{
+    if depth == 0 {
+        return Err(Stop::Fails(Fault::Depth));
+    }
+    evaluate(
+        alloc,
+        objects,
+        locals,
+        stack,
+        chain,
+        cache,
+        made,
+        arguments,
+        depth - 1,
+    )
+}
+
+/// The evaluation of a made block, in which so many activations more may begin.
+#[cycle(machine)]
+fn evaluate<O: Objects>(
+    alloc: Global,
+    objects: &mut O,
+    locals: &mut Locals,
+    stack: &mut Layers<Value>,
+    chain: &mut Layers<Mark>,
+    cache: &mut CodeCache,
+    made: &CodeBlock,
+    arguments: Vec<Value>,
+    depth: u32,
+) -> Result<Value, Stop>
+    ensures ran { Ran (evaluation (block_body (outside depth) made.now.tree made.now.place)
+        (temps_count made.now.tree) made.now.frame arguments.items)
+        (O.seen objects.old) locals.old result (O.seen objects.new) locals.new }
+    ensures stack { stack.new ≡ stack.old }
+    ensures chain { chain.new ≡ chain.old }
+{
+    let mark = locals.mark();
+    locals.open_scope(arguments, made.temps_count())?;
+    let (code, number) = made.code();
+    let ended = run_inside(
+        alloc,
+        objects,
+        locals,
+        stack,
+        chain,
+        cache,
+        made.outline(),
+        made.scopes(),
+        mark,
+        code,
+        Part::Block(number),
+        depth,
+    );
+    leave_block(objects, locals, mark, ended)
+}
