@@ -32,10 +32,10 @@ value_by : (entry : Text × Program) (value : Option Program) (found : Option (T
 value_by entry value found same true = refl
 value_by entry value found same false = same
 
-is_kept_by : (entry : Text × Program) (found : Option (Text × Program)) (kept : Bool) → is_some found ≡ kept
-    → (test : Bool) → is_some (cond test (Some entry) found) ≡ cond test true kept
-is_kept_by entry found kept same true = refl
-is_kept_by entry found kept same false = same
+is_kept_by : {A : Type 0} (one : A) (found : Option A) (kept : Bool) → is_some found ≡ kept
+    → (test : Bool) → is_some (cond test (Some one) found) ≡ cond test true kept
+is_kept_by one found kept same true = refl
+is_kept_by one found kept same false = same
 
 module _ (source : Text) where
   removed : (entries : Entries) → sources (remove_entry (bytes_eq source) entries) ≡ without source (sources entries)
@@ -52,6 +52,11 @@ module _ (source : Text) where
   kept : (entries : Entries) → is_some (lookup_entry (bytes_eq source) entries) ≡ is_kept source (sources entries)
   kept [] = refl
   kept (entry ∷ rest) = is_kept_by entry (lookup_entry (bytes_eq source) rest) (is_kept source (sources rest)) (kept rest)
+      (bytes_eq source entry.0)
+
+  pub there_is : (entries : Entries) → is_some (lookup (bytes_eq source) entries) ≡ is_kept source (sources entries)
+  there_is [] = refl
+  there_is (entry ∷ rest) = is_kept_by entry.1 (lookup (bytes_eq source) rest) (is_kept source (sources rest)) (there_is rest)
       (bytes_eq source entry.0)
 
   used_where : (list : List Text) (is : Bool) → is_kept source list ≡ is

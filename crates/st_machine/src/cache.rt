@@ -1,7 +1,7 @@
 //! The code of the methods that were used last.
 ghost use Rattle.std.specs.Prelude.{◌≡◌, [], bytes_eq, None, IfOk};
 ghost use Rattle.std.specs.Map.{lookup};
-ghost use Rattle.st_machine.specs.Methods.{sources, AllAreCode, IsMethodOf, UsedBy};
+ghost use Rattle.st_machine.specs.Methods.{is_kept, sources, AllAreCode, IsMethodOf, UsedBy};
 
 use crate::shared_code::SharedCode;
 use lru::LruCache;
@@ -45,6 +45,13 @@ impl CodeCache {
         Ok(CodeCache {
             entries: LruCache::new(alloc, capacity)?,
         })
+    }
+
+    /// Whether the code of a source is kept. It takes no memory.
+    pub fn holds(&self, source: &Text) -> bool
+        ensures { result ≡ is_kept source.now self.now }
+    {
+        self.entries.contains(source)
     }
 
     /// The code of a method's source, where the source has a tree. Then it stands first, the others

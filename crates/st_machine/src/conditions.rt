@@ -30,9 +30,9 @@ pub(crate) fn jump_unless<O: Objects>(
     place: usize,
     depth: u32,
 ) -> Result<Flow, Stop>
-    ensures led { LedBy (outside depth) (table_of code.now) (jump_unless when ahead) place stack.old.own chain.now.own
-        frame.now (O.seen objects.now) locals.now result stack.new.own chain.now.own
-        (O.seen objects.now) locals.now }
+    ensures led { LedBy (outside depth) (table_of code.now) (jump_unless when ahead) place
+        stack.old.own chain.now.own frame.now (O.seen objects.now) locals.now result stack.new.own
+        chain.now.own (O.seen objects.now) locals.now }
     ensures forward { IfOk result (IsForward place) }
     ensures stack { stack.new.below ≡ stack.old.below }
 {

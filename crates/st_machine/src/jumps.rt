@@ -29,8 +29,8 @@ pub(crate) fn jump<O: Objects>(
     place: usize,
     depth: u32,
 ) -> Result<Flow, Stop>
-    ensures led { LedBy (outside depth) (table_of code.now) (Jump ahead) place stack.now.own chain.now.own
-        frame.now (O.seen objects.now) locals.now result stack.now.own chain.now.own
+    ensures led { LedBy (outside depth) (table_of code.now) (Jump ahead) place stack.now.own
+        chain.now.own frame.now (O.seen objects.now) locals.now result stack.now.own chain.now.own
         (O.seen objects.now) locals.now }
     ensures forward { IfOk result (IsForward place) }
 {
@@ -49,8 +49,8 @@ pub(crate) fn jump_back<O: Objects>(
     place: usize,
     depth: u32,
 ) -> Result<Flow, Stop>
-    ensures led { LedBy (outside depth) (table_of code.now) (JumpBack back) place stack.now.own chain.now.own
-        frame.now (O.seen objects.now) locals.now result stack.now.own chain.now.own
+    ensures led { LedBy (outside depth) (table_of code.now) (JumpBack back) place stack.now.own
+        chain.now.own frame.now (O.seen objects.now) locals.now result stack.now.own chain.now.own
         (O.seen objects.now) locals.now }
     ensures forward { IfOk result (IsForward place) }
 {
@@ -69,8 +69,8 @@ pub(crate) fn spend_unit<O: Objects>(
     depth: u32,
 ) -> Result<Flow, Stop>
     ensures keeps { Keeps (O.seen objects.old) (O.seen objects.new) }
-    ensures led { LedBy (outside depth) (table_of code.now) TakeUnit place stack.now.own chain.now.own
-        frame.now (O.seen objects.old) locals.now result stack.now.own chain.now.own
+    ensures led { LedBy (outside depth) (table_of code.now) TakeUnit place stack.now.own
+        chain.now.own frame.now (O.seen objects.old) locals.now result stack.now.own chain.now.own
         (O.seen objects.new) locals.now }
     ensures forward { IfOk result (IsForward place) }
 {

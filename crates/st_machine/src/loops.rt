@@ -29,8 +29,8 @@ pub(crate) fn loop_start<O: Objects>(
     place: usize,
     depth: u32,
 ) -> Result<Flow, Stop>
-    ensures led { LedBy (outside depth) (table_of code.now) LoopStart place stack.now.own chain.now.own
-        frame.now (O.seen objects.now) locals.now result stack.now.own chain.now.own
+    ensures led { LedBy (outside depth) (table_of code.now) LoopStart place stack.now.own
+        chain.now.own frame.now (O.seen objects.now) locals.now result stack.now.own chain.now.own
         (O.seen objects.now) locals.now }
     ensures forward { IfOk result (IsForward place) }
 {
@@ -55,8 +55,8 @@ pub(crate) fn loop_next<O: Objects>(
     place: usize,
     depth: u32,
 ) -> Result<Flow, Stop>
-    ensures led { LedBy (outside depth) (table_of code.now) (LoopNext ahead) place stack.old.own chain.now.own
-        frame.now (O.seen objects.now) locals.now result stack.new.own chain.now.own
+    ensures led { LedBy (outside depth) (table_of code.now) (LoopNext ahead) place stack.old.own
+        chain.now.own frame.now (O.seen objects.now) locals.now result stack.new.own chain.now.own
         (O.seen objects.now) locals.now }
     ensures forward { IfOk result (IsForward place) }
     ensures stack { stack.new.below ≡ stack.old.below }
@@ -88,8 +88,8 @@ pub(crate) fn loop_step<O: Objects>(
     place: usize,
     depth: u32,
 ) -> Result<Flow, Stop>
-    ensures led { LedBy (outside depth) (table_of code.now) (LoopStep back) place stack.old.own chain.now.own
-        frame.now (O.seen objects.now) locals.now result stack.new.own chain.now.own
+    ensures led { LedBy (outside depth) (table_of code.now) (LoopStep back) place stack.old.own
+        chain.now.own frame.now (O.seen objects.now) locals.now result stack.new.own chain.now.own
         (O.seen objects.now) locals.now }
     ensures forward { IfOk result (IsForward place) }
     ensures stack { stack.new.below ≡ stack.old.below }

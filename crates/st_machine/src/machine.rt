@@ -127,8 +127,8 @@ fn step<O: Objects>(
 ) -> Result<Flow, Stop>
     ensures keeps { Keeps (O.seen objects.old) (O.seen objects.new) }
     ensures led { LedBy (outside depth) (table_of code.now) (instruction_of instr.now) at
-        stack.old.own chain.old.own frame.now (O.seen objects.old) locals.old result
-        stack.new.own chain.new.own (O.seen objects.new) locals.new }
+        stack.old.own chain.old.own frame.now (O.seen objects.old) locals.old result stack.new.own
+        chain.new.own (O.seen objects.new) locals.new }
     ensures forward { IfOk result (IsForward at) }
     ensures stack { stack.new.below ≡ stack.old.below }
     ensures chain { chain.new.below ≡ chain.old.below }
@@ -250,8 +250,8 @@ fn send<O: Objects>(
 ) -> Result<Flow, Stop>
     ensures keeps { Keeps (O.seen objects.old) (O.seen objects.new) }
     ensures led { LedBy (outside depth) (table_of code.now) (send_op to_super selector.now count) at
-        stack.old.own chain.old.own frame.now (O.seen objects.old) locals.old result
-        stack.new.own chain.new.own (O.seen objects.new) locals.new }
+        stack.old.own chain.old.own frame.now (O.seen objects.old) locals.old result stack.new.own
+        chain.new.own (O.seen objects.new) locals.new }
     ensures forward { IfOk result (IsForward at) }
     ensures stack { stack.new.below ≡ stack.old.below }
     ensures chain { chain.new.below ≡ chain.old.below }

@@ -35,9 +35,9 @@ pub(crate) fn push_local<O: Objects>(
     place: usize,
     depth: u32,
 ) -> Result<Flow, Stop>
-    ensures led { LedBy (outside depth) (table_of code.now) (PushLocal scope index) place stack.old.own chain.now.own
-        frame.now (O.seen objects.now) locals.now result stack.new.own chain.now.own
-        (O.seen objects.now) locals.now }
+    ensures led { LedBy (outside depth) (table_of code.now) (PushLocal scope index) place
+        stack.old.own chain.now.own frame.now (O.seen objects.now) locals.now result stack.new.own
+        chain.now.own (O.seen objects.now) locals.now }
     ensures forward { IfOk result (IsForward place) }
     ensures stack { stack.new.below ≡ stack.old.below }
 {
@@ -60,9 +60,9 @@ pub(crate) fn store_local<O: Objects>(
     place: usize,
     depth: u32,
 ) -> Result<Flow, Stop>
-    ensures led { LedBy (outside depth) (table_of code.now) (StoreLocal scope index) place stack.now.own chain.now.own
-        frame.now (O.seen objects.now) locals.old result stack.now.own chain.now.own
-        (O.seen objects.now) locals.new }
+    ensures led { LedBy (outside depth) (table_of code.now) (StoreLocal scope index) place
+        stack.now.own chain.now.own frame.now (O.seen objects.now) locals.old result stack.now.own
+        chain.now.own (O.seen objects.now) locals.new }
     ensures forward { IfOk result (IsForward place) }
 {
     let Some(top) = stack.item(0) else {
@@ -85,8 +85,8 @@ pub(crate) fn push_name<O: Objects>(
     depth: u32,
 ) -> Result<Flow, Stop>
     ensures keeps { Keeps (O.seen objects.old) (O.seen objects.new) }
-    ensures led { LedBy (outside depth) (table_of code.now) (PushName name.now) place stack.old.own chain.now.own
-        frame.now (O.seen objects.old) locals.now result stack.new.own chain.now.own
+    ensures led { LedBy (outside depth) (table_of code.now) (PushName name.now) place stack.old.own
+        chain.now.own frame.now (O.seen objects.old) locals.now result stack.new.own chain.now.own
         (O.seen objects.new) locals.now }
     ensures forward { IfOk result (IsForward place) }
     ensures stack { stack.new.below ≡ stack.old.below }
@@ -109,8 +109,8 @@ pub(crate) fn store_name<O: Objects>(
     depth: u32,
 ) -> Result<Flow, Stop>
     ensures keeps { Keeps (O.seen objects.old) (O.seen objects.new) }
-    ensures led { LedBy (outside depth) (table_of code.now) (StoreName name.now) place stack.old.own chain.now.own
-        frame.now (O.seen objects.old) locals.now result stack.new.own chain.now.own
+    ensures led { LedBy (outside depth) (table_of code.now) (StoreName name.now) place stack.old.own
+        chain.now.own frame.now (O.seen objects.old) locals.now result stack.new.own chain.now.own
         (O.seen objects.new) locals.now }
     ensures forward { IfOk result (IsForward place) }
     ensures stack { stack.new.below ≡ stack.old.below }
@@ -137,8 +137,8 @@ pub(crate) fn push_block<O: Objects>(
     place: usize,
     depth: u32,
 ) -> Result<Flow, Stop>
-    ensures led { LedBy (outside depth) (table_of code.now) (PushBlock number) place stack.old.own chain.now.own
-        frame.now (O.seen objects.now) locals.old result stack.new.own chain.now.own
+    ensures led { LedBy (outside depth) (table_of code.now) (PushBlock number) place stack.old.own
+        chain.now.own frame.now (O.seen objects.now) locals.old result stack.new.own chain.now.own
         (O.seen objects.now) locals.new }
     ensures forward { IfOk result (IsForward place) }
     ensures stack { stack.new.below ≡ stack.old.below }

@@ -33,8 +33,8 @@ pub(crate) fn push_self<O: Objects>(
     place: usize,
     depth: u32,
 ) -> Result<Flow, Stop>
-    ensures led { LedBy (outside depth) (table_of code.now) PushSelf place stack.old.own chain.now.own
-        frame.now (O.seen objects.now) locals.now result stack.new.own chain.now.own
+    ensures led { LedBy (outside depth) (table_of code.now) PushSelf place stack.old.own
+        chain.now.own frame.now (O.seen objects.now) locals.now result stack.new.own chain.now.own
         (O.seen objects.now) locals.now }
     ensures forward { IfOk result (IsForward place) }
     ensures stack { stack.new.below ≡ stack.old.below }
@@ -55,9 +55,9 @@ pub(crate) fn push_singleton<O: Objects>(
     place: usize,
     depth: u32,
 ) -> Result<Flow, Stop>
-    ensures led { LedBy (outside depth) (table_of code.now) (singleton_op singleton) place stack.old.own chain.now.own
-        frame.now (O.seen objects.now) locals.now result stack.new.own chain.now.own
-        (O.seen objects.now) locals.now }
+    ensures led { LedBy (outside depth) (table_of code.now) (singleton_op singleton) place
+        stack.old.own chain.now.own frame.now (O.seen objects.now) locals.now result stack.new.own
+        chain.now.own (O.seen objects.now) locals.now }
     ensures forward { IfOk result (IsForward place) }
     ensures stack { stack.new.below ≡ stack.old.below }
 {
@@ -77,8 +77,8 @@ pub(crate) fn push_value<O: Objects>(
     place: usize,
     depth: u32,
 ) -> Result<Flow, Stop>
-    ensures led { LedBy (outside depth) (table_of code.now) (PushLit value.now) place stack.old.own chain.now.own
-        frame.now (O.seen objects.now) locals.now result stack.new.own chain.now.own
+    ensures led { LedBy (outside depth) (table_of code.now) (PushLit value.now) place stack.old.own
+        chain.now.own frame.now (O.seen objects.now) locals.now result stack.new.own chain.now.own
         (O.seen objects.now) locals.now }
     ensures forward { IfOk result (IsForward place) }
     ensures stack { stack.new.below ≡ stack.old.below }
@@ -101,9 +101,9 @@ pub(crate) fn make_literal<O: Objects>(
     depth: u32,
 ) -> Result<Flow, Stop>
     ensures keeps { Keeps (O.seen objects.old) (O.seen objects.new) }
-    ensures led { LedBy (outside depth) (table_of code.now) (MakeLit (constant_of tree.now)) place stack.old.own chain.now.own
-        frame.now (O.seen objects.old) locals.now result stack.new.own chain.now.own
-        (O.seen objects.new) locals.now }
+    ensures led { LedBy (outside depth) (table_of code.now) (MakeLit (constant_of tree.now)) place
+        stack.old.own chain.now.own frame.now (O.seen objects.old) locals.now result stack.new.own
+        chain.now.own (O.seen objects.new) locals.now }
     ensures forward { IfOk result (IsForward place) }
     ensures stack { stack.new.below ≡ stack.old.below }
 {
@@ -124,8 +124,8 @@ pub(crate) fn pop<O: Objects>(
     depth: u32,
 ) -> Result<Flow, Stop>
     ensures led { LedBy (outside depth) (table_of code.now) Pop place stack.old.own chain.now.own
-        frame.now (O.seen objects.now) locals.now result stack.new.own chain.now.own
-        (O.seen objects.now) locals.now }
+        frame.now (O.seen objects.now) locals.now result stack.new.own chain.now.own (O.seen
+        objects.now) locals.now }
     ensures forward { IfOk result (IsForward place) }
     ensures stack { stack.new.below ≡ stack.old.below }
 {
@@ -147,8 +147,8 @@ pub(crate) fn duplicate<O: Objects>(
     depth: u32,
 ) -> Result<Flow, Stop>
     ensures led { LedBy (outside depth) (table_of code.now) Dup place stack.old.own chain.now.own
-        frame.now (O.seen objects.now) locals.now result stack.new.own chain.now.own
-        (O.seen objects.now) locals.now }
+        frame.now (O.seen objects.now) locals.now result stack.new.own chain.now.own (O.seen
+        objects.now) locals.now }
     ensures forward { IfOk result (IsForward place) }
     ensures stack { stack.new.below ≡ stack.old.below }
 {

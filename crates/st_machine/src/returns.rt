@@ -38,8 +38,8 @@ pub(crate) fn return_method<O: Objects>(
     place: usize,
     depth: u32,
 ) -> Result<Flow, Stop>
-    ensures led { LedBy (outside depth) (table_of code.now) ReturnMethod place stack.old.own chain.now.own
-        frame.now (O.seen objects.now) locals.now result stack.new.own chain.now.own
+    ensures led { LedBy (outside depth) (table_of code.now) ReturnMethod place stack.old.own
+        chain.now.own frame.now (O.seen objects.now) locals.now result stack.new.own chain.now.own
         (O.seen objects.now) locals.now }
     ensures forward { IfOk result (IsForward place) }
     ensures stack { stack.new.below ≡ stack.old.below }
@@ -61,8 +61,8 @@ pub(crate) fn return_home<O: Objects>(
     place: usize,
     depth: u32,
 ) -> Result<Flow, Stop>
-    ensures led { LedBy (outside depth) (table_of code.now) ReturnHome place stack.old.own chain.now.own
-        frame.now (O.seen objects.now) locals.now result stack.new.own chain.now.own
+    ensures led { LedBy (outside depth) (table_of code.now) ReturnHome place stack.old.own
+        chain.now.own frame.now (O.seen objects.now) locals.now result stack.new.own chain.now.own
         (O.seen objects.now) locals.now }
     ensures forward { IfOk result (IsForward place) }
     ensures stack { stack.new.below ≡ stack.old.below }
@@ -87,8 +87,8 @@ pub(crate) fn return_block<O: Objects>(
     place: usize,
     depth: u32,
 ) -> Result<Flow, Stop>
-    ensures led { LedBy (outside depth) (table_of code.now) ReturnBlock place stack.old.own chain.now.own
-        frame.now (O.seen objects.now) locals.now result stack.new.own chain.now.own
+    ensures led { LedBy (outside depth) (table_of code.now) ReturnBlock place stack.old.own
+        chain.now.own frame.now (O.seen objects.now) locals.now result stack.new.own chain.now.own
         (O.seen objects.now) locals.now }
     ensures forward { IfOk result (IsForward place) }
     ensures stack { stack.new.below ≡ stack.old.below }

@@ -55,8 +55,8 @@ pub(crate) fn enter<O: Objects>(
     place: usize,
     depth: u32,
 ) -> Result<Flow, Stop>
-    ensures led { LedBy (outside depth) (table_of code.now) (Enter count) place stack.now.own chain.old.own
-        frame.now (O.seen objects.now) locals.old result stack.now.own chain.new.own
+    ensures led { LedBy (outside depth) (table_of code.now) (Enter count) place stack.now.own
+        chain.old.own frame.now (O.seen objects.now) locals.old result stack.now.own chain.new.own
         (O.seen objects.now) locals.new }
     ensures forward { IfOk result (IsForward place) }
     ensures chain { chain.new.below ≡ chain.old.below }
@@ -79,8 +79,8 @@ pub(crate) fn leave<O: Objects>(
     depth: u32,
 ) -> Result<Flow, Stop>
     ensures led { LedBy (outside depth) (table_of code.now) Leave place stack.now.own chain.old.own
-        frame.now (O.seen objects.now) locals.old result stack.now.own chain.new.own
-        (O.seen objects.now) locals.new }
+        frame.now (O.seen objects.now) locals.old result stack.now.own chain.new.own (O.seen
+        objects.now) locals.new }
     ensures forward { IfOk result (IsForward place) }
     ensures chain { chain.new.below ≡ chain.old.below }
 {
