@@ -2,12 +2,12 @@
 //! of whatever runs them. Knows nothing of how they are run.
 #![tactic(auto)]
 
+mod replies;
 mod rows;
 mod scripts;
 mod shared_rows;
-mod told;
 
+pub use replies::{note, told};
 pub use rows::{ANY, BLOCKS, CLASSES, DICTIONARIES, NUMBERS, SEQUENCES, STRINGS};
 pub use scripts::{NAMES_LEFT, SCRIPTS};
 pub use shared_rows::{FORMS, LIMITS, RIGHTS, SHARED};
-pub use told::{note, told};
