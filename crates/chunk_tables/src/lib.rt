@@ -7,7 +7,7 @@ mod rows;
 mod scripts;
 mod shared_rows;
 
-pub use replies::{behind, note, told};
+pub use replies::{note, told};
 pub use rows::{ANY, BLOCKS, CLASSES, DICTIONARIES, NUMBERS, SEQUENCES, STRINGS};
 pub use scripts::{NAMES_LEFT, SCRIPTS};
 pub use shared_rows::{FORMS, LIMITS, RIGHTS, SHARED};

@@ -19,7 +19,7 @@ pub fn told(alloc: Global, reply: &Reply) -> Result<Vec<u8>, AllocError> {
 }
 
 /// A text and another behind it.
-pub fn behind(alloc: Global, front: &[u8], text: &[u8]) -> Result<Vec<u8>, AllocError> {
+fn behind(alloc: Global, front: &[u8], text: &[u8]) -> Result<Vec<u8>, AllocError> {
     let mut both = Vec::new(alloc);
     both.extend_from_slice(front)?;
     both.extend_from_slice(text)?;

@@ -95,7 +95,7 @@ fn install<S: Begins>(
     method: &str,
 ) -> Result<Vec<u8>, AllocError> {
     let Some((class, source)) = method.split_once(' ') else {
-        return behind(alloc, b"no method", b"");
+        return Vec::from_slice(alloc, b"no method");
     };
     let class = Text::copy_of(alloc, class.as_bytes())?;
     let source = Text::copy_of(alloc, source.as_bytes())?;
