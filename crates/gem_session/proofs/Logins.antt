@@ -91,7 +91,7 @@ sound_at_login p q session serial image number user script arrives says found =
 pub has_logged_in : (p q : PortState) (serial : ℕ) (image : Image) (number user : ℕ) (script : SessionCommands) (s : Session) → GoesOn s.session p q
     → Arrives p s.session serial script → BeginSays p.told.opened s.session p.told.events q.told.events image number
     → user_in image script.user ≡ Some user → s.view.state.seen ≡ begun image image user serial 1 → IsSoundState s.view.state.seen
-    → s ≡ record { session = s.session; serial = serial; number = number; transaction = 1; first_command = 1; spoiled = false; image = image; view = s.view }
+    → s ≡ record { session = s.session; serial = serial; number = number; transaction = 1; first_command = 1; spoiled = false; image = image; view = s.view; cache = s.cache }
     → HasLoggedIn q.told script s
 has_logged_in p q serial image number user script s goes arrives says found seen sound is =
     let o = q.told.opened in

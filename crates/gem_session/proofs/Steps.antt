@@ -1,6 +1,7 @@
 -- What a command of a transaction does to a session: it runs, or leaves it as it was.
 use Rattle.std.proofs.Common.{◌≡◌, ◌∙◌, refl, sym, ap, subst, ℕ, ◌+◌, ◌-◌, ◌≤◌, Bool, true, false, true≢false, Option, Some, None, IsSome, List, [], ◌∷◌, arith, inl, inr}
 use Rattle.std.specs.List.{slice_get}
+use Rattle.texts.specs.Bytes.{Bytes}
 use Rattle.gem_world.specs.World.{Setting, World}
 use Rattle.gem_image.specs.Image.{objects_in}
 use Rattle.gem_sound.specs.Parts.{user_at}
@@ -101,9 +102,9 @@ run_is (Lock write name) is = absurd (true≢false (sym is))
 run_is (Unlock name) is = absurd (true≢false (sym is))
 
 -- what a session carries with another view of the same setting
-carried : (s : Session) (spoiled : Bool) (view : View) → view.state.seen.setting ≡ s.view.state.seen.setting
-    → session_state (record s { spoiled = spoiled; view = view }) ≡ record (session_state s) { spoiled = spoiled; next_name = view.state.seen.world.next }
-carried s spoiled view same = ap (λ (x : Setting). record (session_state s) {
+carried : (s : Session) (spoiled : Bool) (view : View) (cache : List Bytes) → view.state.seen.setting ≡ s.view.state.seen.setting
+    → session_state (record s { spoiled = spoiled; view = view; cache = cache }) ≡ record (session_state s) { spoiled = spoiled; next_name = view.state.seen.world.next }
+carried s spoiled view cache same = ap (λ (x : Setting). record (session_state s) {
   user = x.user;
   first_name = x.first;
   spoiled = spoiled;
@@ -120,14 +121,14 @@ module _ (o : Opened) (es : List Event) (number : ℕ) (s : Session) (c : Comman
   St = session_state s
 
   -- it stands before the next command, where its objects are kept and what they are is known
-  stands_after : (spoiled : Bool) (view : View) → Keeps (with_whole_budget s.view.state.seen) view.state.seen
+  stands_after : (spoiled : Bool) (view : View) (cache : List Bytes) → Keeps (with_whole_budget s.view.state.seen) view.state.seen
       → (spoiled ≡ false → view.state.seen.world ≡ (run_so_far o es (number + 1) St).world)
-      → StandsBefore (record { opened = o; events = es }) (number + 1) (record s { spoiled = spoiled; view = view })
-  stands_after spoiled view keeps world =
+      → StandsBefore (record { opened = o; events = es }) (number + 1) (record s { spoiled = spoiled; view = view; cache = cache })
+  stands_after spoiled view cache keeps world =
       let user : view.state.seen.setting.user ≡ s.view.state.seen.setting.user = ap (λ (x : Setting). x.user) keeps.setting in
       let first : view.state.seen.setting.first ≡ s.view.state.seen.setting.first = ap (λ (x : Setting). x.first) keeps.setting in
       let next = keeps.falls.next in
-      let carries = carried s spoiled view keeps.setting in
+      let carries = carried s spoiled view cache keeps.setting in
       record {
         session = stands.session;
         serial = stands.serial;
@@ -153,14 +154,14 @@ module _ (o : Opened) (es : List Event) (number : ℕ) (s : Session) (c : Comman
       let sound = keeps.sound stands.sound in
       record { grows = keeps.falls.next; most = omega (arith, drawn); end = sound.next_bound }
 
-  short_at : (lines : List Line) (view : View) → Keeps (with_whole_budget s.view.state.seen) view.state.seen → lines ≡ NoMemory ∷ [] →
-      Replied o number es es s c lines (record s { spoiled = true; view = view })
-  short_at lines view keeps short =
-      let carries = carried s true view keeps.setting in
+  short_at : (lines : List Line) (view : View) (cache : List Bytes) → Keeps (with_whole_budget s.view.state.seen) view.state.seen → lines ≡ NoMemory ∷ [] →
+      Replied o number es es s c lines (record s { spoiled = true; view = view; cache = cache })
+  short_at lines view cache keeps short =
+      let carries = carried s true view cache keeps.setting in
       record {
         of_session = refl;
         says = run_says At c command St lines _ runs command_is (refl, inl (record { lines_are = short; draws = draws view keeps; state = carries }));
-        stands = stands_after true view keeps (λ calm. absurd (true≢false calm));
+        stands = stands_after true view cache keeps (λ calm. absurd (true≢false calm));
       }
 
   world_here : (view : View) (lines : List Line) → Meant command s.view.state.seen lines view.state.seen → s.view.state.seen.world ≡ (run_so_far o es number St).world
@@ -179,41 +180,41 @@ module _ (o : Opened) (es : List Event) (number : ℕ) (s : Session) (c : Comman
     ap (λ (w : World). w.next) meant.world ∙ ap (λ x. next_in command x s.view.state.seen.world) stands.setting,
   )
 
-  says_meant : (spoiled : Bool) (view : View) (lines : List Line) → s.spoiled ≡ spoiled → Keeps (with_whole_budget s.view.state.seen) view.state.seen
-      → Meant command s.view.state.seen lines view.state.seen → ObjectSays command At St lines (session_state (record s { view = view }))
-  says_meant false view lines calm keeps meant =
+  says_meant : (spoiled : Bool) (view : View) (cache : List Bytes) (lines : List Line) → s.spoiled ≡ spoiled → Keeps (with_whole_budget s.view.state.seen) view.state.seen
+      → Meant command s.view.state.seen lines view.state.seen → ObjectSays command At St lines (session_state (record s { view = view; cache = cache }))
+  says_meant false view cache lines calm keeps meant =
       let here = meant_here view lines meant in
-      let carries = carried s s.spoiled view keeps.setting in
+      let carries = carried s s.spoiled view cache keeps.setting in
       let same = stands.world calm in
       inr (inl (record {
         unspoiled = calm;
         lines_are = here.0 ∙ ap (lines_in command (setting_of o es St)) same;
         state = carries ∙ ap (λ (n : ℕ). record St { next_name = n }) (here.1 ∙ ap (next_in command (setting_of o es St)) same);
       }))
-  says_meant true view lines spoiled keeps meant =
+  says_meant true view cache lines spoiled keeps meant =
       let here = meant_here view lines meant in
       inr (inr (record {
         spoiled = spoiled;
         world = s.view.state.seen.world;
         lines_are = here.0;
         draws = draws view keeps;
-        state = carried s s.spoiled view keeps.setting;
+        state = carried s s.spoiled view cache keeps.setting;
       }))
 
-  whole_at : (lines : List Line) (view : View) → Keeps (with_whole_budget s.view.state.seen) view.state.seen → Meant command s.view.state.seen lines view.state.seen →
-      Replied o number es es s c lines (record s { view = view })
-  whole_at lines view keeps meant = record {
+  whole_at : (lines : List Line) (view : View) (cache : List Bytes) → Keeps (with_whole_budget s.view.state.seen) view.state.seen → Meant command s.view.state.seen lines view.state.seen →
+      Replied o number es es s c lines (record s { view = view; cache = cache })
+  whole_at lines view cache keeps meant = record {
     of_session = refl;
-    says = run_says At c command St lines _ runs command_is (refl, says_meant s.spoiled view lines refl keeps meant);
-    stands = stands_after s.spoiled view keeps (λ calm. world_here view lines meant (stands.world calm));
+    says = run_says At c command St lines _ runs command_is (refl, says_meant s.spoiled view cache lines refl keeps meant);
+    stands = stands_after s.spoiled view cache keeps (λ calm. world_here view lines meant (stands.world calm));
   }
 
   ran_so : (answer : Answer) (s' : Session) → Ran c s answer s' → Replied o number es es s c (lines_of answer) s'
   ran_so answer s' (keeps, inl short) =
-      subst (λ x. Replied o number es es s c (lines_of answer) x) (sym short.1) (short_at (lines_of answer) s'.view keeps short.0)
+      subst (λ x. Replied o number es es s c (lines_of answer) x) (sym short.1) (short_at (lines_of answer) s'.view s'.cache keeps short.0)
   ran_so answer s' (keeps, inr whole) =
       subst (λ x. Replied o number es es s c (lines_of answer) x) (sym whole.1)
-      (whole_at (lines_of answer) s'.view keeps (subst (λ x. MeantBy x s.view.state.seen (lines_of answer) s'.view.state.seen) command_is whole.0))
+      (whole_at (lines_of answer) s'.view s'.cache keeps (subst (λ x. MeantBy x s.view.state.seen (lines_of answer) s'.view.state.seen) command_is whole.0))
 
 -- a chunk or a method
 pub ran : (o : Opened) (es : List Event) (number : ℕ) (s : Session) (c : Command) (answer : Answer) (s' : Session) → is_run c ≡ true →

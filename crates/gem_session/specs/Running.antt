@@ -155,12 +155,12 @@ pub record Begins (o : Opened) (before after : List Event) (next : ℕ → Sessi
 -- A chunk or a method found no memory: the transaction is spoiled.
 abbrev pub RanShort : Session → List Line → Session → Type 0
 RanShort s lines s' =
-    (lines ≡ NoMemory ∷ []) × (s' ≡ record s { spoiled = true; view = s'.view })
+    (lines ≡ NoMemory ∷ []) × (s' ≡ record s { spoiled = true; view = s'.view; cache = s'.cache })
 
 -- It ran: it answered and left the objects as it means.
 abbrev pub RanWhole : Command → Session → List Line → Session → Type 0
 RanWhole c s lines s' = MeantBy (object_command c) s.view.state.seen lines s'.view.state.seen
-    × (s' ≡ record s { view = s'.view })
+    × (s' ≡ record s { view = s'.view; cache = s'.cache })
 
 -- what a chunk or a method does to a session, with this answer
 abbrev pub Ran : Command → Session → Answer → Session → Type 0

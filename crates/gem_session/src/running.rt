@@ -8,7 +8,8 @@ ghost use Rattle.gem_session.specs.Answer.{lines_of, MeantBy, EvaluatedBy};
 use crate::answer::Answer;
 use session_view::View;
 use shell_words::Command;
-use st_plain::{Reply, install_source, run_text};
+use st_machine::{CodeCache, run_text};
+use st_plain::{Reply, install_source};
 use std::alloc::{AllocError, Global};
 
 /// Runs a chunk or a method with a whole budget, and gives the answer to it.
@@ -19,6 +20,7 @@ use std::alloc::{AllocError, Global};
 pub(crate) fn run_command(
     alloc: Global,
     view: &mut View,
+    cache: &mut CodeCache,
     command: &Command,
 ) -> Result<Answer, AllocError>
     requires runs { is_run command.now ≡ true }
@@ -27,17 +29,22 @@ pub(crate) fn run_command(
         (lines_of answer) view.new.state.seen) }
 {
     view.begin_chunk();
-    let reply = evaluate(alloc, view, command)?;
+    let reply = evaluate(alloc, view, cache, command)?;
     Answer::to_run(alloc, view.transcript(), reply)
 }
 
 // Runs a chunk or a method with the budget at hand.
-fn evaluate(alloc: Global, view: &mut View, command: &Command) -> Result<Reply, AllocError>
+fn evaluate(
+    alloc: Global,
+    view: &mut View,
+    cache: &mut CodeCache,
+    command: &Command,
+) -> Result<Reply, AllocError>
     requires runs { is_run command.now ≡ true }
     ensures { EvaluatedBy (object_command command.now) view.old result view.new }
 {
     match command {
-        Command::Chunk { prints, text } => run_text(alloc, view, *prints, text),
+        Command::Chunk { prints, text } => run_text(alloc, view, cache, *prints, text),
         Command::Method {
             class_side,
             class,

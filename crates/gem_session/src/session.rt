@@ -21,6 +21,7 @@ use plain_state::laws::begins_on_sound_images;
 use running_objects::Objects;
 use session_view::View;
 use shell_words::Command;
+use st_machine::CodeCache;
 use std::alloc::{AllocError, Global};
 use stone_core::{Begun, StonePort};
 
@@ -43,6 +44,8 @@ pub(crate) struct Session {
     pub image: Image,
     /// What the transaction works on.
     pub view: View,
+    /// The code of the methods that the session ran last.
+    pub cache: CodeCache,
 }
 
 impl Session {
@@ -68,6 +71,7 @@ impl Session {
           spoiled = false;
           image = standing.image;
           view = s.view;
+          cache = s.cache;
         }) }
         ensures seen { IfOk result
             (λ s. s.view.state.seen ≡ begun standing.image standing.image user serial 1) }
@@ -76,6 +80,7 @@ impl Session {
         let number = standing.number;
         let image = standing.image.share()?;
         let view = start_view(alloc, standing, serial, 1, user)?;
+        let cache = CodeCache::new(alloc)?;
         Ok(Session {
             session,
             serial,
@@ -85,6 +90,7 @@ impl Session {
             spoiled: false,
             image,
             view,
+            cache,
         })
     }
 
@@ -143,7 +149,7 @@ impl Session {
         requires runs { is_run command.now ≡ true }
         ensures { Ran command.now self.old result self.new }
     {
-        match run_command(alloc, &mut self.view, command) {
+        match run_command(alloc, &mut self.view, &mut self.cache, command) {
             Ok(answer) => answer,
             Err(AllocError) => {
                 self.spoiled = true;

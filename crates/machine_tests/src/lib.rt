@@ -4,4 +4,6 @@
 #![tactic(auto)]
 
 #[cfg(test)]
+mod machine_calls;
+#[cfg(test)]
 mod machine_tests;

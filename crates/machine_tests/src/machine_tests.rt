@@ -25,7 +25,7 @@ const STACK: usize = 256 << 20;
 const METHODS: u32 = 257;
 
 /// What the machine replies to a chunk.
-fn reply_to<S: Begins>(
+pub(crate) fn reply_to<S: Begins>(
     alloc: Global,
     state: &mut S,
     cache: &mut CodeCache,
@@ -187,7 +187,7 @@ fn wrong_lines<S: Begins, L: Ledger>(alloc: Global, blank: Blank) -> Result<Stri
 }
 
 /// Gives the class Many its methods, each of which answers its number.
-fn install_many<S: Begins>(alloc: Global, state: &mut S) -> Result<(), AllocError> {
+pub(crate) fn install_many<S: Begins>(alloc: Global, state: &mut S) -> Result<(), AllocError> {
     let class = Text::copy_of(alloc, b"Many")?;
     for number in 1..METHODS + 1 {
         state.begin_chunk();
@@ -199,7 +199,7 @@ fn install_many<S: Begins>(alloc: Global, state: &mut S) -> Result<(), AllocErro
 }
 
 /// Sends all of them. Those that don't answer their number are noted.
-fn send_many<S: Begins>(
+pub(crate) fn send_many<S: Begins>(
     alloc: Global,
     state: &mut S,
     cache: &mut CodeCache,

@@ -39,6 +39,7 @@ serve-requires-clause-logged_in g c =
       spoiled = false;
       image = begun.image;
       view = c.in_ok-running-in-Some.running.view;
+      cache = c.in_ok-running-in-Some.running.cache;
     }) (sym session))
 
 pub returns-in_ok-replies-in-Some-clause-port : goal.returns-in_ok-replies-in-Some-clause-port

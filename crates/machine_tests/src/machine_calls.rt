@@ -1,0 +1,215 @@
+// What the calls of single parts answer, which sources a cache holds, and texts and blocks of some
+// size, on the image of the kernel.
+ghost use Rattle.std.specs.Prelude.{◌≡◌, ◌<◌};
+
+use crate::machine_tests::{install_many, reply_to, send_many};
+use chunk_tables::{note, told};
+use gem_object::Value;
+use kernel_state::begin;
+use plain_state::PlainState;
+use radix_pages::Steps;
+use st_compiler::compile;
+use st_machine::{CodeCache, SharedCode, print_value, run_chunk, run_command};
+use st_parser::parse_chunk;
+use st_plain::Command;
+use std::alloc::{AllocError, Global};
+use std::marker::Brand;
+use std::sync::ledger::{Blank, Ledger};
+use std::test::Fail;
+use texts::Text;
+
+/// The bytes of the longest text of a script.
+const LONGEST: usize = 65_536;
+
+/// Notes a call that isn't answered as it should be.
+fn note_unless(wrong: &mut String, call: &str, right: bool) -> Result<(), AllocError> {
+    if right {
+        return Ok(());
+    }
+    note(wrong, call)
+}
+
+/// Whether the code of `3 + 4` runs to 7.
+fn code_runs(
+    alloc: Global,
+    state: &mut PlainState,
+    cache: &mut CodeCache,
+) -> Result<bool, AllocError> {
+    let Ok(tree) = parse_chunk(alloc, b"3 + 4".as_slice()) else {
+        return Ok(false);
+    };
+    let code = SharedCode::of(alloc, compile(&tree)?)?;
+    Ok(matches!(run_chunk(alloc, state, cache, &code), Ok(Value::Int(7))))
+}
+
+/// Whether -7 is printed so.
+fn value_prints(alloc: Global, state: &mut PlainState) -> bool {
+    match print_value(alloc, state, &Value::Int(-7)) {
+        Ok(text) => text.bytes() == b"-7".as_slice(),
+        Err(_) => false,
+    }
+}
+
+/// Whether a command is replied to so.
+fn command_replies(
+    alloc: Global,
+    state: &mut PlainState,
+    cache: &mut CodeCache,
+    command: &Command,
+    wanted: &str,
+) -> Result<bool, AllocError> {
+    let reply = run_command(alloc, state, cache, command)?;
+    Ok(told(alloc, &reply)?.as_slice() == wanted.as_bytes())
+}
+
+/// Whether a chunk, as a command, is replied to so.
+fn chunk_replies(
+    alloc: Global,
+    state: &mut PlainState,
+    cache: &mut CodeCache,
+    prints: bool,
+    chunk: &str,
+    wanted: &str,
+) -> Result<bool, AllocError> {
+    let text = Text::copy_of(alloc, chunk.as_bytes())?;
+    command_replies(alloc, state, cache, &Command::Chunk { prints, text }, wanted)
+}
+
+/// Whether a method of Foo, as a command, is replied to so.
+fn method_replies(
+    alloc: Global,
+    state: &mut PlainState,
+    cache: &mut CodeCache,
+    source: &str,
+    wanted: &str,
+) -> Result<bool, AllocError> {
+    let command = Command::Method {
+        class_side: false,
+        class: Text::copy_of(alloc, b"Foo".as_slice())?,
+        source: Text::copy_of(alloc, source.as_bytes())?,
+    };
+    command_replies(alloc, state, cache, &command, wanted)
+}
+
+/// So many blanks.
+fn blanks(alloc: Global, count: usize) -> Result<String, AllocError> {
+    let mut text = String::new(alloc);
+    for _blank in 0..count {
+        text.push(' ')?;
+    }
+    Ok(text)
+}
+
+/// Calls the single parts.
+fn check_parts(
+    alloc: Global,
+    state: &mut PlainState,
+    cache: &mut CodeCache,
+    wrong: &mut String,
+) -> Result<(), AllocError> {
+    note_unless(wrong, "run_chunk", code_runs(alloc, state, cache)?)?;
+    note_unless(wrong, "print_value", value_prints(alloc, state))
+}
+
+/// Runs commands: a chunk that makes a class, a method of it, and a chunk that sends it.
+fn check_commands(
+    alloc: Global,
+    state: &mut PlainState,
+    cache: &mut CodeCache,
+    wrong: &mut String,
+) -> Result<(), AllocError> {
+    let chunk = "Object subclass: #Foo instVarNames: #() inDictionary: UserGlobals";
+    let right = chunk_replies(alloc, state, cache, false, chunk, "ok")?;
+    note_unless(wrong, chunk, right)?;
+    let method = "bar ^3";
+    let right = method_replies(alloc, state, cache, method, "method bar")?;
+    note_unless(wrong, method, right)?;
+    let chunk = "Foo new bar + 4";
+    let right = chunk_replies(alloc, state, cache, true, chunk, "7")?;
+    note_unless(wrong, chunk, right)
+}
+
+/// Runs the longest chunk that a script may have, a method with a long source, and a block with
+/// four parameters.
+fn check_sizes(
+    alloc: Global,
+    state: &mut PlainState,
+    cache: &mut CodeCache,
+    wrong: &mut String,
+) -> Result<(), AllocError> {
+    let mut chunk = blanks(alloc, LONGEST - 5)?;
+    chunk.push_str("3 + 4")?;
+    let right = chunk_replies(alloc, state, cache, true, chunk.as_str(), "7")?;
+    note_unless(wrong, "the longest chunk", right)?;
+    let mut method = blanks(alloc, 9_000)?;
+    method.push_str("wide ^5")?;
+    let right = method_replies(alloc, state, cache, method.as_str(), "method wide")?;
+    note_unless(wrong, "a long method", right)?;
+    let right = chunk_replies(alloc, state, cache, true, "Foo new wide", "5")?;
+    note_unless(wrong, "a send of a long method", right)?;
+    let block = "[:a :b :c :d | d] numArgs";
+    let right = chunk_replies(alloc, state, cache, true, block, "4")?;
+    note_unless(wrong, block, right)
+}
+
+/// Notes a source that is held, or isn't, where it should be the other way.
+fn check_holds(
+    alloc: Global,
+    cache: &CodeCache,
+    source: &str,
+    wanted: bool,
+    wrong: &mut String,
+) -> Result<(), AllocError> {
+    let text = Text::copy_of(alloc, source.as_bytes())?;
+    note_unless(wrong, source, cache.holds(&text) == wanted)
+}
+
+/// Sends methods with sources, one more than the cache keeps: it holds the source of one that was
+/// sent, and in the end those of all but the first.
+fn check_cache(
+    alloc: Global,
+    state: &mut PlainState,
+    wrong: &mut String,
+) -> Result<(), AllocError> {
+    let mut cache = CodeCache::new(alloc)?;
+    let class = "Object subclass: #Many instVarNames: #() inDictionary: UserGlobals";
+    reply_to(alloc, state, &mut cache, false, class)?;
+    install_many(alloc, state)?;
+    check_holds(alloc, &cache, "m1 ^1", false, wrong)?;
+    reply_to(alloc, state, &mut cache, true, "Many new m1")?;
+    check_holds(alloc, &cache, "m1 ^1", true, wrong)?;
+    check_holds(alloc, &cache, "m2 ^2", false, wrong)?;
+    send_many(alloc, state, &mut cache, wrong)?;
+    check_holds(alloc, &cache, "m1 ^1", false, wrong)?;
+    check_holds(alloc, &cache, "m2 ^2", true, wrong)?;
+    check_holds(alloc, &cache, "m257 ^257", true, wrong)
+}
+
+/// The calls that aren't answered as they should be.
+fn wrong_calls<L: Ledger>(alloc: Global, blank: Blank) -> Result<String, AllocError>
+    requires name { blank.name ≡ L.name }
+    requires parts { blank.parts ≡ L.parts }
+    requires some_parts { 0 < L.parts }
+{
+    let mut steps = Steps::<L>::start(blank);
+    let mut state = begin::<PlainState, L>(alloc, 1, &mut steps)?;
+    let mut cache = CodeCache::new(alloc)?;
+    let mut wrong = String::new(alloc);
+    check_parts(alloc, &mut state, &mut cache, &mut wrong)?;
+    check_commands(alloc, &mut state, &mut cache, &mut wrong)?;
+    check_sizes(alloc, &mut state, &mut cache, &mut wrong)?;
+    check_cache(alloc, &mut state, &mut wrong)?;
+    Ok(wrong)
+}
+
+/// `wrong_calls` with steps that no other call counts.
+fn calls_by_brand(alloc: Global) -> Result<String, AllocError> {
+    wrong_calls::<Brand>(alloc, Blank::new(1))
+}
+
+#[test]
+fn machine_calls(rt: HostRuntime) -> Result<(), Fail> {
+    let wrong = calls_by_brand(rt.alloc())?;
+    assert_eq!(rt; wrong.as_str(), "");
+    Ok(())
+}
