@@ -72,7 +72,13 @@ fn chunk_replies(
     wanted: &str,
 ) -> Result<bool, AllocError> {
     let text = Text::copy_of(alloc, chunk.as_bytes())?;
-    command_replies(alloc, state, cache, &Command::Chunk { prints, text }, wanted)
+    command_replies(
+        alloc,
+        state,
+        cache,
+        &Command::Chunk { prints, text },
+        wanted,
+    )
 }
 
 /// Whether a method of Foo, as a command, is replied to so.
