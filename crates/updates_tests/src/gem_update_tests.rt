@@ -1,5 +1,4 @@
-// Updates and merges as sessions and commits make them: a table for each class, and the same over
-// bodies.
+// Updates and merges as sessions and commits make them, by class, and the same over bodies.
 use gem_object::{Body, Value};
 use gem_update::*;
 use gem_value::ConflictKind;
@@ -11,25 +10,36 @@ use std::test::Fail;
 
 const GREATEST: i64 = 1152921504606846975;
 
+const fn counter(value: i64) -> Counter {
+    Counter { value }
+}
+
+// Whether this comes of merging a session's updates, where the counter has the first value at the
+// view and the second at the place.
+fn counter_merges(
+    view: i64,
+    place: i64,
+    updates: [i64; 2],
+    want: Result<Counter, CounterRange>,
+) -> bool {
+    Merging::merge(&counter(view), &counter(place), &updates) == want
+}
+
 #[test]
-fn counters(rt: HostRuntime) -> Result<(), Fail> {
-    // The value at the view and at the place, the session's updates, and the value that follows.
-    let rows = [
-        // Two sessions count to ten from 0; the second stands at twenty.
-        (0, 10, [4, 6], Ok(20)),
-        // One below the end of the range: of two increments the second is refused.
-        (GREATEST - 1, GREATEST - 1, [0, 1], Ok(GREATEST)),
-        (GREATEST - 1, GREATEST, [0, 1], Err(CounterRange)),
-        // Only the result must be in the range.
-        (GREATEST - 1, GREATEST, [1, -1], Ok(GREATEST)),
-    ];
-    for (view, place, updates, want) in rows {
-        let at_view = Counter { value: view };
-        let at_place = Counter { value: place };
-        let merged = Merging::merge(&at_view, &at_place, &updates);
-        assert_eq!(rt; merged, want.map(|value| Counter { value }), "at {place}");
-    }
-    let mut counter = Counter { value: GREATEST };
+fn merges_of_counters(rt: HostRuntime) {
+    let greatest = Ok(counter(GREATEST));
+    // Two sessions count to ten from 0; the second stands at twenty.
+    assert!(rt; counter_merges(0, 10, [4, 6], Ok(counter(20))));
+    // One below the end of the range: of two increments the second is refused.
+    assert!(rt; counter_merges(GREATEST - 1, GREATEST - 1, [0, 1], greatest));
+    assert!(rt; counter_merges(GREATEST - 1, GREATEST, [0, 1], Err(CounterRange)));
+    // Only the result must be in the range.
+    assert!(rt; counter_merges(GREATEST - 1, GREATEST, [1, -1], greatest));
+}
+
+#[test]
+fn updates_of_a_counter(rt: HostRuntime) -> Result<(), Fail> {
+    let mut counter = counter(GREATEST);
     assert_eq!(rt; Merging::apply(&mut counter, 1), Err(CounterRange));
     Merging::apply(&mut counter, -1)?;
     assert_eq!(rt; counter.value, GREATEST - 1);
@@ -53,24 +63,47 @@ pub(crate) const fn remove() -> BagUpdate<Value> {
     BagUpdate::Remove(Value::Char(b'x'))
 }
 
-#[test]
-fn bags(rt: HostRuntime) -> Result<(), Fail> {
-    let alloc = rt.alloc();
-    // How often x occurs at the view and at the place, the session's updates, and how often it
-    // occurs then.
-    let rows = [
-        // Two sessions remove one occurrence: the second is refused. With two it isn't.
-        (1, 1, [add(), remove()], Ok(1)),
-        (1, 0, [remove(), add()], Err(BagFault::Missing(0))),
-        (2, 1, [remove(), add()], Ok(1)),
-        (2, 1, [remove(), remove()], Err(BagFault::Missing(1))),
-    ];
-    for (view, place, updates, want) in rows {
-        let merged = Merging::merge(&bag(alloc, view)?, &bag(alloc, place)?, &updates);
-        let merged = merged.map(|bag| bag.size());
-        assert_eq!(rt; merged, want, "at {place}");
+// Whether a bag of this size comes of merging a session's updates, where x occurs so often at the
+// view and at the place.
+fn bag_merges(
+    alloc: Global,
+    (view, place): (u64, u64),
+    updates: [BagUpdate<Value>; 2],
+    want: Result<u64, BagFault>,
+) -> Result<bool, Fail> {
+    let merged = Merging::merge(&bag(alloc, view)?, &bag(alloc, place)?, &updates);
+    Ok(has_size(&merged, want))
+}
+
+fn has_size(merged: &Result<Bag<Value>, BagFault>, want: Result<u64, BagFault>) -> bool {
+    match (merged, want) {
+        (Ok(bag), Ok(size)) => bag.size() == size,
+        (Err(fault), Err(wanted)) => *fault == wanted,
+        _ => false,
     }
-    let mut x = bag(alloc, 1)?;
+}
+
+#[test]
+fn merges_of_bags(rt: HostRuntime) -> Result<(), Fail> {
+    let alloc = rt.alloc();
+    // Two sessions remove one occurrence: the second is refused. With two it isn't.
+    assert!(rt; bag_merges(alloc, (1, 1), [add(), remove()], Ok(1))?);
+    assert!(rt; bag_merges(alloc, (1, 0), [remove(), add()], Err(BagFault::Missing(0)))?);
+    assert!(rt; bag_merges(alloc, (2, 1), [remove(), add()], Ok(1))?);
+    assert!(rt;
+        bag_merges(
+            alloc,
+            (2, 1),
+            [remove(), remove()],
+            Err(BagFault::Missing(1))
+        )?
+    );
+    Ok(())
+}
+
+#[test]
+fn updates_of_a_bag(rt: HostRuntime) -> Result<(), Fail> {
+    let mut x = bag(rt.alloc(), 1)?;
     Merging::apply(&mut x, add())?;
     Merging::apply(&mut x, remove())?;
     Merging::apply(&mut x, remove())?;
@@ -92,34 +125,47 @@ pub(crate) const fn put(letter: u8, number: i64) -> DictUpdate<Value, Value> {
     DictUpdate::Put(Value::Char(letter), Value::Int(number))
 }
 
-#[test]
-fn dictionaries(rt: HostRuntime) -> Result<(), Fail> {
-    let alloc = rt.alloc();
-    // The entry at the place of a dictionary that was empty at the view, the session's updates, and
-    // the number of keys then.
-    let rows = [
-        // Two sessions put at two keys: both stand. At one key the second is refused, even where
-        // it puts the same value.
-        ((b'a', 1), [put(b'b', 2), put(b'b', 3)], Ok(2)),
-        (
-            (b'a', 1),
-            [put(b'b', 2), put(b'a', 1)],
-            Err(DictFault::Key(1)),
-        ),
-        (
-            (b'b', 1),
-            [put(b'b', 2), put(b'a', 1)],
-            Err(DictFault::Key(0)),
-        ),
-    ];
-    for (entry, updates, want) in rows {
-        let merged = Merging::merge(&dict(alloc, &[])?, &dict(alloc, &[entry])?, &updates);
-        let merged = merged.map(|dict| dict.size());
-        assert_eq!(rt; merged, want, "{entry:?}");
+// Whether a dictionary of so many keys comes of merging a session's updates, where the dictionary
+// was empty at the view and has this entry at the place.
+fn dict_merges(
+    alloc: Global,
+    entry: (u8, i64),
+    updates: [DictUpdate<Value, Value>; 2],
+    want: Result<u64, DictFault>,
+) -> Result<bool, Fail> {
+    let merged = Merging::merge(&dict(alloc, &[])?, &dict(alloc, &[entry])?, &updates);
+    Ok(has_keys(&merged, want))
+}
+
+fn has_keys(
+    merged: &Result<KeyDict<Value, Value>, DictFault>,
+    want: Result<u64, DictFault>,
+) -> bool {
+    match (merged, want) {
+        (Ok(dict), Ok(size)) => dict.size() == size,
+        (Err(fault), Err(wanted)) => *fault == wanted,
+        _ => false,
     }
-    let mut a = dict(alloc, &[(b'a', 1)])?;
+}
+
+// Two sessions put at two keys: both stand. At one key the second is refused, even where it puts
+// the same value.
+#[test]
+fn merges_of_dictionaries(rt: HostRuntime) -> Result<(), Fail> {
+    let alloc = rt.alloc();
+    assert!(rt; dict_merges(alloc, (b'a', 1), [put(b'b', 2), put(b'b', 3)], Ok(2))?);
+    let second = Err(DictFault::Key(1));
+    assert!(rt; dict_merges(alloc, (b'a', 1), [put(b'b', 2), put(b'a', 1)], second)?);
+    let first = Err(DictFault::Key(0));
+    assert!(rt; dict_merges(alloc, (b'b', 1), [put(b'b', 2), put(b'a', 1)], first)?);
+    Ok(())
+}
+
+#[test]
+fn updates_of_a_dictionary(rt: HostRuntime) -> Result<(), Fail> {
+    let mut a = dict(rt.alloc(), &[(b'a', 1)])?;
     Merging::apply(&mut a, put(b'a', 2))?;
-    assert_eq!(rt; a.get(&Value::Char(b'a')), Some(&Value::Int(2)));
+    assert!(rt; a.get(&Value::Char(b'a')) == Some(&Value::Int(2)));
     let absent = Merging::apply(&mut a, DictUpdate::Remove(Value::Char(b'b')));
     assert_eq!(rt; absent, Err(DictFault::Key(0)));
     Ok(())
@@ -142,33 +188,47 @@ const fn leave(number: i64) -> QueueUpdate<Value> {
     QueueUpdate::Remove(Value::Int(number))
 }
 
-#[test]
-fn queues(rt: HostRuntime) -> Result<(), Fail> {
-    let alloc = rt.alloc();
-    // Where 1 and 2 waited at the view: the removals and items at the place, the session's update,
-    // and the front and the number of items then.
-    let rows = [
-        // A session that adds and one that removes, in either order.
-        (0, [1, 2, 3].as_slice(), leave(1), Ok((2, 2))),
-        (1, [2].as_slice(), join(3), Ok((2, 2))),
-        // Two that remove: the second is refused.
-        (1, [2].as_slice(), leave(1), Err(QueueFault::Remove(0))),
-        // Another item stands at the front.
-        (0, [8, 7].as_slice(), leave(7), Err(QueueFault::Remove(0))),
-    ];
+// Whether this comes of merging an update, where 1 and 2 waited at the view and so many have left
+// the place, in which these numbers wait: the front and the number of items, or a fault.
+fn queue_merges(
+    alloc: Global,
+    (removed, numbers): (u64, &[i64]),
+    update: QueueUpdate<Value>,
+    want: Result<(i64, u64), QueueFault>,
+) -> Result<bool, Fail> {
     let at_view = queue(alloc, 0, &[1, 2])?;
-    for (removed, numbers, update, want) in rows {
-        let at_place = queue(alloc, removed, numbers)?;
-        match (Merging::merge(&at_view, &at_place, &[update]), want) {
-            (Ok(merged), Ok((front, size))) => {
-                assert_eq!(rt; merged.front(), Some(&Value::Int(front)), "{numbers:?}");
-                assert_eq!(rt; merged.size(), size, "{numbers:?}");
-            }
-            (Err(fault), Err(wanted)) => assert_eq!(rt; fault, wanted, "{numbers:?}"),
-            _ => panic!(rt; "{numbers:?}"),
+    let at_place = queue(alloc, removed, numbers)?;
+    let merged = Merging::merge(&at_view, &at_place, &[update]);
+    Ok(waits(&merged, want))
+}
+
+fn waits(merged: &Result<Queue<Value>, QueueFault>, want: Result<(i64, u64), QueueFault>) -> bool {
+    match (merged, want) {
+        (Ok(queue), Ok((front, size))) => {
+            queue.front() == Some(&Value::Int(front)) && queue.size() == size
         }
+        (Err(fault), Err(wanted)) => *fault == wanted,
+        _ => false,
     }
-    let mut line = queue(alloc, 0, &[1])?;
+}
+
+#[test]
+fn merges_of_queues(rt: HostRuntime) -> Result<(), Fail> {
+    let alloc = rt.alloc();
+    let refused = Err(QueueFault::Remove(0));
+    // A session that adds and one that removes, in either order.
+    assert!(rt; queue_merges(alloc, (0, &[1, 2, 3]), leave(1), Ok((2, 2)))?);
+    assert!(rt; queue_merges(alloc, (1, &[2]), join(3), Ok((2, 2)))?);
+    // Two that remove: the second is refused.
+    assert!(rt; queue_merges(alloc, (1, &[2]), leave(1), refused)?);
+    // Another item stands at the front.
+    assert!(rt; queue_merges(alloc, (0, &[8, 7]), leave(7), refused)?);
+    Ok(())
+}
+
+#[test]
+fn updates_of_a_queue(rt: HostRuntime) -> Result<(), Fail> {
+    let mut line = queue(rt.alloc(), 0, &[1])?;
     assert_eq!(rt;
         Merging::apply(&mut line, leave(2)),
         Err(QueueFault::Remove(0))
@@ -179,91 +239,91 @@ fn queues(rt: HostRuntime) -> Result<(), Fail> {
     Ok(())
 }
 
-// A body at the view and at the place, an update, what a refused merge is, and the bytes of the
-// body that follows where it isn't refused.
-#[derive(Drop)]
-struct Row {
-    view: Body,
-    place: Body,
+// The bodies at the view and at the place.
+type Bodies = (Body, Body);
+
+fn bags(alloc: Global) -> Result<Bodies, Fail> {
+    let view = Body::Bag(bag(alloc, 2)?);
+    Ok((view, Body::Bag(bag(alloc, 1)?)))
+}
+
+fn dicts(alloc: Global) -> Result<Bodies, Fail> {
+    let view = Body::RcDict(dict(alloc, &[])?);
+    Ok((view, Body::RcDict(dict(alloc, &[(b'a', 1)])?)))
+}
+
+fn queues(alloc: Global) -> Result<Bodies, Fail> {
+    let view = Body::Queue(queue(alloc, 0, &[1])?);
+    Ok((view, Body::Queue(queue(alloc, 1, &[])?)))
+}
+
+const fn counters() -> Bodies {
+    let view = Body::Counter(counter(GREATEST));
+    (view, Body::Counter(counter(GREATEST)))
+}
+
+// Whether a merge of the update gives a body of so many bytes, or is refused.
+fn is_merged(
+    alloc: Global,
+    bodies: &Bodies,
+    update: &Update,
+    bytes: Option<u64>,
+) -> Result<bool, Fail> {
+    let updates = vec![in alloc; update.clone()?]?;
+    match merge_body(alloc, &bodies.0, &bodies.1, &updates) {
+        Ok(body) => Ok(bytes == Some(body.size())),
+        Err(fault) => Ok(bytes.is_none() && fault == UpdateFault::Refused),
+    }
+}
+
+// Whether the update leaves a body of so many bytes, or is refused.
+fn is_updated(mut body: Body, update: Update, bytes: Option<u64>) -> bool {
+    match update_body(&mut body, update) {
+        Ok(()) => bytes == Some(body.size()),
+        Err(fault) => bytes.is_none() && fault == UpdateFault::Refused,
+    }
+}
+
+// Whether both are so of these bodies, where a merge is refused as this kind.
+fn changes(
+    alloc: Global,
+    bodies: Bodies,
     update: Update,
     kind: ConflictKind,
     bytes: Option<u64>,
-}
-
-fn row_of(view: Body, place: Body, update: Update, kind: ConflictKind, bytes: Option<u64>) -> Row {
-    Row {
-        view,
-        place,
-        update,
-        kind,
-        bytes,
-    }
-}
-
-fn placed(alloc: Global) -> Result<Vec<Row>, Fail> {
-    let mut rows = Vec::new(alloc);
-    let (view, place) = (Body::Bag(bag(alloc, 2)?), Body::Bag(bag(alloc, 1)?));
-    rows.push(row_of(
-        view,
-        place,
-        Update::Bag(add()),
-        ConflictKind::BagRemove,
-        Some(14),
-    ))?;
-    let (view, place) = (dict(alloc, &[])?, dict(alloc, &[(b'a', 1)])?);
-    let (view, place) = (Body::RcDict(view), Body::RcDict(place));
-    let update = Update::RcDict(put(b'b', 2));
-    rows.push(row_of(view, place, update, ConflictKind::DictionaryKey, Some(26)))?;
-    Ok(rows)
-}
-
-fn refused(alloc: Global) -> Result<Vec<Row>, Fail> {
-    let mut rows = Vec::new(alloc);
-    let counter = Body::Counter(Counter { value: GREATEST });
-    let update = Update::Counter(1);
-    rows.push(row_of(
-        counter.clone()?,
-        counter,
-        update,
-        ConflictKind::CounterRange,
-        None,
-    ))?;
-    let (view, place) = (queue(alloc, 0, &[1])?, queue(alloc, 1, &[])?);
-    let (view, place) = (Body::Queue(view), Body::Queue(place));
-    let update = Update::Queue(leave(1));
-    rows.push(row_of(view, place, update, ConflictKind::QueueRemove, None))?;
-    // An update of another class.
-    let (view, place) = (Body::Bag(bag(alloc, 2)?), Body::Bag(bag(alloc, 1)?));
-    rows.push(row_of(
-        view,
-        place,
-        Update::Counter(1),
-        ConflictKind::BagRemove,
-        None,
-    ))?;
-    Ok(rows)
+) -> Result<bool, Fail> {
+    let is_kind = merge_kind(&bodies.1) == Some(kind);
+    let merged = is_merged(alloc, &bodies, &update, bytes)?;
+    Ok(is_kind && merged && is_updated(bodies.1, update, bytes))
 }
 
 #[test]
-fn bodies(rt: HostRuntime) -> Result<(), Fail> {
+fn bodies_that_take_an_update(rt: HostRuntime) -> Result<(), Fail> {
     let alloc = rt.alloc();
-    for rows in [placed(alloc)?, refused(alloc)?] {
-        for row in rows {
-            let Row {
-                view,
-                mut place,
-                update,
-                kind,
-                bytes,
-            } = row;
-            assert_eq!(rt; merge_kind(&place), Some(kind));
-            let updates = vec![in alloc; update.clone()?]?;
-            let merged = merge_body(alloc, &view, &place, &updates);
-            let merged = merged.map(|body| body.size());
-            assert_eq!(rt; merged, bytes.ok_or(UpdateFault::Refused), "{kind:?}");
-            let updated = update_body(&mut place, update).map(|()| place.size());
-            assert_eq!(rt; updated, bytes.ok_or(UpdateFault::Refused), "{kind:?}");
-        }
-    }
+    let kind = ConflictKind::BagRemove;
+    assert!(rt; changes(alloc, bags(alloc)?, Update::Bag(add()), kind, Some(14))?);
+    let kind = ConflictKind::DictionaryKey;
+    assert!(rt;
+        changes(
+            alloc,
+            dicts(alloc)?,
+            Update::RcDict(put(b'b', 2)),
+            kind,
+            Some(26)
+        )?
+    );
+    Ok(())
+}
+
+#[test]
+fn bodies_that_refuse_an_update(rt: HostRuntime) -> Result<(), Fail> {
+    let alloc = rt.alloc();
+    let kind = ConflictKind::CounterRange;
+    assert!(rt; changes(alloc, counters(), Update::Counter(1), kind, None)?);
+    let kind = ConflictKind::QueueRemove;
+    assert!(rt; changes(alloc, queues(alloc)?, Update::Queue(leave(1)), kind, None)?);
+    // An update of another class.
+    let kind = ConflictKind::BagRemove;
+    assert!(rt; changes(alloc, bags(alloc)?, Update::Counter(1), kind, None)?);
     Ok(())
 }

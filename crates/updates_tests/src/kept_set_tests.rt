@@ -1,5 +1,4 @@
-// Which made objects are kept: by a table over made objects in a few shapes, and along a chain of
-// many.
+// Which made objects are kept: over made objects in a few shapes, and along a chain of many.
 ghost use Rattle.std.specs.Prelude.{◌↔◌, IsTrue};
 ghost use Rattle.std.specs.Ordering.{nat_cmp};
 ghost use Rattle.sorted_pairs.specs.Place.{Ascends};
@@ -57,7 +56,7 @@ fn shapes(alloc: Global) -> Result<Vec<(Oid, Object)>, Fail> {
         (9, KERNEL, KERNEL, [].as_slice()),
     ];
     let mut made = Vec::new(alloc);
-    for (name, class, segment, slots) in rows {
+    for &(name, class, segment, slots) in &rows {
         made.push((named(name)?, object(alloc, class, segment, slots)?))?;
     }
     Ok(made)
@@ -78,32 +77,36 @@ fn numbers(alloc: Global, names: &[Oid]) -> Result<Vec<u64>, Fail> {
     Ok(numbers)
 }
 
+// Whether these names are kept, where an object of this class was written whose slot refers to a
+// name, and another name was added to a bag.
+fn keeps(
+    alloc: Global,
+    made: &[(Oid, Object)],
+    class: u64,
+    slot: u64,
+    added: u64,
+    want: &[u64],
+) -> Result<bool, Fail>
+    requires { Ascends nat_cmp made.now }
+{
+    let written = vec![in alloc; (named(7)?, object(alloc, class, KERNEL, &[slot])?)]?;
+    let updates = vec![in alloc; update(alloc, added)?]?;
+    let names = kept(alloc, &written, made, &updates)?;
+    Ok(numbers(alloc, &names)?.as_slice() == want)
+}
+
 #[test]
 fn keeps_what_is_reached(rt: HostRuntime) -> Result<(), Fail> {
     let alloc = rt.alloc();
     let made = shapes(alloc)?;
     assert!(rt; is_ascending(&made));
-    // The class of a written object, what its slot refers to, what is added to a bag, and the names
-    // that are kept.
-    let rows = [
-        (KERNEL, KERNEL, KERNEL, [].as_slice()),
-        (KERNEL, 1, KERNEL, [1, 2, 3, 4, 5].as_slice()),
-        (KERNEL, 3, KERNEL, [3, 4, 5].as_slice()),
-        (KERNEL, KERNEL, 8, [8, 9].as_slice()),
-        (4, 6, 9, [1, 2, 3, 4, 5, 6, 9].as_slice()),
-        // No object of this name was made.
-        (KERNEL, 7, KERNEL, [].as_slice()),
-    ];
-    for (class, slot, added, want) in rows {
-        let written = vec![in alloc; (named(7)?, object(alloc, class, KERNEL, &[slot])?)]?;
-        let updates = vec![in alloc; update(alloc, added)?]?;
-        let names = kept(alloc, &written, &made, &updates)?;
-        assert_eq!(rt;
-            numbers(alloc, &names)?.as_slice(),
-            want,
-            "{class} {slot} {added}"
-        );
-    }
+    assert!(rt; keeps(alloc, &made, KERNEL, KERNEL, KERNEL, &[])?);
+    assert!(rt; keeps(alloc, &made, KERNEL, 1, KERNEL, &[1, 2, 3, 4, 5])?);
+    assert!(rt; keeps(alloc, &made, KERNEL, 3, KERNEL, &[3, 4, 5])?);
+    assert!(rt; keeps(alloc, &made, KERNEL, KERNEL, 8, &[8, 9])?);
+    assert!(rt; keeps(alloc, &made, 4, 6, 9, &[1, 2, 3, 4, 5, 6, 9])?);
+    // No object of this name was made.
+    assert!(rt; keeps(alloc, &made, KERNEL, 7, KERNEL, &[])?);
     Ok(())
 }
 
@@ -119,15 +122,26 @@ fn chain(alloc: Global) -> Result<Vec<(Oid, Object)>, Fail> {
     Ok(made)
 }
 
+// Whether so many names are kept, where an object was written that refers to this one.
+fn keeps_so_many(
+    alloc: Global,
+    made: &[(Oid, Object)],
+    first: u64,
+    want: usize,
+) -> Result<bool, Fail>
+    requires { Ascends nat_cmp made.now }
+{
+    let written = vec![in alloc; (named(KERNEL)?, object(alloc, KERNEL, KERNEL, &[first])?)]?;
+    Ok(kept(alloc, &written, made, &[])?.len() == want)
+}
+
 #[test]
 fn keeps_a_long_chain(rt: HostRuntime) -> Result<(), Fail> {
     let alloc = rt.alloc();
     let made = chain(alloc)?;
     assert!(rt; is_ascending(&made));
-    for (first, want) in [(1, 100_000), (99_999, 2), (100_001, 0)] {
-        let written = vec![in alloc; (named(KERNEL)?, object(alloc, KERNEL, KERNEL, &[first])?)]?;
-        let names = kept(alloc, &written, &made, &[])?;
-        assert_eq!(rt; names.len(), want, "{first}");
-    }
+    assert!(rt; keeps_so_many(alloc, &made, 1, 100_000)?);
+    assert!(rt; keeps_so_many(alloc, &made, 99_999, 2)?);
+    assert!(rt; keeps_so_many(alloc, &made, 100_001, 0)?);
     Ok(())
 }
