@@ -9,6 +9,7 @@ use rc_dict::KeyDict;
 use rc_queue::Queue;
 use seg_rights::{Groups, Right, Rights};
 use std::alloc::Global;
+use std::process::Abort;
 use std::test::Fail;
 use texts::Text;
 
@@ -21,50 +22,63 @@ fn symbol(alloc: Global, bytes: &[u8]) -> Result<Value, Fail> {
 }
 
 pub(crate) fn plain(alloc: Global) -> Result<Body, Fail> {
-    let mut values = Values::of(Vec::new(alloc));
-    values.push(Value::Nil)?;
-    values.push(Value::Int(3))?;
-    values.push(Value::Char(97))?;
-    values.push(symbol(alloc, b"abc")?)?;
-    values.push(Value::Ref(Oid::from_parts(1, 2)))?;
-    Ok(Body::Plain(values))
+    let abc = symbol(alloc, b"abc")?;
+    let two = Value::Ref(Oid::from_parts(1, 2));
+    let values = vec![in alloc; Value::Nil, Value::Int(3), Value::Char(97), abc, two]?;
+    Ok(Body::Plain(Values::of(values)))
+}
+
+// Puts a value at a symbol.
+fn put_at_symbol(
+    alloc: Global,
+    pairs: &mut Dictionary,
+    bytes: &[u8],
+    value: Value,
+) -> Result<(), Fail> {
+    pairs.put(symbol(alloc, bytes)?, value)?;
+    Ok(())
 }
 
 pub(crate) fn dict(alloc: Global) -> Result<Body, Fail> {
     let mut pairs = Dictionary::new(alloc);
-    pairs.put(symbol(alloc, b"a")?, Value::Int(9))?;
-    pairs.put(symbol(alloc, b"bc")?, Value::True)?;
+    put_at_symbol(alloc, &mut pairs, b"a", Value::Int(9))?;
+    put_at_symbol(alloc, &mut pairs, b"bc", Value::True)?;
     Ok(Body::Dict(pairs))
 }
 
+fn names(alloc: Global, first: &[u8], second: &[u8]) -> Result<Names, Fail> {
+    Ok(Names::of(vec![in alloc; text(alloc, first)?, text(alloc, second)?]?))
+}
+
+// One method.
+fn method(alloc: Global, selector: &[u8], code: MethodCode) -> Result<Methods, Fail> {
+    let selector = text(alloc, selector)?;
+    Ok(Methods::of(vec![in alloc; Method { selector, code }]?))
+}
+
+fn sourced(alloc: Global) -> Result<Methods, Fail> {
+    method(
+        alloc,
+        b"half",
+        MethodCode::Source(text(alloc, b"half ^a //")?),
+    )
+}
+
 pub(crate) fn class(alloc: Global) -> Result<Body, Fail> {
-    let mut names = Names::of(Vec::new(alloc));
-    names.push(text(alloc, b"a")?)?;
-    names.push(text(alloc, b"bc")?)?;
-    let mut methods = Methods::of(Vec::new(alloc));
-    methods.push(Method {
-        selector: text(alloc, b"half")?,
-        code: MethodCode::Source(text(alloc, b"half ^a //")?),
-    })?;
-    let mut class_methods = Methods::of(Vec::new(alloc));
-    class_methods.push(Method {
-        selector: text(alloc, b"new")?,
-        code: MethodCode::Primitive(6),
-    })?;
     Ok(Body::Class(ClassBody {
         name: text(alloc, b"Box")?,
         superclass: Some(Oid::from_parts(0, 1)),
         kind: Kind::Plain,
-        names,
-        methods,
-        class_methods,
+        names: names(alloc, b"a", b"bc")?,
+        methods: sourced(alloc)?,
+        class_methods: method(alloc, b"new", MethodCode::Primitive(6))?,
     }))
 }
 
 pub(crate) fn segment(alloc: Global) -> Result<Body, Fail> {
-    let mut groups = Vec::new(alloc);
-    groups.push((text(alloc, b"Readers")?, Right::Read))?;
-    groups.push((text(alloc, b"Writers")?, Right::Write))?;
+    let readers = (text(alloc, b"Readers")?, Right::Read);
+    let writers = (text(alloc, b"Writers")?, Right::Write);
+    let groups = vec![in alloc; readers, writers]?;
     Ok(Body::Segment(Rights {
         owner: 31,
         owner_right: Right::Write,
@@ -74,41 +88,34 @@ pub(crate) fn segment(alloc: Global) -> Result<Body, Fail> {
 }
 
 pub(crate) fn user(alloc: Global) -> Result<Body, Fail> {
-    let mut groups = Names::of(Vec::new(alloc));
-    groups.push(text(alloc, b"Staff")?)?;
     Ok(Body::User(UserBody {
         name: text(alloc, b"DataCurator")?,
-        groups,
+        groups: Names::of(vec![in alloc; text(alloc, b"Staff")?]?),
         default_segment: Oid::from_parts(0, 30),
         globals: Oid::from_parts(0, 34),
     }))
 }
 
 pub(crate) fn bag(alloc: Global, most: u64) -> Result<Option<Body>, Fail> {
-    let mut pairs = Vec::new(alloc);
-    pairs.push((Value::Int(3), most))?;
-    pairs.push((symbol(alloc, b"a")?, 1))?;
+    let a = symbol(alloc, b"a")?;
+    let pairs = vec![in alloc; (Value::Int(3), most), (a, 1)]?;
     Ok(Bag::of_pairs(pairs).map(Body::Bag))
 }
 
 pub(crate) fn key_dict(alloc: Global) -> Result<Option<Body>, Fail> {
-    let mut pairs = Vec::new(alloc);
-    pairs.push((symbol(alloc, b"a")?, Value::Nil))?;
+    let pairs = vec![in alloc; (symbol(alloc, b"a")?, Value::Nil)]?;
     Ok(KeyDict::of_pairs(pairs).map(Body::RcDict))
 }
 
 pub(crate) fn queue(alloc: Global) -> Result<Body, Fail> {
-    let mut items = Vec::new(alloc);
-    items.push(Value::True)?;
-    items.push(Value::Int(5))?;
+    let items = vec![in alloc; Value::True, Value::Int(5)]?;
     Ok(Body::Queue(Queue::of_items(2, items)))
 }
 
-// What a body of each kind has: its number, slots, bytes in store, and whether its updates are
+// What a body of a kind has: the kind's number, slots, bytes in store, and whether its updates are
 // merged.
-#[derive(Drop)]
+#[derive(Clone, Copy)]
 struct Row {
-    body: Option<Body>,
     kind: Kind,
     number: u8,
     slots: u64,
@@ -116,9 +123,8 @@ struct Row {
     shared: bool,
 }
 
-fn row_of(body: Option<Body>, kind: Kind, number: u8, slots: u64, bytes: u64, shared: bool) -> Row {
+const fn row_of(kind: Kind, number: u8, slots: u64, bytes: u64, shared: bool) -> Row {
     Row {
-        body,
         kind,
         number,
         slots,
@@ -127,52 +133,73 @@ fn row_of(body: Option<Body>, kind: Kind, number: u8, slots: u64, bytes: u64, sh
     }
 }
 
-fn rows(alloc: Global) -> Result<Vec<Row>, Fail> {
-    let name = ByteString::of(b"Box".as_slice().to_vec(alloc)?);
-    let mut rows = Vec::new(alloc);
-    rows.push(row_of(Some(plain(alloc)?), Kind::Plain, 1, 5, 31, false))?;
-    rows.push(row_of(Some(plain(alloc)?), Kind::Indexed, 2, 5, 31, false))?;
-    rows.push(row_of(Some(Body::Bytes(name)), Kind::Bytes, 3, 0, 7, false))?;
-    rows.push(row_of(Some(dict(alloc)?), Kind::Dict, 4, 4, 23, false))?;
-    rows.push(row_of(Some(segment(alloc)?), Kind::Segment, 5, 2, 32, false))?;
-    rows.push(row_of(Some(user(alloc)?), Kind::User, 6, 1, 38, false))?;
-    let counter = Body::Counter(Counter { value: 20 });
-    rows.push(row_of(Some(counter), Kind::Counter, 7, 0, 8, true))?;
-    rows.push(row_of(bag(alloc, 2)?, Kind::Bag, 8, 3, 33, true))?;
-    rows.push(row_of(bag(alloc, u64::MAX)?, Kind::Bag, 8, u64::MAX, 33, true))?;
-    rows.push(row_of(key_dict(alloc)?, Kind::RcDict, 9, 2, 9, true))?;
-    rows.push(row_of(Some(queue(alloc)?), Kind::Queue, 10, 2, 22, true))?;
-    Ok(rows)
+fn object_of(body: Body) -> Object {
+    Object {
+        class: Oid::from_parts(0, 19),
+        segment: Oid::from_parts(0, 30),
+        changed: 3,
+        body,
+    }
+}
+
+fn is_of_kind(body: &Body, kind: Kind, number: u8) -> bool {
+    kind.number() == number && kind.fits(body) && !Kind::None.fits(body)
+}
+
+fn has_sizes(object: &Object, row: Row) -> bool {
+    object.body.slots() == row.slots
+        && object.body.size() == row.bytes
+        && Some(object.size()) == row.bytes.checked_add(17)
+        && object.body.is_shared() == row.shared
+}
+
+// Whether a body is as the row says, and a copy of its object too.
+fn has(body: Body, row: Row) -> Result<bool, Fail> {
+    let is_of_kind = is_of_kind(&body, row.kind, row.number);
+    let copy = object_of(body).clone()?;
+    Ok(is_of_kind && has_sizes(&copy, row))
+}
+
+fn some_has(body: Option<Body>, row: Row) -> Result<bool, Fail> {
+    match body {
+        Some(body) => has(body, row),
+        None => Ok(false),
+    }
 }
 
 #[test]
-fn bodies(rt: HostRuntime) -> Result<(), Fail> {
-    for row in rows(rt.alloc())? {
-        let Row {
-            body,
-            kind,
-            number,
-            slots,
-            bytes,
-            shared,
-        } = row;
-        let Some(body) = body else {
-            panic!(rt; "a body of kind {kind:?}");
-        };
-        assert_eq!(rt; kind.number(), number);
-        assert!(rt; kind.fits(&body) && !Kind::None.fits(&body));
-        let object = Object {
-            class: Oid::from_parts(0, 19),
-            segment: Oid::from_parts(0, 30),
-            changed: 3,
-            body,
-        };
-        let copy = object.clone()?;
-        assert_eq!(rt; copy.body.slots(), slots, "{kind:?}");
-        assert_eq!(rt; copy.body.size(), bytes, "{kind:?}");
-        assert_eq!(rt; Some(copy.size()), bytes.checked_add(17), "{kind:?}");
-        assert_eq!(rt; copy.body.is_shared(), shared, "{kind:?}");
-    }
+fn bodies_of_values(rt: HostRuntime) -> Result<(), Fail> {
+    let alloc = rt.alloc();
+    assert!(rt; has(plain(alloc)?, row_of(Kind::Plain, 1, 5, 31, false))?);
+    assert!(rt; has(plain(alloc)?, row_of(Kind::Indexed, 2, 5, 31, false))?);
+    let name = ByteString::of(b"Box".as_slice().to_vec(alloc)?);
+    assert!(rt; has(Body::Bytes(name), row_of(Kind::Bytes, 3, 0, 7, false))?);
+    assert!(rt; has(dict(alloc)?, row_of(Kind::Dict, 4, 4, 23, false))?);
+    Ok(())
+}
+
+#[test]
+fn bodies_of_administration(rt: HostRuntime) -> Result<(), Fail> {
+    let alloc = rt.alloc();
+    assert!(rt; has(segment(alloc)?, row_of(Kind::Segment, 5, 2, 32, false))?);
+    assert!(rt; has(user(alloc)?, row_of(Kind::User, 6, 1, 38, false))?);
+    Ok(())
+}
+
+#[test]
+fn merged_bodies(rt: HostRuntime) -> Result<(), Fail> {
+    let alloc = rt.alloc();
+    let counter = Body::Counter(Counter { value: 20 });
+    assert!(rt; has(counter, row_of(Kind::Counter, 7, 0, 8, true))?);
+    assert!(rt; some_has(bag(alloc, 2)?, row_of(Kind::Bag, 8, 3, 33, true))?);
+    assert!(rt;
+        some_has(
+            bag(alloc, u64::MAX)?,
+            row_of(Kind::Bag, 8, u64::MAX, 33, true)
+        )?
+    );
+    assert!(rt; some_has(key_dict(alloc)?, row_of(Kind::RcDict, 9, 2, 9, true))?);
+    assert!(rt; has(queue(alloc)?, row_of(Kind::Queue, 10, 2, 22, true))?);
     Ok(())
 }
 
@@ -185,42 +212,56 @@ fn body_of_a_class(rt: HostRuntime) -> Result<(), Fail> {
     Ok(())
 }
 
+// Whether a value is below the next one, and a copy of it is the same.
+fn ascend(value: Value, next: Value) -> Result<bool, Fail> {
+    Ok(value < next && value != next && value.clone()? == value)
+}
+
+fn symbols_ascend(alloc: Global, bytes: &[u8], next: &[u8]) -> Result<bool, Fail> {
+    ascend(symbol(alloc, bytes)?, symbol(alloc, next)?)
+}
+
 #[test]
-fn values(rt: HostRuntime) -> Result<(), Fail> {
-    let alloc = rt.alloc();
-    let oid = Oid::from_parts(0, 27);
-    let block = BlockRef {
-        number: 0,
-        params: 1,
-    };
-    let mut ascending = Values::of(Vec::new(alloc));
-    ascending.push(Value::Nil)?;
-    ascending.push(Value::False)?;
-    ascending.push(Value::True)?;
-    ascending.push(Value::Int(-1))?;
-    ascending.push(Value::Int(300))?;
-    ascending.push(Value::Char(7))?;
-    ascending.push(symbol(alloc, b"B")?)?;
-    ascending.push(symbol(alloc, b"Ba")?)?;
-    ascending.push(symbol(alloc, b"a")?)?;
-    ascending.push(Value::Ref(oid))?;
-    ascending.push(Value::Ref(Oid::from_parts(1, 1)))?;
-    ascending.push(Value::Block(block))?;
-    let items = ascending.as_slice();
-    for (value, next) in items.iter().zip(items.iter().skip(1)) {
-        assert!(rt; value < next, "{value:?} {next:?}");
-        assert!(rt; value.clone()? == *value && value != next, "{value:?}");
-    }
-    assert_eq!(rt; Value::Ref(oid).reference(), Some(oid));
-    assert_eq!(rt; Value::Int(27).reference(), None);
+fn order_of_values(rt: HostRuntime) -> Result<(), Fail> {
+    assert!(rt; ascend(Value::Nil, Value::False)?);
+    assert!(rt; ascend(Value::False, Value::True)?);
+    assert!(rt; ascend(Value::True, Value::Int(-1))?);
+    assert!(rt; ascend(Value::Int(-1), Value::Int(300))?);
+    assert!(rt; ascend(Value::Int(300), Value::Char(7))?);
     Ok(())
 }
 
+#[test]
+fn order_of_symbols(rt: HostRuntime) -> Result<(), Fail> {
+    let alloc = rt.alloc();
+    assert!(rt; ascend(Value::Char(7), symbol(alloc, b"B")?)?);
+    assert!(rt; symbols_ascend(alloc, b"B", b"Ba")?);
+    assert!(rt; symbols_ascend(alloc, b"Ba", b"a")?);
+    assert!(rt; ascend(symbol(alloc, b"a")?, Value::Ref(Oid::from_parts(0, 27)))?);
+    Ok(())
+}
+
+#[test]
+fn order_of_references(rt: HostRuntime) -> Result<(), Fail> {
+    let reference = Value::Ref(Oid::from_parts(1, 1));
+    assert!(rt; ascend(Value::Ref(Oid::from_parts(0, 27)), reference)?);
+    let block = Value::Block(BlockRef {
+        number: 0,
+        params: 1,
+    });
+    assert!(rt; ascend(Value::Ref(Oid::from_parts(1, 1)), block)?);
+    Ok(())
+}
+
+#[test]
+fn references(rt: HostRuntime) {
+    let oid = Oid::from_parts(0, 27);
+    assert_eq!(rt; Value::Ref(oid).reference(), Some(oid));
+    assert_eq!(rt; Value::Int(27).reference(), None);
+}
+
 fn changed_slots(alloc: Global) -> Result<Body, Fail> {
-    let mut values = Values::of(Vec::new(alloc));
-    values.push(Value::Nil)?;
-    values.push(Value::True)?;
-    let mut body = Body::Plain(values);
+    let mut body = Body::Plain(Values::of(vec![in alloc; Value::Nil, Value::True]?));
     body.set_slot(1, Value::Int(4));
     body.insert_slot(1, Value::Int(3))?;
     body.insert_slot(3, Value::Int(5))?;
@@ -234,20 +275,62 @@ fn changed_bytes(alloc: Global) -> Result<Body, Fail> {
     Ok(body)
 }
 
+fn has_slots(body: &Body, values: &[Value]) -> bool {
+    match body {
+        Body::Plain(slots) => slots.as_slice() == values,
+        _ => false,
+    }
+}
+
+fn has_bytes(body: &Body, bytes: &[u8]) -> bool {
+    match body {
+        Body::Bytes(text) => text.as_slice() == bytes,
+        _ => false,
+    }
+}
+
 #[test]
-fn changes_of_a_body(rt: HostRuntime) -> Result<(), Fail> {
+fn changes_of_slots(rt: HostRuntime) -> Result<(), Fail> {
     let slots = changed_slots(rt.alloc())?;
-    let Body::Plain(values) = &slots else {
-        panic!(rt; "slots");
-    };
     let left = [Value::Int(3), Value::Int(4), Value::Int(5)];
-    assert!(rt; values.as_slice() == left.as_slice());
-    let bytes = changed_bytes(rt.alloc())?;
-    let Body::Bytes(text) = &bytes else {
-        panic!(rt; "bytes");
-    };
-    assert_eq!(rt; text.as_slice(), b"hat".as_slice());
+    assert!(rt; has_slots(&slots, &left));
     Ok(())
+}
+
+#[test]
+fn changes_of_bytes(rt: HostRuntime) -> Result<(), Fail> {
+    let bytes = changed_bytes(rt.alloc())?;
+    assert!(rt; has_bytes(&bytes, b"hat"));
+    Ok(())
+}
+
+// Whether an integer is put at a key that had this one.
+fn puts(body: &mut Body, key: &Value, number: i64, had: Option<i64>) -> Result<bool, Fail> {
+    let before = body.put_at(key.clone()?, Value::Int(number))?;
+    Ok(before == had.map(Value::Int))
+}
+
+fn has_at(body: &Body, key: &Value, number: i64) -> bool {
+    body.value_at(key) == Some(&Value::Int(number))
+}
+
+fn check_puts<R: Abort>(
+    rt: &R,
+    body: &mut Body,
+    first: &Value,
+    second: &Value,
+) -> Result<(), Fail> {
+    assert!(rt; puts(body, first, 1, None)?);
+    assert!(rt; puts(body, second, 2, None)?);
+    assert!(rt; puts(body, first, 3, Some(1))?);
+    assert!(rt; has_at(body, first, 3));
+    Ok(())
+}
+
+fn check_removal<R: Abort>(rt: &R, body: &mut Body, first: &Value, second: &Value) {
+    assert!(rt; body.remove_at(first) == Some(Value::Int(3)));
+    assert!(rt; body.value_at(first).is_none() && body.slots() == 2);
+    assert!(rt; has_at(body, second, 2));
 }
 
 #[test]
@@ -255,23 +338,13 @@ fn changes_of_a_dictionary(rt: HostRuntime) -> Result<(), Fail> {
     let alloc = rt.alloc();
     let (first, second) = (symbol(alloc, b"a")?, Value::Ref(Oid::from_parts(1, 1)));
     let mut body = Body::Dict(Dictionary::new(alloc));
-    assert!(rt; body.put_at(first.clone()?, Value::Int(1))?.is_none());
-    assert!(rt; body.put_at(second.clone()?, Value::Int(2))?.is_none());
-    assert!(rt; body.put_at(first.clone()?, Value::Int(3))? == Some(Value::Int(1)));
-    assert!(rt; body.value_at(&first) == Some(&Value::Int(3)));
-    assert!(rt; body.remove_at(&first) == Some(Value::Int(3)));
-    assert!(rt; body.value_at(&first).is_none() && body.slots() == 2);
-    assert!(rt; body.value_at(&second) == Some(&Value::Int(2)));
+    check_puts(&rt, &mut body, &first, &second)?;
+    check_removal(&rt, &mut body, &first, &second);
     Ok(())
 }
 
 fn refers_to(alloc: Global, body: Body, names: &[u64]) -> Result<bool, Fail> {
-    let object = Object {
-        class: Oid::from_parts(0, 19),
-        segment: Oid::from_parts(0, 30),
-        changed: 3,
-        body,
-    };
+    let object = object_of(body);
     let mut list = Vec::new(alloc);
     object.push_references(&mut list)?;
     Ok(list.as_slice() == names)
