@@ -1,26 +1,28 @@
 use gem_value::{Conflict, ConflictKind, Conflicts, Oid, Sequence};
+use std::alloc::Global;
 use std::test::Fail;
+
+// Whether a name has this serial and counter, and this number.
+fn is_numbered(oid: Oid, parts: (u32, u32), number: u64) -> bool {
+    (oid.serial(), oid.counter()) == parts && oid.number() == number && Oid::of(number) == Some(oid)
+}
+
+fn is_shown(alloc: Global, oid: Oid, text: &str) -> Result<bool, Fail> {
+    Ok(format!(in alloc; "{oid}")?.as_str() == text)
+}
 
 #[test]
 fn names_of_objects(rt: HostRuntime) -> Result<(), Fail> {
-    let rows = [
-        (Oid::from_parts(1, 2), 1, 2, 16_777_218, "1:2"),
-        (Oid::from_parts(0, 27), 0, 27, 27, "0:27"),
-        (
-            Oid::from_parts(16_777_215, 16_777_215),
-            16_777_215,
-            16_777_215,
-            281_474_976_710_655,
-            "16777215:16777215",
-        ),
-    ];
-    for (oid, serial, counter, number, text) in rows {
-        assert_eq!(rt; oid.number(), number);
-        assert_eq!(rt; Oid::of(number), Some(oid));
-        assert_eq!(rt; oid.serial(), serial);
-        assert_eq!(rt; oid.counter(), counter);
-        assert_eq!(rt; format!(in rt.alloc(); "{oid}")?.as_str(), text);
-    }
+    let alloc = rt.alloc();
+    let first = Oid::from_parts(1, 2);
+    assert!(rt; is_numbered(first, (1, 2), 16_777_218));
+    assert!(rt; is_shown(alloc, first, "1:2")?);
+    let globals = Oid::from_parts(0, 27);
+    assert!(rt; is_numbered(globals, (0, 27), 27));
+    assert!(rt; is_shown(alloc, globals, "0:27")?);
+    let last = Oid::from_parts(16_777_215, 16_777_215);
+    assert!(rt; is_numbered(last, (16_777_215, 16_777_215), 281_474_976_710_655));
+    assert!(rt; is_shown(alloc, last, "16777215:16777215")?);
     assert_eq!(rt; Oid::of(281_474_976_710_656), None);
     Ok(())
 }
@@ -37,7 +39,7 @@ fn kinds_of_conflict(rt: HostRuntime) {
         (7, ConflictKind::DictionaryKey),
         (8, ConflictKind::QueueRemove),
     ];
-    for (number, kind) in kinds {
+    for &(number, kind) in &kinds {
         assert_eq!(rt; kind.number(), number);
         assert_eq!(rt; kind > ConflictKind::CounterRange, number > 5);
     }

@@ -21,35 +21,48 @@ fn segment(
     })
 }
 
+// Whether a user in these groups has this right in a segment with these rights of its owner and of
+// the world.
+fn gives(
+    alloc: Global,
+    (owner_right, world_right): (Right, Right),
+    user: u64,
+    groups: &[&'static str],
+    right: Right,
+) -> Result<bool, AllocError> {
+    let segment = segment(alloc, owner_right, world_right)?;
+    Ok(segment.right_of(user, groups) == right)
+}
+
+const NONE: Right = Right::None;
+
+const READ: Right = Right::Read;
+
+const WRITE: Right = Right::Write;
+
 #[test]
-fn gives_the_greatest(rt: HostRuntime) -> Result<(), Fail> {
-    let none = [].as_slice();
-    let reader = ["Readers"].as_slice();
-    let both = ["Readers", "Writers"].as_slice();
-    let stranger = ["Guests"].as_slice();
-    let cases = [
-        // The owner has no right of his own, but the world may write.
-        (Right::None, Right::Write, OWNER, none, Right::Write),
-        // Two groups, one that reads and one that writes.
-        (Right::None, Right::None, OTHER, both, Right::Write),
-        (Right::None, Right::None, OTHER, reader, Right::Read),
-        // A user in no group, and one in a group that the segment does not name.
-        (Right::Write, Right::None, OTHER, none, Right::None),
-        (Right::Write, Right::Read, OTHER, stranger, Right::Read),
-        // The kernel's segments: the owner writes, the world reads.
-        (Right::Write, Right::Read, OWNER, none, Right::Write),
-        (Right::Write, Right::Read, OTHER, none, Right::Read),
-        // The groups count for the owner too.
-        (Right::None, Right::None, OWNER, reader, Right::Read),
-    ];
-    for (owner_right, world_right, user, groups, right) in cases {
-        let segment = segment(rt.alloc(), owner_right, world_right)?;
-        assert_eq!(rt;
-            segment.right_of(user, groups),
-            right,
-            "{segment:?} {user} {groups:?}"
-        );
-    }
+fn rights_of_owners(rt: HostRuntime) -> Result<(), Fail> {
+    let alloc = rt.alloc();
+    // The owner has no right of his own, but the world may write.
+    assert!(rt; gives(alloc, (NONE, WRITE), OWNER, &[], WRITE)?);
+    // The kernel's segments: the owner writes, the world reads.
+    assert!(rt; gives(alloc, (WRITE, READ), OWNER, &[], WRITE)?);
+    // The groups count for the owner too.
+    assert!(rt; gives(alloc, (NONE, NONE), OWNER, &["Readers"], READ)?);
+    Ok(())
+}
+
+#[test]
+fn rights_of_others(rt: HostRuntime) -> Result<(), Fail> {
+    let alloc = rt.alloc();
+    // Two groups, one that reads and one that writes.
+    assert!(rt; gives(alloc, (NONE, NONE), OTHER, &["Readers", "Writers"], WRITE)?);
+    assert!(rt; gives(alloc, (NONE, NONE), OTHER, &["Readers"], READ)?);
+    // A user in no group, and one in a group that the segment does not name.
+    assert!(rt; gives(alloc, (WRITE, NONE), OTHER, &[], NONE)?);
+    assert!(rt; gives(alloc, (WRITE, READ), OTHER, &["Guests"], READ)?);
+    // The kernel's segments.
+    assert!(rt; gives(alloc, (WRITE, READ), OTHER, &[], READ)?);
     Ok(())
 }
 
@@ -69,7 +82,7 @@ fn allows(rt: HostRuntime) {
         (Right::Read, true, false),
         (Right::Write, true, true),
     ];
-    for (right, reads, writes) in cases {
+    for &(right, reads, writes) in &cases {
         assert_eq!(rt; may_read(right), reads);
         assert_eq!(rt; may_write(right), writes);
     }
