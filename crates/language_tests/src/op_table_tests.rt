@@ -35,7 +35,7 @@ const OP_ROWS: [(u8, Op, u8, u8, u8); 27] = [
 #[test]
 fn op_rows(rt: HostRuntime) {
     assert_eq!(rt; op_table().rows.len(), OP_ROWS.len());
-    for (byte, op, operands, pops, pushes) in OP_ROWS {
+    for &(byte, op, operands, pops, pushes) in &OP_ROWS {
         let row = Row {
             byte,
             op,
@@ -46,9 +46,9 @@ fn op_rows(rt: HostRuntime) {
         assert_eq!(rt; row_of(byte), Some(row));
         assert_eq!(rt; byte_of(op), byte);
     }
-    for byte in [0x1b, 0x80, 0xff] {
-        assert_eq!(rt; row_of(byte), None);
-    }
+    assert_eq!(rt; row_of(0x1b), None);
+    assert_eq!(rt; row_of(0x80), None);
+    assert_eq!(rt; row_of(0xff), None);
 }
 
 const PRIM_ROWS: [(u8, &str, u8, Kind); 25] = [
@@ -81,7 +81,7 @@ const PRIM_ROWS: [(u8, &str, u8, Kind); 25] = [
 
 #[test]
 fn prim_rows(rt: HostRuntime) {
-    for (number, selector, args, receiver) in PRIM_ROWS {
+    for &(number, selector, args, receiver) in &PRIM_ROWS {
         let row = PrimRow {
             number,
             selector,
@@ -90,7 +90,7 @@ fn prim_rows(rt: HostRuntime) {
         };
         assert_eq!(rt; prim_row(number), Some(row));
     }
-    for number in [0, 97, 255] {
-        assert_eq!(rt; prim_row(number), None);
-    }
+    assert_eq!(rt; prim_row(0), None);
+    assert_eq!(rt; prim_row(97), None);
+    assert_eq!(rt; prim_row(255), None);
 }

@@ -2,6 +2,7 @@
 use st_code::{BlockCode, Code, CodeFault};
 use st_tree::{Literal, Literals};
 use std::alloc::{AllocError, Global};
+use std::process::Abort;
 use std::test::Fail;
 use texts::Text;
 
@@ -416,22 +417,43 @@ const HEIGHTS: [Case; 10] = [
     ),
 ];
 
-#[test]
-fn faults(rt: HostRuntime) -> Result<(), Fail> {
-    let alloc = rt.alloc();
-    let blocks = wrong(alloc, &BLOCKS)?;
-    assert_eq!(rt; blocks.as_slice(), [].as_slice());
-    let bytes = wrong(alloc, &BYTES)?;
-    assert_eq!(rt; bytes.as_slice(), [].as_slice());
-    let jumps = wrong(alloc, &JUMPS)?;
-    assert_eq!(rt; jumps.as_slice(), [].as_slice());
-    let operands = wrong(alloc, &OPERANDS)?;
-    assert_eq!(rt; operands.as_slice(), [].as_slice());
-    let pushes = wrong(alloc, &PUSHES)?;
-    assert_eq!(rt; pushes.as_slice(), [].as_slice());
-    let scopes = wrong(alloc, &SCOPES)?;
-    assert_eq!(rt; scopes.as_slice(), [].as_slice());
-    let heights = wrong(alloc, &HEIGHTS)?;
-    assert_eq!(rt; heights.as_slice(), [].as_slice());
+fn check<R: Abort>(rt: &R, alloc: Global, cases: &[Case]) -> Result<(), Fail> {
+    let wrong = wrong(alloc, cases)?;
+    assert_eq!(rt; wrong.as_slice(), [].as_slice());
     Ok(())
+}
+
+#[test]
+fn faults_of_blocks(rt: HostRuntime) -> Result<(), Fail> {
+    check(&rt, rt.alloc(), &BLOCKS)
+}
+
+#[test]
+fn faults_of_bytes(rt: HostRuntime) -> Result<(), Fail> {
+    check(&rt, rt.alloc(), &BYTES)
+}
+
+#[test]
+fn faults_of_jumps(rt: HostRuntime) -> Result<(), Fail> {
+    check(&rt, rt.alloc(), &JUMPS)
+}
+
+#[test]
+fn faults_of_operands(rt: HostRuntime) -> Result<(), Fail> {
+    check(&rt, rt.alloc(), &OPERANDS)
+}
+
+#[test]
+fn faults_of_pushes(rt: HostRuntime) -> Result<(), Fail> {
+    check(&rt, rt.alloc(), &PUSHES)
+}
+
+#[test]
+fn faults_of_scopes(rt: HostRuntime) -> Result<(), Fail> {
+    check(&rt, rt.alloc(), &SCOPES)
+}
+
+#[test]
+fn faults_of_heights(rt: HostRuntime) -> Result<(), Fail> {
+    check(&rt, rt.alloc(), &HEIGHTS)
 }

@@ -58,109 +58,92 @@ const KINDS: [(&[u8], TokenKind); 37] = [
     (b"~~", TokenKind::Binary),
 ];
 
+fn between_blanks(alloc: Global, text: &[u8]) -> Result<Vec<u8>, Fail> {
+    let mut whole = Vec::from_slice(alloc, b"\"\"\n")?;
+    whole.extend_from_slice(text)?;
+    whole.push(b'\t')?;
+    Ok(whole)
+}
+
+// Whether a text is this token alone.
+fn is_token(rt: &impl Abort, alloc: Global, text: &[u8], want: Token) -> Result<bool, LexFault> {
+    Ok(read(rt, alloc, text)?.as_slice() == [want].as_slice())
+}
+
 #[test]
 fn reads_each_kind(rt: HostRuntime) -> Result<(), Fail> {
-    for (text, kind) in KINDS {
-        let mut whole = Vec::from_slice(rt.alloc(), b"\"\"\n")?;
-        whole.extend_from_slice(text)?;
-        whole.push(b'\t')?;
+    let alloc = rt.alloc();
+    for &(text, kind) in &KINDS {
         assert!(rt; text.len() < 100);
-        let end = 3 + text.len() as u32;
-        let found = read(&rt, rt.alloc(), &whole)?;
-        assert_eq!(rt; found.as_slice(), [token(kind, 3, end)].as_slice());
+        let want = token(kind, 3, 3 + text.len() as u32);
+        let whole = between_blanks(alloc, text)?;
+        assert!(rt; is_token(&rt, alloc, &whole, want)?);
     }
     Ok(())
 }
 
-// Texts in which two tokens touch.
+// The kind of a token, its start and its end.
+type Part = (TokenKind, u32, u32);
+
+fn is_part(found: &Token, part: Part) -> bool {
+    *found == token(part.0, part.1, part.2)
+}
+
+// Whether these two tokens touch in a text.
+fn parts(
+    rt: &impl Abort,
+    alloc: Global,
+    text: &[u8],
+    first: Part,
+    second: Part,
+) -> Result<bool, LexFault> {
+    let found = read(rt, alloc, text)?;
+    Ok(found.len() == 2 && is_part(&found[0], first) && is_part(&found[1], second))
+}
+
+const TOUCHING: [(&[u8], Part, Part); 12] = [
+    (
+        b"x:=",
+        (TokenKind::Identifier, 0, 1),
+        (TokenKind::Assign, 1, 3),
+    ),
+    (
+        b"x::=",
+        (TokenKind::Keyword, 0, 2),
+        (TokenKind::Assign, 2, 4),
+    ),
+    (b"+-", (TokenKind::Binary, 0, 1), (TokenKind::Binary, 1, 2)),
+    (b"<=+", (TokenKind::Binary, 0, 2), (TokenKind::Binary, 2, 3)),
+    (b"||", (TokenKind::Bar, 0, 1), (TokenKind::Bar, 1, 2)),
+    (b"3.", (TokenKind::Number, 0, 1), (TokenKind::Period, 1, 2)),
+    (b"-3", (TokenKind::Binary, 0, 1), (TokenKind::Number, 1, 2)),
+    (
+        b"#a:b",
+        (TokenKind::Symbol, 0, 3),
+        (TokenKind::Identifier, 3, 4),
+    ),
+    (
+        b"#a:=",
+        (TokenKind::Symbol, 0, 2),
+        (TokenKind::Assign, 2, 4),
+    ),
+    (b"#+-", (TokenKind::Symbol, 0, 2), (TokenKind::Binary, 2, 3)),
+    (
+        b"$''a'",
+        (TokenKind::Character, 0, 2),
+        (TokenKind::Str, 2, 5),
+    ),
+    (
+        b":x",
+        (TokenKind::Colon, 0, 1),
+        (TokenKind::Identifier, 1, 2),
+    ),
+];
+
 #[test]
 fn parts_tokens_that_touch(rt: HostRuntime) -> Result<(), Fail> {
-    let table: [(&[u8], [Token; 2]); 12] = [
-        (
-            b"x:=",
-            [
-                token(TokenKind::Identifier, 0, 1),
-                token(TokenKind::Assign, 1, 3),
-            ],
-        ),
-        (
-            b"x::=",
-            [
-                token(TokenKind::Keyword, 0, 2),
-                token(TokenKind::Assign, 2, 4),
-            ],
-        ),
-        (
-            b"+-",
-            [
-                token(TokenKind::Binary, 0, 1),
-                token(TokenKind::Binary, 1, 2),
-            ],
-        ),
-        (
-            b"<=+",
-            [
-                token(TokenKind::Binary, 0, 2),
-                token(TokenKind::Binary, 2, 3),
-            ],
-        ),
-        (
-            b"||",
-            [token(TokenKind::Bar, 0, 1), token(TokenKind::Bar, 1, 2)],
-        ),
-        (
-            b"3.",
-            [
-                token(TokenKind::Number, 0, 1),
-                token(TokenKind::Period, 1, 2),
-            ],
-        ),
-        (
-            b"-3",
-            [
-                token(TokenKind::Binary, 0, 1),
-                token(TokenKind::Number, 1, 2),
-            ],
-        ),
-        (
-            b"#a:b",
-            [
-                token(TokenKind::Symbol, 0, 3),
-                token(TokenKind::Identifier, 3, 4),
-            ],
-        ),
-        (
-            b"#a:=",
-            [
-                token(TokenKind::Symbol, 0, 2),
-                token(TokenKind::Assign, 2, 4),
-            ],
-        ),
-        (
-            b"#+-",
-            [
-                token(TokenKind::Symbol, 0, 2),
-                token(TokenKind::Binary, 2, 3),
-            ],
-        ),
-        (
-            b"$''a'",
-            [
-                token(TokenKind::Character, 0, 2),
-                token(TokenKind::Str, 2, 5),
-            ],
-        ),
-        (
-            b":x",
-            [
-                token(TokenKind::Colon, 0, 1),
-                token(TokenKind::Identifier, 1, 2),
-            ],
-        ),
-    ];
-    for (text, parts) in table {
-        let found = read(&rt, rt.alloc(), text)?;
-        assert_eq!(rt; found.as_slice(), parts.as_slice());
+    for &(text, first, second) in &TOUCHING {
+        assert!(rt; parts(&rt, rt.alloc(), text, first, second)?);
     }
     Ok(())
 }
@@ -199,39 +182,53 @@ const BAD_TEXTS: [(&[u8], u32, u8); 30] = [
     (b"{ 'abc", 0, 1),
 ];
 
+fn fault_of(rt: &impl Abort, alloc: Global, text: &[u8]) -> Option<LexFault> {
+    match read(rt, alloc, text) {
+        Ok(_) => None,
+        Err(fault) => Some(fault),
+    }
+}
+
 #[test]
 fn says_where_a_text_is_bad(rt: HostRuntime) -> Result<(), Fail> {
-    for (text, at, rule) in BAD_TEXTS {
-        assert_eq!(rt;
-            read(&rt, rt.alloc(), text).err().ok_or("tokens")?,
-            bad(at, rule)
-        );
+    for &(text, at, rule) in &BAD_TEXTS {
+        assert_eq!(rt; fault_of(&rt, rt.alloc(), text), Some(bad(at, rule)));
     }
     Ok(())
+}
+
+fn long_name(alloc: Global, count: usize) -> Result<Vec<u8>, Fail> {
+    let mut name = Vec::from_slice(alloc, b"#")?;
+    for _ in 0..count {
+        name.push(b'a')?;
+    }
+    Ok(name)
+}
+
+fn long_quoted(alloc: Global, count: usize) -> Result<Vec<u8>, Fail> {
+    let mut quoted = Vec::from_slice(alloc, b"#'")?;
+    for _ in 0..count {
+        quoted.extend_from_slice(b"''")?;
+    }
+    quoted.push(b'\'')?;
+    Ok(quoted)
 }
 
 // A symbol has at most 1,000 bytes, in which a doubled quote counts once.
 #[test]
 fn bounds_symbols(rt: HostRuntime) -> Result<(), Fail> {
-    let mut name = Vec::from_slice(rt.alloc(), b"#")?;
-    let mut quoted = Vec::from_slice(rt.alloc(), b"#'")?;
-    for _ in 0..1000 {
-        name.push(b'a')?;
-        quoted.extend_from_slice(b"''")?;
-    }
-    quoted.push(b'\'')?;
-    assert_eq!(rt;
-        read(&rt, rt.alloc(), &name)?.as_slice(),
-        [token(TokenKind::Symbol, 0, 1001)].as_slice()
-    );
-    assert_eq!(rt;
-        read(&rt, rt.alloc(), &quoted)?.as_slice(),
-        [token(TokenKind::Symbol, 0, 2003)].as_slice()
-    );
-    name.push(b'a')?;
-    assert_eq!(rt;
-        read(&rt, rt.alloc(), &name).err().ok_or("tokens")?,
-        bad(0, 3)
-    );
+    let alloc = rt.alloc();
+    let name = long_name(alloc, 1000)?;
+    assert!(rt; is_token(&rt, alloc, &name, token(TokenKind::Symbol, 0, 1001))?);
+    let quoted = long_quoted(alloc, 1000)?;
+    assert!(rt; is_token(&rt, alloc, &quoted, token(TokenKind::Symbol, 0, 2003))?);
+    Ok(())
+}
+
+#[test]
+fn says_where_a_symbol_is_too_long(rt: HostRuntime) -> Result<(), Fail> {
+    let alloc = rt.alloc();
+    let name = long_name(alloc, 1001)?;
+    assert_eq!(rt; fault_of(&rt, alloc, &name), Some(bad(0, 3)));
     Ok(())
 }

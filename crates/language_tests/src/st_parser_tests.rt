@@ -2,6 +2,7 @@
 use st_parser::{ParseFault, parse_chunk, parse_method};
 use st_tree::{Literal, Primary, Tree};
 use std::alloc::{AllocError, Global};
+use std::process::Abort;
 use std::test::Fail;
 
 fn fault_of(parsed: Result<Tree, ParseFault>) -> Option<(u32, u8)> {
@@ -10,6 +11,16 @@ fn fault_of(parsed: Result<Tree, ParseFault>) -> Option<(u32, u8)> {
         Err(ParseFault::Rule { at, rule }) => Some((at, rule)),
         Err(ParseFault::NoMemory) => Some((0, 0)),
     }
+}
+
+fn fault_of_chunk(rt: &impl Abort, alloc: Global, text: &[u8]) -> Option<(u32, u8)> {
+    assert!(rt; text.len() < 10_000);
+    fault_of(parse_chunk(alloc, text))
+}
+
+fn fault_of_method(rt: &impl Abort, alloc: Global, text: &[u8]) -> Option<(u32, u8)> {
+    assert!(rt; text.len() < 10_000);
+    fault_of(parse_method(alloc, text))
 }
 
 // Where chunks fail, and by which rule.
@@ -64,9 +75,8 @@ const CHUNKS: [(&[u8], Option<(u32, u8)>); 43] = [
 
 #[test]
 fn faults(rt: HostRuntime) -> Result<(), Fail> {
-    for (text, wanted) in CHUNKS {
-        assert!(rt; text.len() < 10_000);
-        assert_eq!(rt; fault_of(parse_chunk(rt.alloc(), text)), wanted);
+    for &(text, wanted) in &CHUNKS {
+        assert_eq!(rt; fault_of_chunk(&rt, rt.alloc(), text), wanted);
     }
     Ok(())
 }
@@ -79,21 +89,26 @@ fn deep(rt: HostRuntime) -> Result<(), Fail> {
     push_often(&mut text, b"(", 200)?;
     text.push(b'3')?;
     push_often(&mut text, b")", 200)?;
-    assert!(rt; text.len() < 10_000);
-    assert_eq!(rt; fault_of(parse_chunk(alloc, &text)), None);
-    // What stands before 201 pieces, the piece, and the place of the bracket that is one too many.
-    let table: [(&[u8], &[u8], u32); 6] = [
-        (b"", b"(", 200),
-        (b"", b"[", 200),
-        (b"", b"#(", 400),
-        (b"#(", b"(", 201),
-        (b"x := ", b"([", 205),
-        (b"[ :x | ", b"x foo: #(1) bar: (", 3596),
-    ];
-    for (front, piece, at) in &table {
+    assert_eq!(rt; fault_of_chunk(&rt, alloc, &text), None);
+    Ok(())
+}
+
+// What stands before 201 pieces, the piece, and the place of the bracket that is one too many.
+const TOO_DEEP: [(&[u8], &[u8], u32); 6] = [
+    (b"", b"(", 200),
+    (b"", b"[", 200),
+    (b"", b"#(", 400),
+    (b"#(", b"(", 201),
+    (b"x := ", b"([", 205),
+    (b"[ :x | ", b"x foo: #(1) bar: (", 3596),
+];
+
+#[test]
+fn too_deep(rt: HostRuntime) -> Result<(), Fail> {
+    let alloc = rt.alloc();
+    for &(front, piece, at) in &TOO_DEEP {
         let text = repeated(alloc, front, piece)?;
-        assert!(rt; text.len() < 10_000);
-        assert_eq!(rt; fault_of(parse_chunk(alloc, &text)), Some((*at, 9)));
+        assert_eq!(rt; fault_of_chunk(&rt, alloc, &text), Some((at, 9)));
     }
     Ok(())
 }
@@ -195,9 +210,8 @@ const METHODS: [(&[u8], Option<(u32, u8)>); 15] = [
 
 #[test]
 fn methods(rt: HostRuntime) -> Result<(), Fail> {
-    for (text, wanted) in METHODS {
-        assert!(rt; text.len() < 10_000);
-        assert_eq!(rt; fault_of(parse_method(rt.alloc(), text)), wanted);
+    for &(text, wanted) in &METHODS {
+        assert_eq!(rt; fault_of_method(&rt, rt.alloc(), text), wanted);
     }
     Ok(())
 }

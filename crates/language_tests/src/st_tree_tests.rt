@@ -6,6 +6,7 @@ ghost use Rattle.st_tree.specs.Trees.{constants, send, sends, expressions};
 
 use st_tree::{BlockTree, Expr, Literal, Literals, Message, Primary, Stat, Tree};
 use std::alloc::{AllocError, Global};
+use std::process::Abort;
 use std::test::Fail;
 use texts::Text;
 
@@ -154,23 +155,21 @@ fn reads_back_a_literal_array(rt: HostRuntime) -> Result<(), Fail> {
     Ok(())
 }
 
-#[test]
-fn copies_a_method(rt: HostRuntime) -> Result<(), Fail> {
-    let tree = method(rt.alloc())?.clone()?;
-    assert!(rt;
-        tree.selector
-            .is_some_and(|name| name.bytes() == b"plus:".as_slice())
-    );
+fn has_selector(tree: &Tree, selector: &[u8]) -> bool {
+    match &tree.selector {
+        Some(name) => name.bytes() == selector,
+        None => false,
+    }
+}
+
+fn check_names<R: Abort>(rt: &R, tree: &Tree) {
+    assert!(rt; has_selector(tree, b"plus:"));
     assert_eq!(rt; tree.params.len(), 1);
     assert_eq!(rt; tree.temps.len(), 1);
     assert_eq!(rt; tree.temps[0].bytes(), b"sum".as_slice());
-    assert_eq!(rt; tree.body.len(), 2);
-    assert!(rt; !tree.body[0].returns);
-    assert_eq!(rt; tree.body[0].expr.assigns.len(), 1);
-    assert!(rt; tree.body[1].returns);
-    let Primary::Block(block) = &tree.body[1].expr.head else {
-        return Err(Fail::from("no block"));
-    };
+}
+
+fn check_block<R: Abort>(rt: &R, block: &BlockTree) {
     assert_eq!(rt; block.params.len(), 1);
     assert_eq!(rt; block.body.len(), 1);
     let inner = &block.body[0].expr;
@@ -178,6 +177,26 @@ fn copies_a_method(rt: HostRuntime) -> Result<(), Fail> {
     assert_eq!(rt; inner.messages.len(), 1);
     assert_eq!(rt; inner.cascade.len(), 1);
     assert_eq!(rt; inner.cascade[0].selector.bytes(), b"yourself".as_slice());
+}
+
+fn check_statements<R: Abort>(rt: &R, sum: &Stat, answer: &Stat) {
+    assert!(rt; !sum.returns);
+    assert_eq!(rt; sum.expr.assigns.len(), 1);
+    assert!(rt; answer.returns);
+    match &answer.expr.head {
+        Primary::Block(block) => check_block(rt, block),
+        _ => panic!(rt; "no block"),
+    }
+}
+
+#[test]
+fn copies_a_method(rt: HostRuntime) -> Result<(), Fail> {
+    let tree = method(rt.alloc())?.clone()?;
+    check_names(&rt, &tree);
+    match tree.body.as_slice() {
+        [sum, answer] => check_statements(&rt, sum, answer),
+        _ => panic!(rt; "not two statements"),
+    }
     Ok(())
 }
 
