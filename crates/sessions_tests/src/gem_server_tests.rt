@@ -2,7 +2,7 @@
 ghost use Rattle.std.specs.Prelude.{◌<◌, None};
 
 use crate::reports::{LONG_REPORTS, REPORTS};
-use gem_io::{Failed, MemSink, MemSource, Sink};
+use gem_io::{Failed, MemSink, MemSource, Sink, Source};
 use gem_server::{Ended, Status, gemstone};
 use std::alloc::{AllocError, Global};
 use std::test::Fail;
@@ -17,6 +17,19 @@ fn words(alloc: Global, line: &str) -> Result<Vec<String>, AllocError> {
     Ok(words)
 }
 
+// How the program ends on a command line, over these devices. From this call a caller's proof
+// learns nothing of the run, so it stays short.
+fn run<R: Threads, S: Source, K: Sink>(
+    rt: &R,
+    alloc: Global,
+    line: &str,
+    source: &mut S,
+    sink: &mut K,
+) -> Result<Ended, AllocError> {
+    let words = words(alloc, line)?;
+    Ok(gemstone(rt, alloc, &words, source, sink))
+}
+
 // How a script ends, and what is written.
 fn served<R: Threads>(
     rt: &R,
@@ -25,7 +38,7 @@ fn served<R: Threads>(
 ) -> Result<(Ended, MemSink), AllocError> {
     let mut source = MemSource::new(script.to_vec(alloc)?, Vec::new(alloc));
     let mut sink = MemSink::new(Vec::new(alloc));
-    let ended = gemstone(rt, alloc, &words(alloc, "serve")?, &mut source, &mut sink);
+    let ended = run(rt, alloc, "serve", &mut source, &mut sink)?;
     Ok((ended, sink))
 }
 
@@ -37,31 +50,66 @@ fn not_always_no_memory(rt: HostRuntime) -> Result<(), Fail> {
     Ok(())
 }
 
+// Whether a script ends so.
+fn ends<R: Threads>(
+    rt: &R,
+    alloc: Global,
+    script: &[u8],
+    status: Status,
+) -> Result<bool, AllocError> {
+    let (ended, _) = served(rt, alloc, script)?;
+    Ok(ended.status == status)
+}
+
+// Whether a script ends so, and this is written.
+fn writes<R: Threads>(
+    rt: &R,
+    alloc: Global,
+    script: &[u8],
+    status: Status,
+    written: &[u8],
+) -> Result<bool, AllocError> {
+    let (ended, sink) = served(rt, alloc, script)?;
+    Ok(ended.status == status && sink.written() == written)
+}
+
+// Whether the report of a script is this.
+fn has_report<R: Threads>(
+    rt: &R,
+    alloc: Global,
+    script: &[u8],
+    report: &[u8],
+) -> Result<bool, AllocError> {
+    writes(rt, alloc, script, Status::Done, report)
+}
+
 #[test]
 fn scripts_and_their_reports(rt: HostRuntime) -> Result<(), Fail> {
-    for (script, report) in REPORTS {
-        let (ended, sink) = served(&rt, rt.alloc(), script.as_bytes())?;
-        assert_eq!(rt; ended.status, Status::Done, "{script}");
-        assert_eq!(rt; sink.written(), report.as_bytes(), "{script}");
+    let alloc = rt.alloc();
+    for &(script, report) in &REPORTS {
+        assert!(rt;
+            has_report(&rt, alloc, script.as_bytes(), report.as_bytes())?,
+            "{script}"
+        );
     }
     Ok(())
 }
 
 #[test]
 fn long_scripts_and_their_reports(rt: HostRuntime) -> Result<(), Fail> {
-    for (script, report) in LONG_REPORTS {
-        let (ended, sink) = served(&rt, rt.alloc(), script.as_bytes())?;
-        assert_eq!(rt; ended.status, Status::Done, "{script}");
-        assert_eq!(rt; sink.written(), report.as_bytes(), "{script}");
+    let alloc = rt.alloc();
+    for &(script, report) in &LONG_REPORTS {
+        assert!(rt;
+            has_report(&rt, alloc, script.as_bytes(), report.as_bytes())?,
+            "{script}"
+        );
     }
     Ok(())
 }
 
 #[test]
 fn empty_script(rt: HostRuntime) -> Result<(), Fail> {
-    let (ended, sink) = served(&rt, rt.alloc(), b"")?;
-    assert_eq!(rt; ended.status, Status::Done);
-    assert_eq!(rt; sink.written(), b"commits 0\n".as_slice());
+    assert!(rt; has_report(&rt, rt.alloc(), b"", b"commits 0\n")?);
     Ok(())
 }
 
@@ -115,30 +163,44 @@ fn all_counted(alloc: Global) -> Result<String, AllocError> {
 #[test]
 fn sixteen_sessions(rt: HostRuntime) -> Result<(), Fail> {
     let alloc = rt.alloc();
-    let (ended, sink) = served(&rt, alloc, counting(alloc, 15)?.as_bytes())?;
-    assert_eq!(rt; ended.status, Status::Done);
-    assert_eq!(rt; sink.written(), all_counted(alloc)?.as_bytes());
-    let (ended, _) = served(&rt, alloc, counting(alloc, 16)?.as_bytes())?;
-    assert_eq!(rt; ended.status, Status::Script { line: 141, rule: 5 });
+    let script = counting(alloc, 15)?;
+    let report = all_counted(alloc)?;
+    assert!(rt; has_report(&rt, alloc, script.as_bytes(), report.as_bytes())?);
     Ok(())
 }
 
 #[test]
-fn book_and_events(rt: HostRuntime) -> Result<(), Fail> {
-    let (ended, _) = served(
-        &rt,
-        rt.alloc(),
-        b"session DataCurator\nrun\nGlobals at: #T put: 2\n%\ncommit\n",
-    )?;
-    assert_eq!(rt; ended.book.first, 0);
-    assert_eq!(rt; ended.book.base, 1);
-    assert_eq!(rt; ended.book.transcripts.as_slice().len(), 1);
-    assert_eq!(rt; ended.events.as_slice().len(), 1);
+fn seventeen_sessions(rt: HostRuntime) -> Result<(), Fail> {
+    let alloc = rt.alloc();
+    let script = counting(alloc, 16)?;
+    let status = Status::Script { line: 141, rule: 5 };
+    assert!(rt; ends(&rt, alloc, script.as_bytes(), status)?);
+    Ok(())
+}
+
+// Whether the book of a run from the kernel's image has one transcript, and there was one event.
+fn has_one_session(ended: &Ended) -> bool {
+    ended.book.first == 0
+        && ended.book.base == 1
+        && ended.book.transcripts.as_slice().len() == 1
+        && ended.events.as_slice().len() == 1
+}
+
+// Whether the first commit is that of the first session's first two commands.
+fn has_first_commit(ended: &Ended) -> bool {
     let Some((entry, _)) = ended.book.history.as_slice().split_first() else {
-        return Err(Fail::new("the history has no entry"));
+        return false;
     };
-    assert_eq!(rt; (entry.session, entry.transaction, entry.view), (1, 1, 0));
-    assert_eq!(rt; (entry.first_command, entry.last_command), (1, 2));
+    (entry.session, entry.transaction, entry.view) == (1, 1, 0)
+        && (entry.first_command, entry.last_command) == (1, 2)
+}
+
+#[test]
+fn book_and_events(rt: HostRuntime) -> Result<(), Fail> {
+    let script = b"session DataCurator\nrun\nGlobals at: #T put: 2\n%\ncommit\n";
+    let (ended, _) = served(&rt, rt.alloc(), script)?;
+    assert!(rt; has_one_session(&ended));
+    assert!(rt; has_first_commit(&ended));
     Ok(())
 }
 
@@ -152,33 +214,46 @@ const NO_SCRIPTS: [(&str, u32, u8); 5] = [
 
 #[test]
 fn texts_that_are_no_script(rt: HostRuntime) -> Result<(), Fail> {
-    for (script, line, rule) in NO_SCRIPTS {
-        let (ended, sink) = served(&rt, rt.alloc(), script.as_bytes())?;
-        assert_eq!(rt; ended.status, Status::Script { line, rule }, "{script}");
-        assert_eq!(rt; sink.written(), b"".as_slice(), "{script}");
+    let alloc = rt.alloc();
+    for &(script, line, rule) in &NO_SCRIPTS {
+        let status = Status::Script { line, rule };
+        assert!(rt;
+            writes(&rt, alloc, script.as_bytes(), status, b"")?,
+            "{script}"
+        );
     }
     Ok(())
 }
 
 #[test]
-fn longest_scripts(rt: HostRuntime) -> Result<(), Fail> {
+fn longest_script(rt: HostRuntime) -> Result<(), Fail> {
     let alloc = rt.alloc();
-    let (ended, _) = served(&rt, alloc, &vec![in alloc; b'\n'; 1_048_576]?)?;
-    assert_eq!(rt; ended.status, Status::Done);
-    let (ended, _) = served(&rt, alloc, &vec![in alloc; b'\n'; 1_048_577]?)?;
-    assert_eq!(rt; ended.status, Status::Script { line: 0, rule: 7 });
+    let script = vec![in alloc; b'\n'; 1_048_576]?;
+    assert!(rt; ends(&rt, alloc, &script, Status::Done)?);
     Ok(())
+}
+
+#[test]
+fn too_long_script(rt: HostRuntime) -> Result<(), Fail> {
+    let alloc = rt.alloc();
+    let script = vec![in alloc; b'\n'; 1_048_577]?;
+    assert!(rt; ends(&rt, alloc, &script, Status::Script { line: 0, rule: 7 })?);
+    Ok(())
+}
+
+// Whether the program doesn't know these words, and writes nothing.
+fn is_unknown<R: Threads>(rt: &R, alloc: Global, line: &str) -> Result<bool, AllocError> {
+    let mut source = MemSource::new(Vec::new(alloc), Vec::new(alloc));
+    let mut sink = MemSink::new(Vec::new(alloc));
+    let ended = run(rt, alloc, line, &mut source, &mut sink)?;
+    Ok(ended.status == Status::Usage && sink.written().is_empty())
 }
 
 #[test]
 fn other_words(rt: HostRuntime) -> Result<(), Fail> {
     let alloc = rt.alloc();
-    for line in ["", "check", "Serve", "serve x", "serve serve", "--help"] {
-        let mut source = MemSource::new(Vec::new(alloc), Vec::new(alloc));
-        let mut sink = MemSink::new(Vec::new(alloc));
-        let ended = gemstone(&rt, alloc, &words(alloc, line)?, &mut source, &mut sink);
-        assert_eq!(rt; ended.status, Status::Usage, "{line}");
-        assert_eq!(rt; sink.written(), b"".as_slice(), "{line}");
+    for line in &["", "check", "Serve", "serve x", "serve serve", "--help"] {
+        assert!(rt; is_unknown(&rt, alloc, line)?, "{line}");
     }
     Ok(())
 }
@@ -207,26 +282,30 @@ impl Sink for ShortSink {
     }
 }
 
+const ONE_SUM: &[u8] = b"session DataCurator\nprintit\n3 + 4 * 2\n%\n";
+
 #[test]
-fn faults_of_devices(rt: HostRuntime) -> Result<(), Fail> {
+fn fault_of_a_source(rt: HostRuntime) -> Result<(), Fail> {
     let alloc = rt.alloc();
-    let script = b"session DataCurator\nprintit\n3 + 4 * 2\n%\n";
-    let serve = words(alloc, "serve")?;
-
-    let mut failing = MemSource::new(script.to_vec(alloc)?, vec![in alloc; 2]?);
+    let mut failing = MemSource::new(ONE_SUM.to_vec(alloc)?, vec![in alloc; 2]?);
     let mut sink = MemSink::new(Vec::new(alloc));
-    let ended = gemstone(&rt, alloc, &serve, &mut failing, &mut sink);
+    let ended = run(&rt, alloc, "serve", &mut failing, &mut sink)?;
     assert_eq!(rt; ended.status, Status::ReadFault);
-    assert_eq!(rt; sink.written(), b"".as_slice());
+    assert!(rt; sink.written().is_empty());
+    Ok(())
+}
 
-    let mut source = MemSource::new(script.to_vec(alloc)?, Vec::new(alloc));
+#[test]
+fn fault_of_a_sink(rt: HostRuntime) -> Result<(), Fail> {
+    let alloc = rt.alloc();
+    let mut source = MemSource::new(ONE_SUM.to_vec(alloc)?, Vec::new(alloc));
     let mut short = ShortSink {
         room: 10,
         taken: Vec::new(alloc),
         faults: 0,
     };
-    let ended = gemstone(&rt, alloc, &serve, &mut source, &mut short);
+    let ended = run(&rt, alloc, "serve", &mut source, &mut short)?;
     assert_eq!(rt; ended.status, Status::WriteFault);
-    assert_eq!(rt; short.taken.as_slice(), b"session 1 ".as_slice());
+    assert!(rt; short.taken.as_slice() == b"session 1 ".as_slice());
     Ok(())
 }

@@ -136,19 +136,19 @@ fn told(alloc: Global, transcript: Option<Transcript>) -> Result<Vec<u8>, AllocE
     report_text(alloc, &book)
 }
 
+// Whether this is the report of the first session beside a lock of this kind.
+fn is_told(alloc: Global, kind: LockKind, report: &str) -> Result<bool, Fail> {
+    let Ok(script) = read_script(alloc, SCRIPT.as_bytes()) else {
+        return Err(Fail::new("it is no script"));
+    };
+    let told = told(alloc, beside_lock(alloc, script, kind)?)?;
+    Ok(told.as_slice() == report.as_bytes())
+}
+
 #[test]
 fn replies_beside_a_lock(rt: HostRuntime) -> Result<(), Fail> {
     let alloc = rt.alloc();
-    let cases = [
-        (LockKind::Read, BESIDE_READ_LOCK),
-        (LockKind::Write, BESIDE_WRITE_LOCK),
-    ];
-    for (kind, report) in cases {
-        let Ok(script) = read_script(alloc, SCRIPT.as_bytes()) else {
-            return Err(Fail::new("it is no script"));
-        };
-        let told = told(alloc, beside_lock(alloc, script, kind)?)?;
-        assert_eq!(rt; told.as_slice(), report.as_bytes());
-    }
+    assert!(rt; is_told(alloc, LockKind::Read, BESIDE_READ_LOCK)?);
+    assert!(rt; is_told(alloc, LockKind::Write, BESIDE_WRITE_LOCK)?);
     Ok(())
 }

@@ -1,4 +1,4 @@
-use shell_words::{CHUNK_LIMIT, Command, SCRIPT_LIMIT, ScriptFault, read_script};
+use shell_words::{CHUNK_LIMIT, Command, SCRIPT_LIMIT, ScriptFault, SessionScript, read_script};
 use std::alloc::{AllocError, Global};
 use std::test::Fail;
 
@@ -40,17 +40,22 @@ fn show(out: &mut Vec<u8>, command: &Command) -> Result<(), AllocError> {
     }
 }
 
+fn show_session(out: &mut Vec<u8>, session: &SessionScript) -> Result<(), AllocError> {
+    out.extend_from_slice(session.user().bytes())?;
+    out.push(b'{')?;
+    for command in session.commands() {
+        show(out, command)?;
+    }
+    out.push(b'}')?;
+    Ok(())
+}
+
 // The sessions of a script, each as its user and its commands in braces.
 fn shown(alloc: Global, text: &[u8]) -> Result<Vec<u8>, ScriptFault> {
-    let mut out = Vec::new(alloc);
     let script = read_script(alloc, text)?;
+    let mut out = Vec::new(alloc);
     for session in script.sessions() {
-        out.extend_from_slice(session.user().bytes())?;
-        out.push(b'{')?;
-        for command in session.commands() {
-            show(&mut out, command)?;
-        }
-        out.push(b'}')?;
+        show_session(&mut out, session)?;
     }
     Ok(out)
 }
@@ -97,11 +102,15 @@ const SCRIPTS: [(&[u8], &[u8]); 13] = [
     ),
 ];
 
+fn reads(alloc: Global, text: &[u8], script: &[u8]) -> Result<bool, ScriptFault> {
+    Ok(shown(alloc, text)?.as_slice() == script)
+}
+
 #[test]
 fn reads_scripts(rt: HostRuntime) -> Result<(), Fail> {
-    for (text, script) in SCRIPTS {
-        let found = shown(rt.alloc(), text)?;
-        assert_eq!(rt; found.as_slice(), script);
+    let alloc = rt.alloc();
+    for &(text, script) in &SCRIPTS {
+        assert!(rt; reads(alloc, text, script)?);
     }
     Ok(())
 }
@@ -154,7 +163,7 @@ const BROKEN: [(&[u8], u32, u8); 37] = [
 
 #[test]
 fn finds_the_first_rule(rt: HostRuntime) -> Result<(), Fail> {
-    for (text, line, rule) in BROKEN {
+    for &(text, line, rule) in &BROKEN {
         assert_eq!(rt; broken(rt.alloc(), text), Some((line, rule)));
     }
     Ok(())
@@ -169,24 +178,24 @@ fn sessions(alloc: Global, count: usize, last: &[u8]) -> Result<Vec<u8>, AllocEr
     Ok(text)
 }
 
+// Whether a text of so many sessions and a last part breaks this rule.
+fn breaks(
+    alloc: Global,
+    count: usize,
+    last: &[u8],
+    want: Option<(u32, u8)>,
+) -> Result<bool, AllocError> {
+    let text = sessions(alloc, count, last)?;
+    Ok(broken(alloc, &text) == want)
+}
+
 #[test]
 fn counts_sessions(rt: HostRuntime) -> Result<(), Fail> {
-    assert_eq!(rt;
-        broken(rt.alloc(), &sessions(rt.alloc(), 16, b"commit")?),
-        None
-    );
-    assert_eq!(rt;
-        broken(rt.alloc(), &sessions(rt.alloc(), 16, b"\nsession A")?),
-        Some((18, 5))
-    );
-    assert_eq!(rt;
-        broken(rt.alloc(), &sessions(rt.alloc(), 16, b"session 1\nfoo")?),
-        Some((17, 6))
-    );
-    assert_eq!(rt;
-        broken(rt.alloc(), &sessions(rt.alloc(), 15, b"session A")?),
-        None
-    );
+    let alloc = rt.alloc();
+    assert!(rt; breaks(alloc, 16, b"commit", None)?);
+    assert!(rt; breaks(alloc, 16, b"\nsession A", Some((18, 5)))?);
+    assert!(rt; breaks(alloc, 16, b"session 1\nfoo", Some((17, 6)))?);
+    assert!(rt; breaks(alloc, 15, b"session A", None)?);
     Ok(())
 }
 
@@ -207,43 +216,43 @@ fn around(
 }
 
 #[test]
-fn bounds_names_chunks_and_scripts(rt: HostRuntime) -> Result<(), Fail> {
+fn bounds_names(rt: HostRuntime) -> Result<(), Fail> {
     let alloc = rt.alloc();
-    assert_eq!(rt;
-        broken(alloc, &around(alloc, b"session ", b"a", 64, b"")?),
-        None
-    );
-    assert_eq!(rt;
-        broken(alloc, &around(alloc, b"session ", b"a", 65, b"")?),
-        Some((1, 6))
-    );
-    let chunk = b"session A\nrun\n";
-    assert_eq!(rt;
-        broken(
-            alloc,
-            &around(alloc, chunk, b" ", CHUNK_LIMIT - 1, b"\n%\n")?
-        ),
-        None
-    );
-    assert_eq!(rt;
-        broken(alloc, &around(alloc, chunk, b" ", CHUNK_LIMIT, b"\n%\n")?),
-        Some((2, 4))
-    );
-    assert_eq!(rt;
-        broken(alloc, &around(alloc, chunk, b"\n", CHUNK_LIMIT + 1, b"")?),
-        Some((2, 3))
-    );
-    assert_eq!(rt;
-        broken(alloc, &around(alloc, chunk, b"\r\n", CHUNK_LIMIT, b"%\n")?),
-        None
-    );
-    assert_eq!(rt;
-        broken(alloc, &around(alloc, b"", b"\n", SCRIPT_LIMIT, b"")?),
-        None
-    );
-    assert_eq!(rt;
-        broken(alloc, &around(alloc, b"", b"\x80", SCRIPT_LIMIT, b"\n")?),
-        Some((0, 7))
-    );
+    let most = around(alloc, b"session ", b"a", 64, b"")?;
+    assert_eq!(rt; broken(alloc, &most), None);
+    let more = around(alloc, b"session ", b"a", 65, b"")?;
+    assert_eq!(rt; broken(alloc, &more), Some((1, 6)));
+    Ok(())
+}
+
+const CHUNK: &[u8] = b"session A\nrun\n";
+
+#[test]
+fn bounds_lines_of_chunks(rt: HostRuntime) -> Result<(), Fail> {
+    let alloc = rt.alloc();
+    let most = around(alloc, CHUNK, b" ", CHUNK_LIMIT - 1, b"\n%\n")?;
+    assert_eq!(rt; broken(alloc, &most), None);
+    let more = around(alloc, CHUNK, b" ", CHUNK_LIMIT, b"\n%\n")?;
+    assert_eq!(rt; broken(alloc, &more), Some((2, 4)));
+    Ok(())
+}
+
+#[test]
+fn bounds_chunks_of_lines(rt: HostRuntime) -> Result<(), Fail> {
+    let alloc = rt.alloc();
+    let endless = around(alloc, CHUNK, b"\n", CHUNK_LIMIT + 1, b"")?;
+    assert_eq!(rt; broken(alloc, &endless), Some((2, 3)));
+    let most = around(alloc, CHUNK, b"\r\n", CHUNK_LIMIT, b"%\n")?;
+    assert_eq!(rt; broken(alloc, &most), None);
+    Ok(())
+}
+
+#[test]
+fn bounds_scripts(rt: HostRuntime) -> Result<(), Fail> {
+    let alloc = rt.alloc();
+    let most = around(alloc, b"", b"\n", SCRIPT_LIMIT, b"")?;
+    assert_eq!(rt; broken(alloc, &most), None);
+    let more = around(alloc, b"", b"\x80", SCRIPT_LIMIT, b"\n")?;
+    assert_eq!(rt; broken(alloc, &more), Some((0, 7)));
     Ok(())
 }
