@@ -70,25 +70,49 @@ fn counter(value: i64, changed: u64) -> Object {
     }
 }
 
+// Adds an array in whose slots these names stand.
+fn push_array(
+    alloc: Global,
+    made: &mut Vec<(Oid, Object)>,
+    oid: Oid,
+    names: &[Oid],
+) -> Result<(), AllocError> {
+    made.push((oid, array(alloc, names)?))?;
+    Ok(())
+}
+
 // What the session made: the second and the fourth lead to one another, the first to the second,
 // and the third to the first and the fourth.
 fn made(rt: &impl Abort, alloc: Global) -> Result<ByName<Object>, AllocError> {
     let (first, second) = (name(MADE, 1), name(MADE, 2));
     let (third, fourth) = (name(MADE, 3), name(MADE, 4));
     let mut made = Vec::new(alloc);
-    made.push((first, array(alloc, &[second])?))?;
-    made.push((second, array(alloc, &[fourth])?))?;
-    made.push((third, array(alloc, &[first, fourth])?))?;
-    made.push((fourth, array(alloc, &[second])?))?;
+    push_array(alloc, &mut made, first, &[second])?;
+    push_array(alloc, &mut made, second, &[fourth])?;
+    push_array(alloc, &mut made, third, &[first, fourth])?;
+    push_array(alloc, &mut made, fourth, &[second])?;
     Ok(by_name(rt, made))
 }
 
-// The session wrote an object, which leads to the second that it made, and updated a counter.
-fn record(rt: &impl Abort, alloc: Global) -> Result<TxnRecord, AllocError> {
-    let box_name = name(WRITTEN.0, WRITTEN.1);
-    let written = vec![in alloc; (box_name, array(alloc, &[name(MADE, 2)])?)]?;
+// The session wrote an object, which leads to the second that it made.
+fn written(rt: &impl Abort, alloc: Global) -> Result<ByName<Object>, AllocError> {
+    let written = array(alloc, &[name(MADE, 2)])?;
+    let written = vec![in alloc; (name(WRITTEN.0, WRITTEN.1), written)]?;
+    Ok(by_name(rt, written))
+}
+
+// It updated a counter.
+fn updates(rt: &impl Abort, alloc: Global) -> Result<ByName<Sequence<Update>>, AllocError> {
     let added = Sequence::of(vec![in alloc; Update::Counter(5)]?);
     let updates = vec![in alloc; (name(UPDATED.0, UPDATED.1), added)]?;
+    Ok(by_name(rt, updates))
+}
+
+fn record(rt: &impl Abort, alloc: Global) -> Result<TxnRecord, AllocError> {
+    let touched = one_name(alloc, name(WRITTEN.0, WRITTEN.1))?;
+    let written = written(rt, alloc)?;
+    let made = made(rt, alloc)?;
+    let updates = updates(rt, alloc)?;
     Ok(TxnRecord {
         session: 3,
         transaction: 1,
@@ -98,10 +122,10 @@ fn record(rt: &impl Abort, alloc: Global) -> Result<TxnRecord, AllocError> {
         first_name: 1,
         view: 7,
         base: Image::empty(),
-        touched: one_name(alloc, box_name)?,
-        written: by_name(rt, written),
-        made: made(rt, alloc)?,
-        updates: by_name(rt, updates),
+        touched,
+        written,
+        made,
+        updates,
     })
 }
 
