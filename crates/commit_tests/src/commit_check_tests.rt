@@ -97,7 +97,7 @@ fn record(
 }
 
 // A commit of session 2 that wrote the box: what it meets, and what stands against it.
-#[derive(Drop)]
+#[derive(Clone, Copy)]
 struct Write<'a> {
     // The commits that changed the box and the cup last.
     changed: (u64, u64),
@@ -164,6 +164,20 @@ fn locks_of(alloc: Global, holders: &[(u32, LockKind)]) -> Locks {
     locks
 }
 
+// Whether this stands against the commit.
+fn is_met<R: Abort, L: Ledger>(
+    rt: &R,
+    alloc: Global,
+    row: &Write,
+    steps: &mut Steps<L>,
+) -> Result<bool, Fail> {
+    let image = boxes(alloc, row.changed, steps)?;
+    let transaction = write_of_box(rt, alloc, row.reads_cup)?;
+    let locks = locks_of(alloc, row.holders);
+    let judgement = conflicts(alloc, &image, &transaction, &locks)?;
+    Ok(are_conflicts(judgement.conflicts.as_slice(), row.want))
+}
+
 fn check_writes<R: Abort, L: Ledger>(rt: &R, alloc: Global, blank: Blank) -> Result<(), Fail>
     requires name { blank.name ≡ L.name }
     requires parts { blank.parts ≡ L.parts }
@@ -190,12 +204,7 @@ fn check_writes<R: Abort, L: Ledger>(rt: &R, alloc: Global, blank: Blank) -> Res
         ];
     };
     for (number, row) in rows.iter().enumerate() {
-        let image = boxes(alloc, row.changed, &mut steps)?;
-        let transaction = write_of_box(rt, alloc, row.reads_cup)?;
-        let locks = locks_of(alloc, row.holders);
-        let judgement = conflicts(alloc, &image, &transaction, &locks)?;
-        let found = judgement.conflicts.as_slice();
-        assert!(rt; are_conflicts(found, row.want), "row {number}");
+        assert!(rt; is_met(rt, alloc, row, &mut steps)?, "row {number}");
     }
     Ok(())
 }
@@ -321,7 +330,7 @@ fn updates(alloc: Global, changes: &[Change]) -> Result<Vec<Update>, AllocError>
 
 // A commit of updates: the object at the view and at the place, what the session did with it, and
 // the object that the merge leaves, or the conflict.
-#[derive(Drop)]
+#[derive(Clone, Copy)]
 struct Merge<'a> {
     view: Contents,
     place: Contents,
@@ -353,6 +362,24 @@ fn image_of<L: Ledger>(
     Ok(image)
 }
 
+// The commit of these updates over this image.
+fn transaction_of<R: Abort>(
+    rt: &R,
+    alloc: Global,
+    base: Image,
+    updates: Vec<Update>,
+) -> Result<TxnRecord, Fail> {
+    let updates = vec![in alloc; (name(SHARED), Sequence::of(updates))]?;
+    let touched = no_names(alloc)?;
+    Ok(record(
+        base,
+        touched,
+        by_name(rt, Vec::new(alloc)),
+        by_name(rt, Vec::new(alloc)),
+        by_name(rt, updates),
+    ))
+}
+
 // What stands against the commit of these updates, made on the body at the view, where that of the
 // place was changed by commit 3.
 fn judged<R: Abort, L: Ledger>(
@@ -368,14 +395,7 @@ fn judged<R: Abort, L: Ledger>(
     let (view, place) = bodies;
     let base = image_of(alloc, object(1, view), steps)?;
     let image = image_of(alloc, object(3, place), steps)?;
-    let updates = vec![in alloc; (name(SHARED), Sequence::of(updates))]?;
-    let transaction = record(
-        base,
-        no_names(alloc)?,
-        by_name(rt, Vec::new(alloc)),
-        by_name(rt, Vec::new(alloc)),
-        by_name(rt, updates),
-    );
+    let transaction = transaction_of(rt, alloc, base, updates)?;
     Ok(conflicts(alloc, &image, &transaction, &Locks::new(alloc))?)
 }
 
@@ -420,6 +440,19 @@ fn is_wanted(
     }
 }
 
+// Whether the merge of the row leaves what it says.
+fn merges_so<R: Abort, L: Ledger>(
+    rt: &R,
+    alloc: Global,
+    row: &Merge,
+    steps: &mut Steps<L>,
+) -> Result<bool, Fail> {
+    let bodies = (body(alloc, row.view)?, body(alloc, row.place)?);
+    let updates = updates(alloc, row.changes)?;
+    let judgement = judged(rt, alloc, bodies, updates, steps)?;
+    is_wanted(alloc, &judgement, row.want)
+}
+
 fn check_merges<R: Abort, L: Ledger>(rt: &R, alloc: Global, blank: Blank) -> Result<(), Fail>
     requires name { blank.name ≡ L.name }
     requires parts { blank.parts ≡ L.parts }
@@ -453,10 +486,7 @@ fn check_merges<R: Abort, L: Ledger>(rt: &R, alloc: Global, blank: Blank) -> Res
             => Err(ConflictKind::DictionaryKey);
     };
     for (number, row) in rows.iter().enumerate() {
-        let bodies = (body(alloc, row.view)?, body(alloc, row.place)?);
-        let updates = updates(alloc, row.changes)?;
-        let judgement = judged(rt, alloc, bodies, updates, &mut steps)?;
-        assert!(rt; is_wanted(alloc, &judgement, row.want)?, "row {number}");
+        assert!(rt; merges_so(rt, alloc, row, &mut steps)?, "row {number}");
     }
     Ok(())
 }
