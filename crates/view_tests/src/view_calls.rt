@@ -4,6 +4,7 @@ ghost use Rattle.std.specs.Prelude.{◌≡◌, ◌<◌};
 use crate::notes::{note, note_unless};
 use crate::walk::is_shared;
 use gem_object::{Body, Object, Value, Values};
+use gem_record::TxnRecord;
 use gem_sound::names::{ARRAY_CLASS, DATA_CURATOR_SEGMENT, SYSTEM_SEGMENT};
 use gem_update::Update;
 use gem_value::Oid;
@@ -43,6 +44,11 @@ fn looks(view: &mut View) -> Result<bool, AllocError> {
     Ok(view.look(array).is_ok())
 }
 
+/// Whether an object is seen that wasn't made.
+fn is_seen(view: &View, oid: Oid) -> bool {
+    view.peek(oid).is_some() && !view.is_made(oid)
+}
+
 /// Whether a change of the array is done, and seen afterwards.
 fn changes(alloc: Global, view: &mut View) -> Result<bool, AllocError> {
     let mut values = Values::of(Vec::new(alloc));
@@ -55,7 +61,7 @@ fn changes(alloc: Global, view: &mut View) -> Result<bool, AllocError> {
     if view.change(array, body).is_err() {
         return Ok(false);
     }
-    Ok(view.peek(array).is_some() && !view.is_made(array))
+    Ok(is_seen(view, array))
 }
 
 /// Whether a change of the system's array is refused.
@@ -130,6 +136,14 @@ fn updates(view: &mut View) -> Result<bool, AllocError> {
     counts(view)
 }
 
+/// Whether an object is a counter that stands at 3.
+fn is_at_three(view: &View, oid: Oid) -> bool {
+    match view.peek(oid) {
+        Some(object) => matches!(&object.body, Body::Counter(Counter { value: 3 })),
+        None => false,
+    }
+}
+
 /// Whether a look at the counter finds 3.
 fn counts(view: &mut View) -> Result<bool, AllocError> {
     view.reserve(3)?;
@@ -140,25 +154,28 @@ fn counts(view: &mut View) -> Result<bool, AllocError> {
     if view.rc_look(counter).is_err() {
         return Ok(false);
     }
-    match view.peek(counter) {
-        Some(object) => Ok(matches!(&object.body, Body::Counter(Counter { value: 3 }))),
-        None => Ok(false),
-    }
+    Ok(is_at_three(view, counter))
 }
 
-/// Whether the record has what was done: a written array, a made one and an updated counter, and
-/// what was touched for that.
+/// Whether a record has a written array, a made one and an updated counter.
+fn has_changes(record: &TxnRecord) -> bool {
+    record.written.contains(own_array())
+        && record.written.as_slice().len() == 1
+        && record.made.as_slice().len() == 1
+        && record.updates.contains(own_counter())
+}
+
+/// Whether it has what was touched for that.
+fn has_touched(record: &TxnRecord) -> bool {
+    record.touched.contains(own_array())
+        && record.touched.contains(system_array())
+        && !record.touched.contains(own_counter())
+}
+
+/// Whether the record has what was done.
 fn finishes(view: &View) -> Result<bool, AllocError> {
     let record = view.finish(1, 1, 1, 2)?;
-    Ok(
-        record.written.contains(own_array())
-            && record.written.as_slice().len() == 1
-            && record.made.as_slice().len() == 1
-            && record.updates.contains(own_counter())
-            && record.touched.contains(own_array())
-            && record.touched.contains(system_array())
-            && !record.touched.contains(own_counter()),
-    )
+    Ok(has_changes(&record) && has_touched(&record))
 }
 
 /// Notes a call that doesn't answer as it should.

@@ -5,6 +5,7 @@ ghost use Rattle.object_programs.specs.Methods.{methods_fit};
 ghost use Rattle.session_view.specs.Calls.{is_shared_at};
 
 use crate::notes::{note, note_unless};
+use gem_image::Image;
 use gem_object::{Body, Object, Value, Values};
 use gem_record::TxnRecord;
 use gem_sound::names::{ARRAY_CLASS, DATA_CURATOR_SEGMENT, RC_COUNTER_CLASS, SYSTEM_SEGMENT};
@@ -239,34 +240,97 @@ fn same<T: fmt::Debug>(alloc: Global, one: &[T], other: &[T]) -> Result<bool, Al
     Ok(one.as_str() == other.as_str())
 }
 
-/// Notes what differs between the names that were touched and the objects that were written.
-fn compare_accesses(
+/// Notes a list of the record that isn't printed as that of the plain state.
+fn compare<T: fmt::Debug>(
+    alloc: Global,
+    wrong: &mut String,
+    what: &str,
+    one: &[T],
+    other: &[T],
+) -> Result<(), AllocError> {
+    let alike = same(alloc, one, other)?;
+    note_unless(wrong, what, alike)
+}
+
+/// Notes what differs between the names that were touched.
+fn compare_touched(
     alloc: Global,
     both: &Both,
     record: &TxnRecord,
     wrong: &mut String,
 ) -> Result<(), AllocError> {
     let plain = both.plain.touched_names()?;
-    let alike = same(alloc, record.touched.as_slice(), plain.as_slice())?;
-    note_unless(wrong, "touched", alike)?;
-    let plain = both.plain.written_objects()?;
-    let alike = same(alloc, record.written.as_slice(), plain.as_slice())?;
-    note_unless(wrong, "written", alike)
+    compare(
+        alloc,
+        wrong,
+        "touched",
+        record.touched.as_slice(),
+        plain.as_slice(),
+    )
 }
 
-/// Notes what differs between the objects that were made and the updates.
-fn compare_rest(
+/// Notes what differs between the objects that were written.
+fn compare_written(
+    alloc: Global,
+    both: &Both,
+    record: &TxnRecord,
+    wrong: &mut String,
+) -> Result<(), AllocError> {
+    let plain = both.plain.written_objects()?;
+    compare(
+        alloc,
+        wrong,
+        "written",
+        record.written.as_slice(),
+        plain.as_slice(),
+    )
+}
+
+/// Notes what differs between the objects that were made.
+fn compare_made(
     alloc: Global,
     both: &Both,
     record: &TxnRecord,
     wrong: &mut String,
 ) -> Result<(), AllocError> {
     let plain = both.plain.made_objects()?;
-    let alike = same(alloc, record.made.as_slice(), plain.as_slice())?;
-    note_unless(wrong, "made", alike)?;
+    compare(
+        alloc,
+        wrong,
+        "made",
+        record.made.as_slice(),
+        plain.as_slice(),
+    )
+}
+
+/// Notes what differs between the updates.
+fn compare_updates(
+    alloc: Global,
+    both: &Both,
+    record: &TxnRecord,
+    wrong: &mut String,
+) -> Result<(), AllocError> {
     let plain = both.plain.updates_by_name()?;
-    let alike = same(alloc, record.updates.as_slice(), plain.as_slice())?;
-    note_unless(wrong, "updates", alike)
+    compare(
+        alloc,
+        wrong,
+        "updates",
+        record.updates.as_slice(),
+        plain.as_slice(),
+    )
+}
+
+/// Notes what differs between the record and the plain state.
+fn compare_all(
+    alloc: Global,
+    both: &Both,
+    record: &TxnRecord,
+    wrong: &mut String,
+) -> Result<(), AllocError> {
+    compare_touched(alloc, both, record, wrong)?;
+    compare_written(alloc, both, record, wrong)?;
+    compare_made(alloc, both, record, wrong)?;
+    compare_updates(alloc, both, record, wrong)
 }
 
 /// Whether each list of the record has something.
@@ -285,8 +349,19 @@ fn check_walk(alloc: Global, both: &mut Both, wrong: &mut String) -> Result<(), 
     }
     let record = both.view.finish(1, 1, 1, 2)?;
     note_unless(wrong, "an empty list", has_all(&record))?;
-    compare_accesses(alloc, both, &record, wrong)?;
-    compare_rest(alloc, both, &record, wrong)
+    compare_all(alloc, both, &record, wrong)
+}
+
+/// A view and a plain state over an image, if it is sound.
+fn both_over(alloc: Global, image: Image) -> Result<Option<Both>, AllocError> {
+    let other = image.share()?;
+    let Some(view) = begin_over::<View>(alloc, image, 1)? else {
+        return Ok(None);
+    };
+    match begin_over::<PlainState>(alloc, other, 1)? {
+        Some(plain) => Ok(Some(Both { view, plain })),
+        None => Ok(None),
+    }
 }
 
 /// What is wrong after a walk.
@@ -297,18 +372,11 @@ fn wrong_walk<L: Ledger>(alloc: Global, blank: Blank) -> Result<String, AllocErr
 {
     let mut steps = Steps::<L>::start(blank);
     let image = larger_image(alloc, 100, &mut steps)?;
-    let other = image.share()?;
     let mut wrong = String::new(alloc);
-    let Some(view) = begin_over::<View>(alloc, image, 1)? else {
-        note(&mut wrong, "the image isn't sound")?;
-        return Ok(wrong);
-    };
-    let Some(plain) = begin_over::<PlainState>(alloc, other, 1)? else {
-        note(&mut wrong, "the image isn't sound")?;
-        return Ok(wrong);
-    };
-    let mut both = Both { view, plain };
-    check_walk(alloc, &mut both, &mut wrong)?;
+    match both_over(alloc, image)? {
+        Some(mut both) => check_walk(alloc, &mut both, &mut wrong)?,
+        None => note(&mut wrong, "the image isn't sound")?,
+    }
     Ok(wrong)
 }
 
