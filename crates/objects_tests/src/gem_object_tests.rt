@@ -8,7 +8,7 @@ use rc_counter_bag::{Bag, Counter};
 use rc_dict::KeyDict;
 use rc_queue::Queue;
 use seg_rights::{Groups, Right, Rights};
-use std::alloc::Global;
+use std::alloc::{AllocError, Global};
 use std::process::Abort;
 use std::test::Fail;
 use texts::Text;
@@ -112,27 +112,6 @@ pub(crate) fn queue(alloc: Global) -> Result<Body, Fail> {
     Ok(Body::Queue(Queue::of_items(2, items)))
 }
 
-// What a body of a kind has: the kind's number, slots, bytes in store, and whether its updates are
-// merged.
-#[derive(Clone, Copy)]
-struct Row {
-    kind: Kind,
-    number: u8,
-    slots: u64,
-    bytes: u64,
-    shared: bool,
-}
-
-const fn row_of(kind: Kind, number: u8, slots: u64, bytes: u64, shared: bool) -> Row {
-    Row {
-        kind,
-        number,
-        slots,
-        bytes,
-        shared,
-    }
-}
-
 fn object_of(body: Body) -> Object {
     Object {
         class: Oid::from_parts(0, 19),
@@ -142,27 +121,47 @@ fn object_of(body: Body) -> Object {
     }
 }
 
-fn is_of_kind(body: &Body, kind: Kind, number: u8) -> bool {
-    kind.number() == number && kind.fits(body) && !Kind::None.fits(body)
+// From this call a caller's proof learns nothing of the body, so it stays short.
+fn fits(kind: Kind, body: &Body) -> bool {
+    kind.fits(body)
 }
 
-fn has_sizes(object: &Object, row: Row) -> bool {
-    object.body.slots() == row.slots
-        && object.body.size() == row.bytes
-        && Some(object.size()) == row.bytes.checked_add(17)
-        && object.body.is_shared() == row.shared
+fn has_number(kind: Kind, number: u8) -> bool {
+    kind.number() == number
 }
 
-// Whether a body is as the row says, and a copy of its object too.
-fn has(body: Body, row: Row) -> Result<bool, Fail> {
-    let is_of_kind = is_of_kind(&body, row.kind, row.number);
+// Whether an object's body has so many slots and bytes in store, and its updates are merged.
+fn has_sizes(object: &Object, slots: u64, bytes: u64, shared: bool) -> bool {
+    object.body.slots() == slots
+        && object.body.size() == bytes
+        && Some(object.size()) == bytes.checked_add(17)
+        && object.body.is_shared() == shared
+}
+
+// Whether a body fits a kind of this number, and a copy of its object has these sizes.
+fn has(
+    body: Body,
+    kind: Kind,
+    number: u8,
+    slots: u64,
+    bytes: u64,
+    shared: bool,
+) -> Result<bool, Fail> {
+    let is_of_kind = has_number(kind, number) && fits(kind, &body) && !fits(Kind::None, &body);
     let copy = object_of(body).clone()?;
-    Ok(is_of_kind && has_sizes(&copy, row))
+    Ok(is_of_kind && has_sizes(&copy, slots, bytes, shared))
 }
 
-fn some_has(body: Option<Body>, row: Row) -> Result<bool, Fail> {
+fn some_has(
+    body: Option<Body>,
+    kind: Kind,
+    number: u8,
+    slots: u64,
+    bytes: u64,
+    shared: bool,
+) -> Result<bool, Fail> {
     match body {
-        Some(body) => has(body, row),
+        Some(body) => has(body, kind, number, slots, bytes, shared),
         None => Ok(false),
     }
 }
@@ -170,19 +169,19 @@ fn some_has(body: Option<Body>, row: Row) -> Result<bool, Fail> {
 #[test]
 fn bodies_of_values(rt: HostRuntime) -> Result<(), Fail> {
     let alloc = rt.alloc();
-    assert!(rt; has(plain(alloc)?, row_of(Kind::Plain, 1, 5, 31, false))?);
-    assert!(rt; has(plain(alloc)?, row_of(Kind::Indexed, 2, 5, 31, false))?);
+    assert!(rt; has(plain(alloc)?, Kind::Plain, 1, 5, 31, false)?);
+    assert!(rt; has(plain(alloc)?, Kind::Indexed, 2, 5, 31, false)?);
     let name = ByteString::of(b"Box".as_slice().to_vec(alloc)?);
-    assert!(rt; has(Body::Bytes(name), row_of(Kind::Bytes, 3, 0, 7, false))?);
-    assert!(rt; has(dict(alloc)?, row_of(Kind::Dict, 4, 4, 23, false))?);
+    assert!(rt; has(Body::Bytes(name), Kind::Bytes, 3, 0, 7, false)?);
+    assert!(rt; has(dict(alloc)?, Kind::Dict, 4, 4, 23, false)?);
     Ok(())
 }
 
 #[test]
 fn bodies_of_administration(rt: HostRuntime) -> Result<(), Fail> {
     let alloc = rt.alloc();
-    assert!(rt; has(segment(alloc)?, row_of(Kind::Segment, 5, 2, 32, false))?);
-    assert!(rt; has(user(alloc)?, row_of(Kind::User, 6, 1, 38, false))?);
+    assert!(rt; has(segment(alloc)?, Kind::Segment, 5, 2, 32, false)?);
+    assert!(rt; has(user(alloc)?, Kind::User, 6, 1, 38, false)?);
     Ok(())
 }
 
@@ -190,16 +189,11 @@ fn bodies_of_administration(rt: HostRuntime) -> Result<(), Fail> {
 fn merged_bodies(rt: HostRuntime) -> Result<(), Fail> {
     let alloc = rt.alloc();
     let counter = Body::Counter(Counter { value: 20 });
-    assert!(rt; has(counter, row_of(Kind::Counter, 7, 0, 8, true))?);
-    assert!(rt; some_has(bag(alloc, 2)?, row_of(Kind::Bag, 8, 3, 33, true))?);
-    assert!(rt;
-        some_has(
-            bag(alloc, u64::MAX)?,
-            row_of(Kind::Bag, 8, u64::MAX, 33, true)
-        )?
-    );
-    assert!(rt; some_has(key_dict(alloc)?, row_of(Kind::RcDict, 9, 2, 9, true))?);
-    assert!(rt; has(queue(alloc)?, row_of(Kind::Queue, 10, 2, 22, true))?);
+    assert!(rt; has(counter, Kind::Counter, 7, 0, 8, true)?);
+    assert!(rt; some_has(bag(alloc, 2)?, Kind::Bag, 8, 3, 33, true)?);
+    assert!(rt; some_has(bag(alloc, u64::MAX)?, Kind::Bag, 8, u64::MAX, 33, true)?);
+    assert!(rt; some_has(key_dict(alloc)?, Kind::RcDict, 9, 2, 9, true)?);
+    assert!(rt; has(queue(alloc)?, Kind::Queue, 10, 2, 22, true)?);
     Ok(())
 }
 
@@ -208,7 +202,7 @@ fn body_of_a_class(rt: HostRuntime) -> Result<(), Fail> {
     let body = class(rt.alloc())?.clone()?;
     assert_eq!(rt; body.slots(), 4);
     assert_eq!(rt; body.size(), 55);
-    assert!(rt; !body.is_shared() && !Kind::None.fits(&body) && !Kind::Plain.fits(&body));
+    assert!(rt; !body.is_shared() && !fits(Kind::None, &body) && !fits(Kind::Plain, &body));
     Ok(())
 }
 
@@ -304,10 +298,23 @@ fn changes_of_bytes(rt: HostRuntime) -> Result<(), Fail> {
     Ok(())
 }
 
+// This one, too, tells a caller's proof nothing.
+fn put(body: &mut Body, key: Value, number: i64) -> Result<Option<Value>, AllocError> {
+    body.put_at(key, Value::Int(number))
+}
+
+fn is_integer(value: &Option<Value>, want: Option<i64>) -> bool {
+    match (value, want) {
+        (Some(Value::Int(number)), Some(want)) => *number == want,
+        (None, None) => true,
+        _ => false,
+    }
+}
+
 // Whether an integer is put at a key that had this one.
 fn puts(body: &mut Body, key: &Value, number: i64, had: Option<i64>) -> Result<bool, Fail> {
-    let before = body.put_at(key.clone()?, Value::Int(number))?;
-    Ok(before == had.map(Value::Int))
+    let before = put(body, key.clone()?, number)?;
+    Ok(is_integer(&before, had))
 }
 
 fn has_at(body: &Body, key: &Value, number: i64) -> bool {
