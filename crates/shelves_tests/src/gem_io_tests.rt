@@ -35,7 +35,7 @@ fn source_fails_in_the_chosen_calls(rt: HostRuntime) -> Result<(), Fail> {
         (Ok(2), *b"dec"),
         (Ok(0), *b"dec"),
     ];
-    for (answer, held) in calls {
+    for &(answer, held) in &calls {
         assert_eq!(rt; source.pull(&mut out), answer);
         assert_eq!(rt; out, held);
     }
@@ -52,7 +52,7 @@ fn sink_fails_in_the_chosen_calls(rt: HostRuntime) -> Result<(), Fail> {
         (b"lost", Err(Failed)),
         (b", too", Ok(5)),
     ];
-    for (piece, answer) in calls {
+    for &(piece, answer) in &calls {
         assert_eq!(rt; sink.put(piece), answer);
     }
     assert_eq!(rt; sink.written(), b"kept, too".as_slice());

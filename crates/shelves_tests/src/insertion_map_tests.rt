@@ -3,62 +3,69 @@ use insertion_map::InsertionMap;
 use std::alloc::{AllocError, Global};
 use std::test::Fail;
 
-#[derive(Clone, Copy, Drop)]
+#[derive(Clone, Copy)]
 enum Edit {
     Put(char, u32),
     Remove(char),
 }
 
-// An edit of a map: the map, the edit, the value that the key had, and the map that follows.
-#[derive(Drop)]
-struct Case<'a> {
-    map: &'a [(char, u32)],
-    edit: Edit,
-    had: Option<u32>,
-    want: &'a [(char, u32)],
+fn edited(map: &mut InsertionMap<char, u32>, edit: Edit) -> Result<Option<u32>, AllocError> {
+    match edit {
+        Edit::Put(letter, value) => map.put(letter, value),
+        Edit::Remove(letter) => Ok(map.remove(&letter)),
+    }
 }
 
-macro_rules! cases {
-    ($($map:expr, $edit:expr => $had:expr, $want:expr;)*) => {
-        [$(Case {
-            map: $map,
-            edit: $edit,
-            had: $had,
-            want: $want,
-        }),*]
+fn has_pairs(map: &InsertionMap<char, u32>, pairs: &[(char, u32)]) -> bool {
+    for (at, (letter, value)) in pairs.iter().enumerate() {
+        if map.pair(at) != Some((letter, value)) {
+            return false;
+        }
+    }
+    map.len() == pairs.len()
+}
+
+// Whether an edit of a map gives the value that the key had, and leaves these pairs.
+fn leaves(
+    alloc: Global,
+    pairs: &[(char, u32)],
+    edit: Edit,
+    had: Option<u32>,
+    want: &[(char, u32)],
+) -> Result<bool, AllocError> {
+    let Some(mut map) = InsertionMap::of_pairs(alloc, pairs.to_vec(alloc)?)? else {
+        return Ok(false);
     };
+    Ok(edited(&mut map, edit)? == had && has_pairs(&map, want))
 }
 
 #[test]
-fn edits(rt: HostRuntime) -> Result<(), Fail> {
+fn puts(rt: HostRuntime) -> Result<(), Fail> {
     let alloc = rt.alloc();
-    let cases = cases! {
-        // A new key comes last, whatever its order among the keys.
-        &[], Edit::Put('b', 1) => None, &[('b', 1)];
-        &[('b', 1), ('c', 2)], Edit::Put('a', 3) => None, &[('b', 1), ('c', 2), ('a', 3)];
-        // A key that is there keeps its place.
-        &[('b', 1), ('a', 2), ('c', 3)], Edit::Put('a', 7) => Some(2),
-            &[('b', 1), ('a', 7), ('c', 3)];
-        // The others keep their order.
-        &[('b', 1), ('a', 2), ('d', 3), ('c', 4)], Edit::Remove('b') => Some(1),
-            &[('a', 2), ('d', 3), ('c', 4)];
-        &[('b', 1), ('a', 2), ('d', 3)], Edit::Remove('a') => Some(2), &[('b', 1), ('d', 3)];
-        &[('b', 1), ('a', 2)], Edit::Remove('c') => None, &[('b', 1), ('a', 2)];
-    };
-    for (number, case) in cases.iter().enumerate() {
-        let Some(mut map) = InsertionMap::of_pairs(alloc, case.map.to_vec(alloc)?)? else {
-            panic!(rt; "the map of case {number}");
-        };
-        let had = match case.edit {
-            Edit::Put(letter, value) => map.put(letter, value)?,
-            Edit::Remove(letter) => map.remove(&letter),
-        };
-        assert_eq!(rt; had, case.had, "case {number}");
-        assert_eq!(rt; map.len(), case.want.len(), "case {number}");
-        for (at, &(letter, value)) in case.want.iter().enumerate() {
-            assert_eq!(rt; map.pair(at), Some((&letter, &value)), "case {number}");
-        }
-    }
+    // A new key comes last, whatever its order among the keys.
+    assert!(rt; leaves(alloc, &[], Edit::Put('b', 1), None, &[('b', 1)])?);
+    let two = [('b', 1), ('c', 2)];
+    let after = [('b', 1), ('c', 2), ('a', 3)];
+    assert!(rt; leaves(alloc, &two, Edit::Put('a', 3), None, &after)?);
+    // A key that is there keeps its place.
+    let three = [('b', 1), ('a', 2), ('c', 3)];
+    let after = [('b', 1), ('a', 7), ('c', 3)];
+    assert!(rt; leaves(alloc, &three, Edit::Put('a', 7), Some(2), &after)?);
+    Ok(())
+}
+
+// The others keep their order.
+#[test]
+fn removals(rt: HostRuntime) -> Result<(), Fail> {
+    let alloc = rt.alloc();
+    let four = [('b', 1), ('a', 2), ('d', 3), ('c', 4)];
+    let after = [('a', 2), ('d', 3), ('c', 4)];
+    assert!(rt; leaves(alloc, &four, Edit::Remove('b'), Some(1), &after)?);
+    let three = [('b', 1), ('a', 2), ('d', 3)];
+    let after = [('b', 1), ('d', 3)];
+    assert!(rt; leaves(alloc, &three, Edit::Remove('a'), Some(2), &after)?);
+    let two = [('b', 1), ('a', 2)];
+    assert!(rt; leaves(alloc, &two, Edit::Remove('c'), None, &two)?);
     Ok(())
 }
 
@@ -81,10 +88,9 @@ fn two_pairs(alloc: Global) -> Result<InsertionMap<char, u32>, AllocError> {
 #[test]
 fn finds_keys(rt: HostRuntime) -> Result<(), Fail> {
     let map = two_pairs(rt.alloc())?;
-    for (key, value) in [('b', Some(&1)), ('a', Some(&2)), ('c', None)] {
-        assert_eq!(rt; map.get(&key), value);
-        assert_eq!(rt; map.contains_key(&key), value.is_some());
-    }
+    assert!(rt; map.get(&'b') == Some(&1) && map.contains_key(&'b'));
+    assert!(rt; map.get(&'a') == Some(&2) && map.contains_key(&'a'));
+    assert!(rt; map.get(&'c').is_none() && !map.contains_key(&'c'));
     assert_eq!(rt; map.pair(2), None);
     Ok(())
 }

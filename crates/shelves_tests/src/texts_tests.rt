@@ -1,25 +1,26 @@
 //! Texts that are made, compared and copied.
+use std::alloc::{AllocError, Global};
 use std::cmp::Ordering;
 use std::test::Fail;
 use texts::{Text, are_name_bytes, is_name_byte, starts_name};
 
+// Whether two texts are ordered so, and a copy of the first has its bytes.
+fn is_order(alloc: Global, left: &[u8], right: &[u8], order: Ordering) -> Result<bool, AllocError> {
+    let a = Text::copy_of(alloc, left)?;
+    let b = Text::copy_of(alloc, right)?;
+    let is_ordered = a.cmp(&b) == order && (a == b) == (order == Ordering::Equal);
+    Ok(is_ordered && a.clone()?.bytes() == left)
+}
+
 #[test]
 fn orders_texts_by_their_bytes(rt: HostRuntime) -> Result<(), Fail> {
-    let table: [(&[u8], &[u8], Ordering); 6] = [
-        (b"", b"", Ordering::Equal),
-        (b"", b"a", Ordering::Less),
-        (b"at:", b"at:put:", Ordering::Less),
-        (b"b", b"at:", Ordering::Greater),
-        (b"Box", b"box", Ordering::Less),
-        (b"max:", b"max:", Ordering::Equal),
-    ];
-    for (left, right, order) in table {
-        let a = Text::copy_of(rt.alloc(), left)?;
-        let b = Text::copy_of(rt.alloc(), right)?;
-        assert_eq!(rt; a.cmp(&b), order);
-        assert_eq!(rt; a == b, order == Ordering::Equal);
-        assert_eq!(rt; a.clone()?.bytes(), left);
-    }
+    let alloc = rt.alloc();
+    assert!(rt; is_order(alloc, b"", b"", Ordering::Equal)?);
+    assert!(rt; is_order(alloc, b"", b"a", Ordering::Less)?);
+    assert!(rt; is_order(alloc, b"at:", b"at:put:", Ordering::Less)?);
+    assert!(rt; is_order(alloc, b"b", b"at:", Ordering::Greater)?);
+    assert!(rt; is_order(alloc, b"Box", b"box", Ordering::Less)?);
+    assert!(rt; is_order(alloc, b"max:", b"max:", Ordering::Equal)?);
     Ok(())
 }
 
