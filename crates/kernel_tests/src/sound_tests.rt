@@ -39,6 +39,23 @@ fn breaks<L: Ledger>(
     Ok(told(alloc, &image)?.as_str() == want)
 }
 
+/// Whether the kernel with two more objects, of the names 0:41 and 0:40, breaks the rule first, at
+/// that name.
+fn both_break<L: Ledger>(
+    alloc: Global,
+    other: Object,
+    object: Object,
+    want: &str,
+    steps: &mut Steps<L>,
+) -> Result<bool, AllocError>
+    requires other { IsSpelled other }
+    requires spelled { IsSpelled object }
+{
+    let image = kernel(alloc, steps)?.with(alloc, name(41), other, steps)?;
+    let image = image.with(alloc, name(NEW), object, steps)?;
+    Ok(told(alloc, &image)?.as_str() == want)
+}
+
 fn check_kernel<R: Abort, L: Ledger>(
     rt: &R,
     alloc: Global,
@@ -153,11 +170,8 @@ fn check_slots<R: Abort, L: Ledger>(
     alloc: Global,
     steps: &mut Steps<L>,
 ) -> Result<(), Fail> {
-    let image = kernel(alloc, steps)?;
     let named = class(alloc, 1, Kind::Plain, names(alloc, 1)?)?;
-    let image = image.with(alloc, name(41), named, steps)?;
-    let image = image.with(alloc, name(NEW), plain(alloc, 41, 29), steps)?;
-    assert_eq!(rt; told(alloc, &image)?.as_str(), "I5 at 0:40");
+    assert!(rt; both_break(alloc, named, plain(alloc, 41, 29), "I5 at 0:40", steps)?);
     Ok(())
 }
 
@@ -167,10 +181,8 @@ fn check_order<R: Abort, L: Ledger>(
     alloc: Global,
     steps: &mut Steps<L>,
 ) -> Result<(), Fail> {
-    let image = kernel(alloc, steps)?;
-    let image = image.with(alloc, name(41), plain(alloc, 99, 29), steps)?;
-    let image = image.with(alloc, name(NEW), plain(alloc, 4, 29), steps)?;
-    assert_eq!(rt; told(alloc, &image)?.as_str(), "I5 at 0:40");
+    let other = plain(alloc, 99, 29);
+    assert!(rt; both_break(alloc, other, plain(alloc, 4, 29), "I5 at 0:40", steps)?);
     Ok(())
 }
 
