@@ -1,0 +1,2 @@
+pub mod Calms
+pub mod Gives

@@ -1,0 +1,28 @@
+-- Objects that can be read without a change of anything.
+use Rattle.std.specs.Prelude.{◌≡◌, ℕ, true, false, Some, None, Option, option_map}
+use Rattle.gem_object.specs.declared.body.Body.{Body}
+use Rattle.gem_object.specs.declared.body.Body.TheVariants.{Class}
+use Rattle.gem_world.specs.World.{Setting, World, shown}
+use Rattle.gem_world.specs.Access.{a_read, is_allowed}
+use Rattle.gem_language.specs.LookUp.{Start}
+use Rattle.look_up_cache.specs.Lasting.{Lasting, lasting_of, is_settled}
+
+-- The object of this name is there, and this of it lasts; the user may read it, and a read touches
+-- nothing that isn't touched yet.
+pub record Calm (name : ℕ) (part : Lasting) (setting : Setting) (world : World) : Type 0 where
+  pub there : option_map lasting_of (shown name setting world) ≡ Some part
+  pub allowed : is_allowed a_read name setting world ≡ true
+  pub own : is_settled name setting world ≡ true
+  pub segment : is_settled part.segment setting world ≡ true
+  pub user : is_settled setting.user setting world ≡ true
+
+-- where look-ups for this object begin
+abbrev pub start_by : ℕ → (class : ℕ) → Option Body → Start
+start_by name class (Some (Class _)) = record { class = Some name; class_side = true }
+start_by name class _ = record { class = Some class; class_side = false }
+
+-- Look-ups for the object of this name begin there, and this is told without a change.
+pub record Begins (name : ℕ) (start : Start) (setting : Setting) (world : World) : Type 0 where
+  pub part : Lasting
+  pub calm : Calm name part setting world
+  pub at : start_by name part.class part.body ≡ start
