@@ -1,2 +1,6 @@
 pub mod Calms
 pub mod Gives
+pub mod Stays
+pub mod Steps
+pub mod Told
+pub mod Atoms

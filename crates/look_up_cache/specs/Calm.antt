@@ -1,9 +1,12 @@
 -- Objects that can be read without a change of anything.
 use Rattle.std.specs.Prelude.{◌≡◌, ℕ, true, false, Some, None, Option, option_map}
+use Rattle.gem_object.specs.declared.value.Value.{Value}
+use Rattle.gem_object.specs.declared.value.Value.TheVariants.{Ref}
 use Rattle.gem_object.specs.declared.body.Body.{Body}
 use Rattle.gem_object.specs.declared.body.Body.TheVariants.{Class}
 use Rattle.gem_world.specs.World.{Setting, World, shown}
 use Rattle.gem_world.specs.Access.{a_read, is_allowed}
+use Rattle.prim_rules.specs.Parts.{class_of_plain}
 use Rattle.gem_language.specs.LookUp.{Start}
 use Rattle.look_up_cache.specs.Lasting.{Lasting, lasting_of, is_settled}
 
@@ -20,6 +23,11 @@ pub record Calm (name : ℕ) (part : Lasting) (setting : Setting) (world : World
 abbrev pub start_by : ℕ → (class : ℕ) → Option Body → Start
 start_by name class (Some (Class _)) = record { class = Some name; class_side = true }
 start_by name class _ = record { class = Some class; class_side = false }
+
+-- the same for a value that is no reference
+abbrev pub plain_start : Value → Option Start
+plain_start (Ref _) = None
+plain_start value = Some (record { class = class_of_plain value; class_side = false })
 
 -- Look-ups for the object of this name begin there, and this is told without a change.
 pub record Begins (name : ℕ) (start : Start) (setting : Setting) (world : World) : Type 0 where

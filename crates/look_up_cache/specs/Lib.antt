@@ -1,3 +1,4 @@
 pub mod Lasting
 pub mod Calm
 pub mod Remembered
+pub mod Remains

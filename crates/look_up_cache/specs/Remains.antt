@@ -1,0 +1,25 @@
+-- That what is remembered remains, and what a look-up leaves.
+use Rattle.std.specs.Prelude.{◌≡◌, ℕ, Option}
+use Rattle.texts.specs.Bytes.{Bytes as Text}
+use Rattle.gem_world.specs.World.{Setting, World}
+use Rattle.gem_language.specs.declared.found.Found.{Found}
+use Rattle.gem_language.specs.LookUp.{Start}
+use Rattle.running_objects.specs.Seen.{Seen}
+use Rattle.look_up_cache.specs.Lasting.{Still}
+use Rattle.look_up_cache.specs.Calm.{Begins}
+use Rattle.look_up_cache.specs.Remembered.{Finds}
+
+-- Between two states of a run nothing happened that look-ups depend on.
+pub record Remains (before after : Seen) : Type 0 where
+  pub setting : after.setting ≡ before.setting
+  pub still : Still before.setting before.world after.world
+
+-- a look-up for the object of this name with this selector finds this, and changes nothing
+pub record FindsIn (name : ℕ) (selector : Text) (found : Option Found) (setting : Setting)
+    (world : World) : Type 0 where
+  pub start : Start
+  pub begins : Begins name start setting world
+  pub finds : Finds start selector found setting world
+
+abbrev pub FindsFor : ℕ → Text → Option Found → Seen → Type 0
+FindsFor name selector found seen = FindsIn name selector found seen.setting seen.world
