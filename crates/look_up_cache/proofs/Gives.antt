@@ -1,8 +1,10 @@
 -- What is remembered is what a look-up finds now, and it changes nothing.
-use Rattle.std.proofs.Common.{◌≡◌, ◌∙◌, refl, sym, ap, ℕ, suc, Bool, true, false, Option, Some, None, Ok}
+use Rattle.std.proofs.Common.{◌≡◌, ◌∙◌, refl, sym, ap, subst, ℕ, suc, Bool, true, false, Option, Some, None, Ok}
+use Rattle.std.proofs.lemmas.Option.{same_Some}
 use Rattle.texts.specs.Bytes.{Bytes as Text}
 use Rattle.gem_object.specs.declared.body.MethodCode.{MethodCode}
 use Rattle.gem_object.specs.declared.body.ClassBody.{ClassBody}
+use Rattle.gem_object.specs.declared.value.Value.{Value}
 use Rattle.gem_object.specs.declared.value.Value.TheVariants as value
 use Rattle.gem_image.specs.Image.{Contents}
 use Rattle.gem_world.specs.World.{Setting, World}
@@ -11,17 +13,19 @@ use Rattle.gem_sound.specs.Kernel.{class_class}
 use Rattle.object_programs.specs.Guard.{chain_limit}
 use Rattle.object_programs.specs.Run.{give, gives, State, perform}
 use Rattle.object_programs.specs.Programs.{read}
-use Rattle.tree_meaning.specs.Place.{MadeBlock}
+use Rattle.tree_meaning.specs.Place.{Frame, MadeBlock}
 use Rattle.gem_language.specs.Comes.{Comes}
 use Rattle.gem_language.specs.declared.found.Found.{Found}
-use Rattle.gem_language.specs.LookUp.{FindingRun, methods_on, code_of, found_or, from_superclass, found_from, up_within, up_classes, past_last, Start, found_at, start_of_object, start_of_receiver}
+use Rattle.gem_language.specs.LookUp.{FindingRun, methods_on, code_of, found_or, from_superclass, found_from, up_within, up_classes, past_last, Start, found_at, start_of_object, start_of_receiver, find_method}
 use Rattle.gem_language.proofs.Ends.{then_comes}
 use Rattle.running_objects.specs.Seen.{Seen, with_local}
 use Rattle.running_objects.proofs.Running.{keeps_same}
 use Rattle.prim_parts.specs.Does.{Does}
+use Rattle.prim_parts.proofs.Does.{does_give, does_then}
 use Rattle.look_up_cache.specs.Lasting.{Lasting, lasting_of, class_in}
 use Rattle.look_up_cache.specs.Calm.{Calm, Begins, start_by}
 use Rattle.look_up_cache.specs.Remembered.{Up, no_class, holds, last, above, IsNothing, Past, From, Finds}
+use Rattle.look_up_cache.specs.Memory.{BeginsFor, FindsFor}
 use Rattle.look_up_cache.proofs.Calms.{Reads, calm_read, class_taken, start_lasts}
 
 module _ (class_side : Bool) (selector : Text) (past : FindingRun) (Gone : Option Found → Type 0) (setting : Setting)
@@ -125,3 +129,17 @@ begins_does name start seen begins = record {
   keeps = keeps_same seen;
   ends = λ local. begins_comes name start seen.setting (with_local seen local) begins;
 }
+
+-- ---- of a whole look-up
+
+plain_does : (receiver : Value) (start : Start) (seen : Seen) → BeginsFor receiver start seen
+    → Does (start_of_receiver receiver) seen (Ok start) seen
+plain_does (value.Ref name) start seen begins = begins_does name start seen begins
+plain_does receiver start seen begins = subst (λ (s : Start). Does (start_of_receiver receiver) seen (Ok s) seen)
+    (same_Some _ start begins) (does_give _ seen)
+
+pub known_does : (frame : Frame) (receiver : Value) (selector : Text) (found : Option Found) (seen : Seen)
+    → FindsFor receiver selector found seen → Does (find_method false frame receiver selector) seen (Ok found) seen
+unfolding find_method
+known_does frame receiver selector found seen known = does_then (plain_does receiver known.start seen known.begins)
+    (finds_does known.start selector found seen known.finds)

@@ -4,3 +4,8 @@ pub mod Stays
 pub mod Steps
 pub mod Told
 pub mod Atoms
+mod Edits
+mod Keeps
+mod Places
+mod Again
+mod There

@@ -1,6 +1,5 @@
 -- A look-up that found something leaves what is remembered of it.
 use Rattle.std.proofs.Common.{◌≡◌, ◌∙◌, refl, sym, ap, subst, ℕ, zero, suc, Bool, true, false, Option, Some, None, [], option_and_then, Ok}
-use Rattle.std.proofs.lemmas.Option.{none-some, same_Some}
 use Rattle.texts.specs.Bytes.{Bytes as Text}
 use Rattle.gem_object.specs.declared.value.Value.{Value}
 use Rattle.gem_object.specs.declared.value.Value.TheVariants as value
@@ -18,6 +17,7 @@ use Rattle.object_programs.specs.Atom.{Answer, says, access_answer}
 use Rattle.object_programs.specs.Run.{Run, give, and_then, Ending, gives, State, Outcome, end_of, perform}
 use Rattle.object_programs.specs.Programs.{read}
 use Rattle.tree_meaning.specs.Place.{Frame, MadeBlock}
+use Rattle.prim_rules.specs.Parts.{class_of_plain}
 use Rattle.gem_language.specs.Comes.{Comes}
 use Rattle.gem_language.specs.declared.found.Found.{Found}
 use Rattle.gem_language.specs.LookUp.{FindingRun, methods_on, code_of, found_or, from_superclass, found_from, up_within, up_classes, past_last, Start, found_at, start_of_object, start_of_receiver, start_of, find_method}
@@ -25,9 +25,10 @@ use Rattle.gem_language.proofs.Ends.{Both, both, fails_gives, same_answer, read_
 use Rattle.running_objects.specs.Seen.{Seen, with_local}
 use Rattle.prim_parts.specs.Does.{Does}
 use Rattle.look_up_cache.specs.Lasting.{Lasting, lasting_body, lasting_of, class_in, Still}
-use Rattle.look_up_cache.specs.Calm.{Calm, Begins, plain_start}
+use Rattle.look_up_cache.specs.Calm.{Calm, Begins}
 use Rattle.look_up_cache.specs.Remembered.{Up, no_class, holds, last, above, IsNothing, Past, From, Finds}
-use Rattle.look_up_cache.specs.Remains.{FindsIn, FindsFor}
+use Rattle.look_up_cache.specs.Remains.{Remains}
+use Rattle.look_up_cache.specs.Memory.{BeginsFor, FindsFor}
 use Rattle.look_up_cache.proofs.Calms.{class_lasts, start_lasts}
 use Rattle.look_up_cache.proofs.Stays.{calm_stays, begins_stay}
 use Rattle.look_up_cache.proofs.Steps.{still_same, still_along, asked_still, calm_now}
@@ -230,40 +231,55 @@ module _ (setting : Setting) where
 nowhere : Local MadeBlock
 nowhere = record { scopes = []; blocks = []; living = [] }
 
--- what is remembered of it afterwards
-pub method_told : (frame : Frame) (name : ℕ) (selector : Text) (found : Option Found) (before after : Seen)
-    → Does (find_method false frame (value.Ref name) selector) before (Ok found) after
-    → FindsFor name selector found after
-unfolding find_method
-method_told frame name selector found before after does =
-    let setting : Setting = before.setting in
-    let At : Setting → Type 0 = λ other. FindsIn name selector found other after.world in
-    let told : FindsIn name selector found setting after.world =
-    whole_told setting (value.Ref name) selector (with_local before nowhere) (with_local after nowhere) found (does.ends nowhere)
-    (FindsIn name selector found setting after.world) (λ start between begun still finds. record {
-      start = start;
-      begins = begins_stay setting between.world after.world still name start
-          (begin_told setting name (with_local before nowhere) between start begun);
-      finds = finds;
-    }) in
-    subst At (sym does.keeps.setting) told
+plain_begun : (receiver : Value) (setting : Setting) (state between : State MadeBlock) (start : Start) (seen : Seen)
+    → start_of_receiver receiver ≡ give (record { class = class_of_plain receiver; class_side = false })
+    → Comes (start_of_receiver receiver) setting state (gives start) between
+    → (state ≡ between) × (record { class = class_of_plain receiver; class_side = false } ≡ start)
+plain_begun receiver setting state between start seen is comes =
+    let own : Start = record { class = class_of_plain receiver; class_side = false } in
+    let same : came (gives own) state ≡ came (gives start) between =
+    ap (λ (program : Run MadeBlock Start). perform program setting state) (sym is) ∙ comes in
+    (state_is (gives own) (gives start) state between same, given own start state between same)
 
-plain_is : (receiver : Value) (start : Start) → plain_start receiver ≡ Some start → start_of_receiver receiver ≡ give start
-plain_is (value.Ref name) start is = absurd (none-some start is)
-plain_is receiver start is = ap (λ (s : Start). give s) (same_Some _ start is)
+begun_told : (receiver : Value) (setting : Setting) (state between : State MadeBlock) (start : Start)
+    → Comes (start_of_receiver receiver) setting state (gives start) between → (after : Seen) → after.setting ≡ setting
+    → Still setting between.world after.world
+    → (Still setting state.world between.world) × (BeginsFor receiver start after)
+begun_told (value.Ref name) setting state between start comes after is still =
+    let next : Contents → Run MadeBlock Start = λ object. give (start_of_object name object.class object.body) in
+    let parts : Both (read name) next setting state start between = both setting (read name) next state start between comes in
+    let same : parts.between ≡ between = state_is (gives (start_of_object name parts.middle.class parts.middle.body))
+    (gives start) parts.between between parts.then in (
+      subst (λ (s : State MadeBlock). Still setting state.world s.world) same
+          (read_still setting name state parts.middle parts.between parts.before),
+      subst (λ (other : Setting). Begins name start other after.world) (sym is)
+          (begins_stay setting between.world after.world still name start
+          (begin_told setting name state between start comes)),
+    )
+begun_told receiver setting state between start comes after is still =
+    let own : Start = record { class = class_of_plain receiver; class_side = false } in
+    let both = plain_begun receiver setting state between start after refl comes in (
+      subst (λ (s : State MadeBlock). Still setting state.world s.world) both.0 (still_same setting state.world),
+      ap (λ (s : Start). Some s) both.1,
+    )
 
--- and where its receiver is no reference
-pub plain_told : (frame : Frame) (receiver : Value) (start : Start) (selector : Text) (found : Option Found) (before after : Seen)
-    → plain_start receiver ≡ Some start → Does (find_method false frame receiver selector) before (Ok found) after
-    → Finds start selector found after.setting after.world
+-- what is remembered of it afterwards, and that all else remains
+pub method_told : (frame : Frame) (receiver : Value) (selector : Text) (found : Option Found) (before after : Seen)
+    → Does (find_method false frame receiver selector) before (Ok found) after
+    → Remains before after × FindsFor receiver selector found after
 unfolding find_method
-plain_told frame receiver start selector found before after plain does =
+method_told frame receiver selector found before after does =
     let setting : Setting = before.setting in
-    let begun : State MadeBlock = with_local before nowhere in
-    let told : Finds start selector found setting after.world =
-    whole_told setting receiver selector begun (with_local after nowhere) found (does.ends nowhere)
-    (Finds start selector found setting after.world) (λ other between comes still finds.
-    let same : start ≡ other = given start other begun between
-    (ap (λ (program : Run MadeBlock Start). perform program setting begun) (sym (plain_is receiver start plain)) ∙ comes) in
-    subst (λ (s : Start). Finds s selector found setting after.world) (sym same) finds) in
-    subst (λ (other : Setting). Finds start selector found other after.world) (sym does.keeps.setting) told
+    whole_told setting receiver selector (with_local before nowhere) (with_local after nowhere) found (does.ends nowhere)
+    (Remains before after × FindsFor receiver selector found after) (λ start between comes still finds.
+    let begun = begun_told receiver setting (with_local before nowhere) between start comes after does.keeps.setting still in (
+      record {
+        setting = does.keeps.setting;
+        still = still_along setting before.world between.world after.world begun.0 still;
+      },
+      record {
+        start = start;
+        begins = begun.1;
+        finds = subst (λ (other : Setting). Finds start selector found other after.world) (sym does.keeps.setting) finds;
+      },
+    ))

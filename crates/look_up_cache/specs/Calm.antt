@@ -1,7 +1,6 @@
 -- Objects that can be read without a change of anything.
 use Rattle.std.specs.Prelude.{◌≡◌, ℕ, true, false, Some, None, Option, option_map}
 use Rattle.gem_object.specs.declared.value.Value.{Value}
-use Rattle.gem_object.specs.declared.value.Value.TheVariants.{Ref}
 use Rattle.gem_object.specs.declared.body.Body.{Body}
 use Rattle.gem_object.specs.declared.body.Body.TheVariants.{Class}
 use Rattle.gem_world.specs.World.{Setting, World, shown}
@@ -25,9 +24,11 @@ start_by name class (Some (Class _)) = record { class = Some name; class_side = 
 start_by name class _ = record { class = Some class; class_side = false }
 
 -- the same for a value that is no reference
+abbrev pub start_in : ℕ → Start
+start_in class = record { class = Some class; class_side = false }
+
 abbrev pub plain_start : Value → Option Start
-plain_start (Ref _) = None
-plain_start value = Some (record { class = class_of_plain value; class_side = false })
+plain_start value = option_map start_in (class_of_plain value)
 
 -- Look-ups for the object of this name begin there, and this is told without a change.
 pub record Begins (name : ℕ) (start : Start) (setting : Setting) (world : World) : Type 0 where

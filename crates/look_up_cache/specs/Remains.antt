@@ -14,12 +14,3 @@ pub record Remains (before after : Seen) : Type 0 where
   pub setting : after.setting ≡ before.setting
   pub still : Still before.setting before.world after.world
 
--- a look-up for the object of this name with this selector finds this, and changes nothing
-pub record FindsIn (name : ℕ) (selector : Text) (found : Option Found) (setting : Setting)
-    (world : World) : Type 0 where
-  pub start : Start
-  pub begins : Begins name start setting world
-  pub finds : Finds start selector found setting world
-
-abbrev pub FindsFor : ℕ → Text → Option Found → Seen → Type 0
-FindsFor name selector found seen = FindsIn name selector found seen.setting seen.world

@@ -18,9 +18,10 @@ ghost use Rattle.gem_language.specs.LookUp.{Start, start_of_receiver, found_at, 
 ghost use Rattle.running_objects.specs.Seen.{Seen, object_at, IsSoundState};
 ghost use Rattle.prim_parts.specs.Does.{Does};
 ghost use Rattle.look_up_cache.specs.Lasting.{lasting_body, lasting_of};
-ghost use Rattle.look_up_cache.specs.Calm.{Calm, Begins, plain_start};
+ghost use Rattle.look_up_cache.specs.Calm.{Calm, Begins};
 ghost use Rattle.look_up_cache.specs.Remembered.{Finds};
-ghost use Rattle.look_up_cache.specs.Remains.{Remains, FindsFor};
+ghost use Rattle.look_up_cache.specs.Memory.{FindsFor};
+ghost use Rattle.look_up_cache.specs.Remains.{Remains};
 
 /// What is remembered of a receiver and of a look-up is what they come to now, and nothing changes.
 pub fn look_ups_repeat()
@@ -30,6 +31,9 @@ pub fn look_ups_repeat()
     ensures finds { (start : Start) (selector : Text) (found : Option Found) (seen : Seen)
         → Finds start selector found seen.setting seen.world
         → Does (found_at start selector) seen (Ok found) seen }
+    ensures whole { (frame : Frame) (receiver : Value) (selector : Text) (found : Option Found)
+        (seen : Seen) → FindsFor receiver selector found seen
+        → Does (find_method false frame receiver selector) seen (Ok found) seen }
 {}
 
 /// What is remembered remains where nothing happens that look-ups depend on, and an object that was
@@ -46,16 +50,13 @@ pub fn memories_stay()
         → Calm name (lasting_of object) setting (with_touches name setting world) }
 {}
 
-/// A look-up that found something, or that there is nothing, leaves what is remembered of it.
+/// A look-up that found something, or that there is nothing, leaves what is remembered of it, and
+/// all else that is remembered remains.
 pub fn look_ups_are_told()
-    ensures object { (frame : Frame) (name : ℕ) (selector : Text) (found : Option Found)
+    ensures { (frame : Frame) (receiver : Value) (selector : Text) (found : Option Found)
         (before after : Seen)
-        → Does (find_method false frame (value.Ref name) selector) before (Ok found) after
-        → FindsFor name selector found after }
-    ensures plain { (frame : Frame) (receiver : Value) (start : Start) (selector : Text)
-        (found : Option Found) (before after : Seen) → plain_start receiver ≡ Some start
         → Does (find_method false frame receiver selector) before (Ok found) after
-        → Finds start selector found after.setting after.world }
+        → Remains before after × FindsFor receiver selector found after }
 {}
 
 /// What calls leave that say what an atom does, where they end well: nothing happened that look-ups

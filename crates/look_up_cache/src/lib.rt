@@ -3,4 +3,14 @@
 //! of the Stone and of other sessions.
 #![tactic(auto)]
 
+mod finding;
+mod kept;
+mod known;
 pub mod laws;
+mod memory;
+mod objects;
+mod table;
+
+pub use kept::{MethodCodeKept, NoCode};
+pub use known::KnownObjects;
+pub use memory::Memory;

@@ -1,0 +1,72 @@
+-- What holds of all that is remembered.
+use Rattle.std.specs.Prelude.{◌≡◌, ℕ, Bool, true, false, List, map, Option, Some, None, Result, Ok, Err, IfSome, option_and_then}
+use Rattle.texts.specs.Bytes.{Bytes as Text}
+use Rattle.gem_object.specs.declared.value.Value.{Value}
+use Rattle.gem_object.specs.declared.value.Value.TheVariants.{Ref}
+use Rattle.gem_object.specs.declared.body.MethodCode.{MethodCode}
+use Rattle.prim_rules.specs.Parts.{class_of_plain}
+use Rattle.gem_language.specs.declared.found.Found.{Found}
+use Rattle.gem_language.specs.LookUp.{Start}
+use Rattle.running_objects.specs.Seen.{Seen}
+use Rattle.running_objects.specs.declared.stop.Stop.{Stop}
+use Rattle.look_up_cache.specs.Calm.{Begins, plain_start}
+use Rattle.look_up_cache.specs.Remembered.{Finds}
+use Rattle.look_up_cache.specs.Table.{held_at, AllHeld}
+use Rattle.look_up_cache.specs.declared.memory.Beginning.{Beginning}
+use Rattle.look_up_cache.specs.declared.memory.Receiver.{Receiver}
+use Rattle.look_up_cache.specs.declared.memory.Entry.{Entry}
+use Rattle.look_up_cache.specs.declared.memory.Memory.{Memory}
+
+-- where a look-up begins
+abbrev pub start_at : Beginning → Start
+start_at start = record { class = start.class; class_side = start.class_side }
+
+-- what is remembered of a receiver, and of a look-up, is so
+abbrev pub IsBegun : Seen → Receiver → Type 0
+IsBegun seen receiver = Begins receiver.name (start_at receiver.start) seen.setting seen.world
+
+abbrev pub IsFound : {T : Type 0} → Seen → Entry T → Type 0
+IsFound seen entry =
+    Finds (start_at entry.start) entry.selector entry.found seen.setting seen.world
+
+-- the code that is kept beside a method is that of the method
+abbrev pub IsCoded : {T : Type 0} → (T → MethodCode → Type 0) → Entry T → Type 0
+IsCoded is_of entry = IfSome entry.code (λ code. IfSome entry.found (λ found. is_of code found.code))
+
+-- All that is remembered is so.
+pub record Holds {T : Type 0} (memory : Memory T) (seen : Seen) : Type 0 where
+  pub receivers : AllHeld (IsBegun seen) memory.receivers.items
+  pub methods : AllHeld (IsFound seen) memory.methods.items
+
+-- It holds, where this is so.
+abbrev pub Where : Bool → Type 0 → Type 0
+Where true P = P
+Where false P = Unit {0}
+
+-- What is remembered holds, where it isn't forgotten; and the code that is kept is that of its
+-- method.
+pub record IsKnown {T : Type 0} (is_of : T → MethodCode → Type 0) (held : Bool) (memory : Memory T)
+    (seen : Seen) : Type 0 where
+  pub holds : Where held (Holds memory seen)
+  pub coded : AllHeld (IsCoded is_of) memory.methods.items
+
+-- A look-up for this receiver begins there, and this is told without a change.
+abbrev pub BeginsFor : Value → Start → Seen → Type 0
+BeginsFor (Ref name) start seen = Begins name start seen.setting seen.world
+BeginsFor value start seen = plain_start value ≡ Some start
+
+-- A look-up for this receiver with this selector finds this, and changes nothing.
+pub record FindsFor (receiver : Value) (selector : Text) (found : Option Found) (seen : Seen)
+    : Type 0 where
+  pub start : Start
+  pub begins : BeginsFor receiver start seen
+  pub finds : Finds start selector found seen.setting seen.world
+
+-- what was found, by the places at which it stands
+abbrev pub founds : {T : Type 0} → List (Option (Entry T)) → List (Option Found)
+founds places = map (λ held. option_and_then (λ entry. entry.found) held) places
+
+-- the result of a look-up that tells the place of what it found
+abbrev pub told_by : List (Option Found) → Result ℕ Stop → Result (Option Found) Stop
+told_by found (Ok at) = Ok (held_at found at)
+told_by found (Err ended) = Err ended

@@ -1,0 +1,249 @@
+//! What is remembered of receivers and of look-ups: how it is found again, and how it comes there.
+ghost use Rattle.std.specs.Prelude.{◌≡◌, ◌<◌, true, ℕ, Some, option_map, IfOk, IfSome};
+ghost use Rattle.gem_object.specs.declared.body.MethodCode.{MethodCode};
+ghost use Rattle.gem_language.specs.LookUp.{Start, start_of_object};
+ghost use Rattle.running_objects.specs.Seen.{Seen};
+ghost use Rattle.look_up_cache.specs.Calm.{Begins, plain_start};
+ghost use Rattle.look_up_cache.specs.Remembered.{Finds};
+ghost use Rattle.look_up_cache.specs.Table.{held_at, AllHeld};
+ghost use Rattle.look_up_cache.specs.Memory.{start_at, IsBegun, IsCoded, Holds, Where, BeginsFor, FindsFor, founds};
+
+use crate::kept::MethodCodeKept;
+use crate::memory::{Beginning, Entry, Memory, Receiver};
+use crate::table::{held_at, put_at};
+use gem_language::Found;
+use gem_object::{Body, Value};
+use gem_value::Oid;
+use prim_parts::class_of_plain;
+use running_objects::Objects;
+use std::alloc::AllocError;
+use texts::Text;
+
+/// Forgets all, unless it holds.
+#[tactic(auto, using(crate::proofs::Places::none_held, crate::proofs::Again::where_true))]
+pub(crate) fn renew<T: MethodCodeKept>(memory: &mut Memory<T>, held: bool)
+    ensures holds { (seen : Seen) → Where held (Holds memory.old seen) → Holds memory.new seen }
+    ensures coded { AllHeld (IsCoded T.is_of) memory.old.methods.items
+        → AllHeld (IsCoded T.is_of) memory.new.methods.items }
+{
+    if held {
+        return;
+    }
+    memory.receivers.clear();
+    memory.methods.clear();
+}
+
+/// The place of what a look-up for this receiver is known to find.
+pub(crate) fn known_place<T>(
+    memory: &Memory<T>,
+    receiver: &Value,
+    selector: &Text,
+) -> Option<usize>
+    ensures { (seen : Seen) → Holds memory.now seen → IfSome result (λ at.
+        FindsFor receiver.now selector.now (held_at (founds memory.now.methods.items) at) seen) }
+{
+    let start = known_start(memory, receiver)?;
+    place_of(memory, &start, selector)
+}
+
+// Where a look-up for this receiver is known to begin.
+#[tactic(auto, using(crate::proofs::Again::plain_begins))]
+fn known_start<T>(memory: &Memory<T>, receiver: &Value) -> Option<Beginning>
+    ensures { (seen : Seen) → Holds memory.now seen
+        → IfSome result (λ start. BeginsFor receiver.now (start_at start) seen) }
+{
+    match receiver {
+        Value::Ref(name) => object_start(&memory.receivers, *name),
+        _ => start_of_plain(receiver),
+    }
+}
+
+// The same for a value that is no reference.
+fn start_of_plain(receiver: &Value) -> Option<Beginning>
+    ensures { option_map start_at result ≡ plain_start receiver.now }
+{
+    let class = class_of_plain(receiver)?;
+    Some(Beginning {
+        class: Some(class),
+        class_side: false,
+    })
+}
+
+// The same for an object.
+#[tactic(auto, using(crate::proofs::Again::begun_here))]
+fn object_start(receivers: &Vec<Option<Receiver>>, name: Oid) -> Option<Beginning>
+    ensures { (seen : Seen) → AllHeld (IsBegun seen) receivers.now.items
+        → IfSome result (λ start. Begins name (start_at start) seen.setting seen.world) }
+{
+    let receiver = held_at(receivers, receiver_place(name))?;
+    if receiver.name == name {
+        Some(receiver.start.copy())
+    } else {
+        None
+    }
+}
+
+// The place of a look-up that is known.
+fn place_of<T>(memory: &Memory<T>, start: &Beginning, selector: &Text) -> Option<usize>
+    ensures { (seen : Seen) → Holds memory.now seen → IfSome result (λ at.
+        Finds (start_at start.now) selector.now (held_at (founds memory.now.methods.items) at)
+        seen.setting seen.world) }
+{
+    let at = method_place(start, selector);
+    let entry = held_at(&memory.methods, at)?;
+    if is_for(entry, start, selector) {
+        Some(at)
+    } else {
+        None
+    }
+}
+
+// Whether a look-up is this one.
+fn is_for<T>(entry: &Entry<T>, start: &Beginning, selector: &Text) -> bool
+    ensures start { result ≡ true → start_at entry.now.start ≡ start_at start.now }
+    ensures selector { result ≡ true → entry.now.selector ≡ selector.now }
+{
+    same_start(&entry.start, start) && same_text(&entry.selector, selector)
+}
+
+fn same_text(one: &Text, other: &Text) -> bool
+    ensures { result ≡ true → one.now ≡ other.now }
+{
+    one.bytes() == other.bytes()
+}
+
+fn same_start(one: &Beginning, other: &Beginning) -> bool
+    ensures { result ≡ true → start_at one.now ≡ start_at other.now }
+{
+    if one.class_side != other.class_side {
+        return false;
+    }
+    match (one.class, other.class) {
+        (Some(class), Some(wanted)) => class == wanted,
+        (None, None) => true,
+        _ => false,
+    }
+}
+
+// The place at which a receiver stands.
+fn receiver_place(name: Oid) -> usize {
+    (name.number() % 1024) as usize
+}
+
+// The place at which a look-up stands.
+fn method_place(start: &Beginning, selector: &Text) -> usize {
+    let class = match start.class {
+        Some(class) => class.number() % 1024,
+        None => 0,
+    };
+    let side = if start.class_side { 256 } else { 0 };
+    let bytes = selector.bytes();
+    let first = byte_of(bytes.first());
+    let last = byte_of(bytes.last());
+    ((class * 5 + side + first * 3 + last * 7 + (bytes.len() % 64) as u64 * 11) % 512) as usize
+}
+
+fn byte_of(byte: Option<&u8>) -> u64
+    ensures { result < 256 }
+{
+    match byte {
+        Some(byte) => *byte as u64,
+        None => 0,
+    }
+}
+
+/// Remembers what a look-up found, and tells its place.
+pub(crate) fn remember<O: Objects, T: MethodCodeKept>(
+    memory: &mut Memory<T>,
+    objects: &O,
+    receiver: &Value,
+    selector: &Text,
+    found: Option<Found>,
+) -> Result<usize, AllocError>
+    requires { FindsFor receiver.now selector.now found (O.seen objects.now) }
+    ensures told { IfOk result (λ at. held_at (founds memory.new.methods.items) at ≡ found) }
+    ensures holds { IfOk result (λ _. Holds memory.old (O.seen objects.now)
+        → Holds memory.new (O.seen objects.now)) }
+    ensures coded { AllHeld (IsCoded T.is_of) memory.old.methods.items
+        → AllHeld (IsCoded T.is_of) memory.new.methods.items }
+{
+    let Some(start) = start_now(objects, receiver) else {
+        return Err(AllocError);
+    };
+    remember_receiver(&mut memory.receivers, receiver, &start)?;
+    let at = method_place(&start, selector);
+    let entry = Entry {
+        start,
+        selector: selector.clone()?,
+        found,
+        code: None,
+    };
+    put_at(&mut memory.methods, at, entry)?;
+    Ok(at)
+}
+
+// Where a look-up for this receiver begins, by what is seen of it.
+fn start_now<O: Objects>(objects: &O, receiver: &Value) -> Option<Beginning>
+    ensures { (start : Start) → BeginsFor receiver.now start (O.seen objects.now)
+        → option_map start_at result ≡ Some start }
+{
+    match receiver {
+        Value::Ref(name) => start_of_object(objects, *name),
+        _ => start_of_plain(receiver),
+    }
+}
+
+#[tactic(auto, using(crate::proofs::Again::begun_now, crate::proofs::Again::begun_there))]
+fn start_of_object<O: Objects>(objects: &O, name: Oid) -> Option<Beginning>
+    ensures { (start : Start)
+        → Begins name start (O.seen objects.now).setting (O.seen objects.now).world
+        → option_map start_at result ≡ Some start }
+{
+    let object = objects.object(name)?;
+    Some(start_by(name, object.class, &object.body))
+}
+
+fn start_by(name: Oid, class: Oid, body: &Body) -> Beginning
+    ensures { start_at result ≡ start_of_object name class body.now }
+{
+    match body {
+        Body::Class(_) => Beginning {
+            class: Some(name),
+            class_side: true,
+        },
+        _ => Beginning {
+            class: Some(class),
+            class_side: false,
+        },
+    }
+}
+
+// Remembers a receiver that is an object.
+fn remember_receiver(
+    receivers: &mut Vec<Option<Receiver>>,
+    receiver: &Value,
+    start: &Beginning,
+) -> Result<(), AllocError>
+    ensures { (seen : Seen) → BeginsFor receiver.now (start_at start.now) seen
+        → AllHeld (IsBegun seen) receivers.old.items → AllHeld (IsBegun seen) receivers.new.items }
+{
+    match receiver {
+        Value::Ref(name) => remember_object(receivers, *name, start),
+        _ => Ok(()),
+    }
+}
+
+fn remember_object(
+    receivers: &mut Vec<Option<Receiver>>,
+    name: Oid,
+    start: &Beginning,
+) -> Result<(), AllocError>
+    ensures { (seen : Seen) → Begins name (start_at start.now) seen.setting seen.world
+        → AllHeld (IsBegun seen) receivers.old.items → AllHeld (IsBegun seen) receivers.new.items }
+{
+    let receiver = Receiver {
+        name,
+        start: start.copy(),
+    };
+    put_at(receivers, receiver_place(name), receiver)
+}

@@ -1,0 +1,63 @@
+//! What is remembered, without what is claimed of it.
+ghost use Rattle.std.specs.Prelude.{◌≡◌, []};
+
+use gem_language::Found;
+use gem_value::Oid;
+use std::alloc::Global;
+use texts::Text;
+
+/// Where a look-up begins: at this class on this side, or past the last one.
+#[derive(Drop)]
+pub(crate) struct Beginning {
+    pub(crate) class: Option<Oid>,
+    pub(crate) class_side: bool,
+}
+
+impl Beginning {
+    /// The same.
+    pub(crate) fn copy(&self) -> Beginning
+        ensures { result ≡ self.now }
+    {
+        Beginning {
+            class: self.class,
+            class_side: self.class_side,
+        }
+    }
+}
+
+/// An object that received a message, and where look-ups for it begin.
+#[derive(Drop)]
+pub(crate) struct Receiver {
+    pub(crate) name: Oid,
+    pub(crate) start: Beginning,
+}
+
+/// A look-up, and what it found; and what is kept beside that.
+#[derive(Drop)]
+pub(crate) struct Entry<T> {
+    pub(crate) start: Beginning,
+    pub(crate) selector: Text,
+    pub(crate) found: Option<Found>,
+    pub(crate) code: Option<T>,
+}
+
+/// Receivers and look-ups, each at a place that its name or its class and selector tell. At a place
+/// stands what came there last.
+#[derive(Drop)]
+pub struct Memory<T> {
+    pub(crate) receivers: Vec<Option<Receiver>>,
+    pub(crate) methods: Vec<Option<Entry<T>>>,
+}
+
+impl<T> Memory<T> {
+    /// Nothing is remembered. Takes no memory.
+    pub(crate) fn empty(alloc: Global) -> Memory<T>
+        ensures receivers { result.receivers.items ≡ [] }
+        ensures methods { result.methods.items ≡ [] }
+    {
+        Memory {
+            receivers: Vec::new(alloc),
+            methods: Vec::new(alloc),
+        }
+    }
+}

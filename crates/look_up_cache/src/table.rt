@@ -1,0 +1,42 @@
+//! Tables of places, at each of which something may stand.
+ghost use Rattle.std.specs.Prelude.{◌≡◌, ◌<◌, ◌⊎◌, ℕ, length, Some, IfOk, option_copied};
+ghost use Rattle.look_up_cache.specs.Table.{held_at};
+
+use std::alloc::AllocError;
+
+/// What stands at a place. It takes no memory.
+pub(crate) fn held_at<X>(places: &Vec<Option<X>>, at: usize) -> Option<&X>
+    ensures { option_copied result ≡ held_at places.now.items at }
+{
+    let place = places.get(at)?;
+    place.as_ref()
+}
+
+/// Makes a table wide enough that it has this place.
+#[tactic(auto, using(crate::proofs::Places::held_added))]
+pub(crate) fn widen<X: Drop>(places: &mut Vec<Option<X>>, at: usize) -> Result<(), AllocError>
+    ensures same { (place : ℕ) (x : X) → held_at places.new.items place ≡ Some x
+        → held_at places.old.items place ≡ Some x }
+    ensures wide { IfOk result (λ _. at < length places.new.items) }
+{
+    while places.len() <= at {
+        places.push(None)?;
+    }
+    Ok(())
+}
+
+/// Puts something at a place.
+#[tactic(auto, using(crate::proofs::Places::held_set, crate::proofs::Places::held_here))]
+pub(crate) fn put_at<X: Drop>(
+    places: &mut Vec<Option<X>>,
+    at: usize,
+    x: X,
+) -> Result<(), AllocError>
+    ensures held { (place : ℕ) (y : X) → held_at places.new.items place ≡ Some y
+        → (x ≡ y) ⊎ (held_at places.old.items place ≡ Some y) }
+    ensures placed { IfOk result (λ _. held_at places.new.items at ≡ Some x) }
+{
+    widen(places, at)?;
+    places[at] = Some(x);
+    Ok(())
+}
