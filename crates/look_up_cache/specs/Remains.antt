@@ -13,4 +13,3 @@ use Rattle.look_up_cache.specs.Remembered.{Finds}
 pub record Remains (before after : Seen) : Type 0 where
   pub setting : after.setting ≡ before.setting
   pub still : Still before.setting before.world after.world
-

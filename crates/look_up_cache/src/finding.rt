@@ -34,11 +34,7 @@ pub(crate) fn renew<T: MethodCodeKept>(memory: &mut Memory<T>, held: bool)
 }
 
 /// The place of what a look-up for this receiver is known to find.
-pub(crate) fn known_place<T>(
-    memory: &Memory<T>,
-    receiver: &Value,
-    selector: &Text,
-) -> Option<usize>
+pub(crate) fn known_place<T>(memory: &Memory<T>, receiver: &Value, selector: &Text) -> Option<usize>
     ensures { (seen : Seen) → Holds memory.now seen → IfSome result (λ at.
         FindsFor receiver.now selector.now (held_at (founds memory.now.methods.items) at) seen) }
 {

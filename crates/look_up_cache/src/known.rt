@@ -98,12 +98,7 @@ impl<O: Objects, T: MethodCodeKept> KnownObjects<O, T> {
     }
 
     // Looks it up, and remembers it.
-    fn look_up(
-        &mut self,
-        frame: &Frame,
-        receiver: &Value,
-        selector: &Text,
-    ) -> Result<usize, Stop>
+    fn look_up(&mut self, frame: &Frame, receiver: &Value, selector: &Text) -> Result<usize, Stop>
         ensures { Does (find_method false frame.now receiver.now selector.now) (O.seen self.old.0)
             (told_by self.new.1 result) (O.seen self.new.0) }
     {
