@@ -111,7 +111,7 @@ impl Clone for UserBody {
 }
 
 /// What an object holds.
-#[derive(Debug, Drop)]
+#[derive(Debug)]
 pub enum Body {
     /// Slots: the named ones first.
     Plain(Values),
@@ -133,6 +133,25 @@ pub enum Body {
     RcDict(KeyDict<Value, Value>),
     /// A queue whose updates are merged.
     Queue(Queue<Value>),
+}
+
+// By hand, so that a drop is a call: one that is derived would stand in the proof of each function
+// that drops a body, at each of its exits.
+impl Drop for Body {
+    fn drop(self) {
+        match self {
+            Body::Plain(_) => {}
+            Body::Bytes(_) => {}
+            Body::Dict(_) => {}
+            Body::Class(_) => {}
+            Body::Segment(_) => {}
+            Body::User(_) => {}
+            Body::Counter(_) => {}
+            Body::Bag(_) => {}
+            Body::RcDict(_) => {}
+            Body::Queue(_) => {}
+        }
+    }
 }
 
 impl Body {
