@@ -8,8 +8,7 @@ use Rattle.gem_meaning.specs.Session.{reply_with, replies_with}
 use Rattle.gem_language.specs.Commands.{Command as ObjectCommand, Reply, not_read, failed, ran, printed, installed, reply_of}
 use Rattle.gem_language.specs.Transaction.{command_outcome}
 use Rattle.object_programs.specs.Budget.{Budget}
-use Rattle.plain_state.specs.State.{with_whole_budget}
-use Rattle.running_objects.specs.Seen.{Seen}
+use Rattle.running_objects.specs.Seen.{Seen, with_whole_budget}
 use Rattle.st_plain.specs.declared.reply.Reply.{Reply as PlainReply}
 use Rattle.st_plain.specs.Replies.{shown, Replied}
 use Rattle.gem_meaning.specs.Lines.{reply_line, show_lines}

@@ -11,8 +11,7 @@ use Rattle.gem_language.specs.Commands.{Command as ObjectCommand}
 use Rattle.gem_language.specs.Transaction.{Transaction, command_outcome}
 use Rattle.shell_words.specs.declared.script.Command.{Command}
 use Rattle.shell_words.specs.declared.script.Command.TheVariants.{Chunk, Method, Commit, Abort, Logout, Lock, Unlock}
-use Rattle.plain_state.specs.State.{with_whole_budget}
-use Rattle.running_objects.specs.Seen.{Keeps}
+use Rattle.running_objects.specs.Seen.{Keeps, with_whole_budget}
 use Rattle.session_view.specs.declared.view.View.{View}
 use Rattle.gem_meaning.specs.Commands.{object_command, is_run}
 use Rattle.gem_meaning.specs.Opened.{Opened, commands_of, entry_setting, run_at}

@@ -10,8 +10,7 @@ use Rattle.gem_sound.specs.Parts.{user_at}
 use Rattle.gem_replies.specs.declared.reply.Line.{Line}
 use Rattle.gem_replies.specs.declared.reply.Line.TheVariants.{NoMemory, Unchanged, Refused, Committed, Locked, Denied, NotHeld, Unlocked}
 use Rattle.gem_replies.specs.declared.reply.Transcript.{Transcript}
-use Rattle.plain_state.specs.State.{with_whole_budget}
-use Rattle.running_objects.specs.Seen.{IsSoundState, Keeps}
+use Rattle.running_objects.specs.Seen.{IsSoundState, Keeps, with_whole_budget}
 use Rattle.gem_meaning.specs.Commands.{object_command}
 use Rattle.gem_meaning.specs.Opened.{Opened, session_serial, commands_of, entry_commands}
 use Rattle.gem_meaning.specs.Names.{user_in}

@@ -1,8 +1,7 @@
 //! What a chunk and a method do within a transaction, and what they answer.
 ghost use Rattle.std.specs.Prelude.{◌≡◌, true, IfOk};
 ghost use Rattle.gem_meaning.specs.Commands.{object_command, is_run};
-ghost use Rattle.plain_state.specs.State.{with_whole_budget};
-ghost use Rattle.running_objects.specs.Seen.{Keeps};
+ghost use Rattle.running_objects.specs.Seen.{Keeps, with_whole_budget};
 ghost use Rattle.gem_session.specs.Answer.{lines_of, MeantBy, EvaluatedBy};
 
 use crate::answer::Answer;

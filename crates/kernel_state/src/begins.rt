@@ -16,7 +16,7 @@ use plain_state::PlainState;
 use plain_state::laws::begins_on_sound_images;
 use profile::{DATA_CURATOR_COUNTER, KERNEL_SERIAL};
 use radix_pages::Steps;
-use running_objects::Objects;
+use running_objects::RunsChunks;
 use session_view::View;
 use std::alloc::{AllocError, Global};
 use std::sync::ledger::Ledger;
@@ -25,17 +25,11 @@ use std::sync::ledger::Ledger;
 const SERIAL: u32 = 1;
 
 /// What chunks run on, and a transaction is.
-pub trait Begins: Objects + Drop {
+pub trait Begins: RunsChunks + Drop {
     /// A transaction of DataCurator over an image, which draws its names from this counter on.
     fn over(alloc: Global, image: Image, first: u32) -> Result<Self, AllocError>
         requires { BeginsSound image image (oid_number KERNEL_SERIAL DATA_CURATOR_COUNTER) 1
             first };
-
-    /// Begins a chunk.
-    fn begin_chunk(&mut self);
-
-    /// What the chunk has written on the transcript.
-    fn transcript(&self) -> &[u8];
 }
 
 impl Begins for PlainState {
@@ -43,27 +37,11 @@ impl Begins for PlainState {
         let view = image.share()?;
         Ok(PlainState::start(alloc, image, view, curator(), SERIAL, first))
     }
-
-    fn begin_chunk(&mut self) {
-        PlainState::begin_chunk(self);
-    }
-
-    fn transcript(&self) -> &[u8] {
-        PlainState::transcript(self)
-    }
 }
 
 impl Begins for View {
     fn over(alloc: Global, image: Image, first: u32) -> Result<View, AllocError> {
         View::start(alloc, image, 0, SERIAL, first, curator())
-    }
-
-    fn begin_chunk(&mut self) {
-        View::begin_chunk(self);
-    }
-
-    fn transcript(&self) -> &[u8] {
-        View::transcript(self)
     }
 }
 

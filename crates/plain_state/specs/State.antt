@@ -20,7 +20,3 @@ begun place view user serial first = record {
 abbrev pub BeginsSound : (place view : Image) → (user serial first : ℕ) → Type 0
 BeginsSound place view user serial first =
     AreSound (begun_at place view user serial first) (untouched first)
-
--- a new chunk begins: its budget is whole, and setting and objects stay
-abbrev pub with_whole_budget : Seen → Seen
-with_whole_budget seen = record seen { budget = whole_budget }

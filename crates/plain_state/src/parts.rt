@@ -5,10 +5,9 @@ ghost use Rattle.gem_image.specs.Image.{contents_of, objects_in};
 ghost use Rattle.gem_image.specs.Rights.{rights_at, groups_at, right_in, right_on, right_on_segment};
 ghost use Rattle.gem_world.specs.World.{shown_objects, as_of, are_shared, is_made, is_private, with_name};
 ghost use Rattle.gem_world.specs.Access.{a_read, a_write, right_at, is_allowed};
-ghost use Rattle.running_objects.specs.Seen.{object_at};
+ghost use Rattle.running_objects.specs.Seen.{object_at, with_whole_budget};
 ghost use Rattle.running_objects.specs.Acted.{stored_bytes};
 ghost use Rattle.plain_state.specs.Parts.{touched, missed, asked, held};
-ghost use Rattle.plain_state.specs.State.{with_whole_budget};
 
 use crate::overlay::Overlay;
 use gem_image::Image;

@@ -1,6 +1,6 @@
 //! The plain state: its parts, with sound objects.
 ghost use Rattle.std.specs.Prelude.{◌≡◌};
-ghost use Rattle.plain_state.specs.State.{begun, BeginsSound, with_whole_budget};
+ghost use Rattle.plain_state.specs.State.{begun, BeginsSound};
 
 use crate::overlay::Overlay;
 use crate::parts::Parts;
@@ -10,7 +10,7 @@ use gem_update::Update;
 use gem_value::Oid;
 use indexmap::IndexSet;
 use object_programs::{COUNTER_LIMIT, SPACE_LIMIT, UNIT_LIMIT};
-use running_objects::{Objects, Stop};
+use running_objects::{Objects, RunsChunks, Stop};
 use std::alloc::Global;
 use std::marker::Model;
 
@@ -70,21 +70,6 @@ impl PlainState {
                 text: Vec::new(alloc),
             },
         }
-    }
-
-    /// Begins a chunk: its budget is whole and its transcript empty. The objects stay as they are.
-    /// It takes no memory.
-    pub fn begin_chunk(&mut self)
-        ensures { self.new.seen ≡ with_whole_budget self.old.seen }
-    {
-        self.parts.refill();
-    }
-
-    /// What the chunk has written on the transcript so far, at most 65,536 bytes.
-    pub fn transcript(&self) -> &[u8]
-        ensures { result.now ≡ self.now.seen.budget.text }
-    {
-        self.parts.text.as_slice()
     }
 
     /// The units that the chunk has left, of 1,000,000.
@@ -221,5 +206,15 @@ impl Objects for PlainState {
 
     fn make(&mut self, objects: Vec<Object>) -> Result<Oid, Stop> {
         self.parts.make(objects)
+    }
+}
+
+impl RunsChunks for PlainState {
+    fn begin_chunk(&mut self) {
+        self.parts.refill();
+    }
+
+    fn transcript(&self) -> &[u8] {
+        self.parts.text.as_slice()
     }
 }

@@ -2,7 +2,7 @@
 use Rattle.std.specs.Prelude.{◌≡◌, ℕ, Option}
 use Rattle.gem_image.specs.Image.{Contents}
 use Rattle.gem_world.specs.World.{Setting, World, shown}
-use Rattle.object_programs.specs.Budget.{Budget}
+use Rattle.object_programs.specs.Budget.{Budget, whole_budget}
 use Rattle.object_programs.specs.Local.{Local}
 use Rattle.object_programs.specs.Run.{State}
 use Rattle.object_programs.specs.Laws.{Falls, AreSound}
@@ -24,6 +24,10 @@ IsSoundState seen = AreSound seen.setting seen.world
 -- the state of a program: what is seen, and what is local
 abbrev pub with_local : {B : Type 0} → Seen → Local B → State B
 with_local seen local = record { world = seen.world; budget = seen.budget; local = local }
+
+-- a new chunk begins: its budget is whole, and setting and objects stay
+abbrev pub with_whole_budget : Seen → Seen
+with_whole_budget seen = record seen { budget = whole_budget }
 
 -- What holds of two states of a run, the earlier one first, also where memory ran out between them:
 -- the setting is the same, what is left hasn't grown and names were drawn one after the other, and

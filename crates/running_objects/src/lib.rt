@@ -2,9 +2,11 @@
 //! over several states. Knows nothing of the Stone and of other sessions.
 #![tactic(auto)]
 
+mod chunks;
 pub mod laws;
 mod objects;
 mod stop;
 
+pub use chunks::RunsChunks;
 pub use objects::Objects;
 pub use stop::Stop;

@@ -3,7 +3,7 @@ use crate::view::View;
 use gem_object::{Body, Object, Value};
 use gem_update::Update;
 use gem_value::Oid;
-use running_objects::{Objects, Stop};
+use running_objects::{Objects, RunsChunks, Stop};
 
 impl Objects for View {
     ghost seen = { λ view. view.state.seen };
@@ -102,5 +102,15 @@ impl Objects for View {
 
     fn make(&mut self, objects: Vec<Object>) -> Result<Oid, Stop> {
         self.state.make(objects)
+    }
+}
+
+impl RunsChunks for View {
+    fn begin_chunk(&mut self) {
+        View::begin_chunk(self);
+    }
+
+    fn transcript(&self) -> &[u8] {
+        View::transcript(self)
     }
 }

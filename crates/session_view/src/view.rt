@@ -7,8 +7,8 @@ ghost use Rattle.object_programs.specs.Fixed.{fixed_by};
 ghost use Rattle.object_programs.specs.Guard.{is_segment_at};
 ghost use Rattle.object_programs.specs.Methods.{methods_fit};
 ghost use Rattle.object_programs.specs.declared.limits.TheConstants.{COUNTER_LIMIT};
-ghost use Rattle.running_objects.specs.Seen.{object_at};
-ghost use Rattle.plain_state.specs.State.{begun, BeginsSound, with_whole_budget};
+ghost use Rattle.running_objects.specs.Seen.{object_at, with_whole_budget};
+ghost use Rattle.plain_state.specs.State.{begun, BeginsSound};
 ghost use Rattle.plain_state.specs.Writes.{is_changeable, accepts_body, may_add};
 ghost use Rattle.session_view.specs.Calls.{takes};
 
@@ -17,7 +17,7 @@ use gem_object::{Body, Object};
 use gem_update::Update;
 use gem_value::Oid;
 use plain_state::PlainState;
-use running_objects::Objects;
+use running_objects::{Objects, RunsChunks};
 use seg_rights::Right;
 use std::alloc::{AllocError, Global};
 
