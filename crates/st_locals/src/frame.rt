@@ -6,7 +6,7 @@ ghost use Rattle.tree_meaning.specs.Calls.{method_frame};
 use crate::locals::Locals;
 use gem_object::Value;
 use gem_value::Oid;
-use std::alloc::AllocError;
+use std::alloc::{AllocError, Global};
 use std::marker::Model;
 use tree_meaning::Mark;
 
@@ -132,6 +132,32 @@ pub fn method_frame(
         holder,
         class_side,
     })
+}
+
+/// The frame of such an activation without its scopes, for whoever keeps these elsewhere. It takes no
+/// memory.
+pub fn frame_without_scopes(
+    alloc: Global,
+    holder: Oid,
+    class_side: bool,
+    receiver: Value,
+    home: u64,
+) -> Frame
+    ensures { result ≡ record {
+      scopes = [];
+      receiver = receiver;
+      home = home;
+      holder = holder;
+      class_side = class_side;
+    } }
+{
+    Frame {
+        scopes: Vec::new(alloc),
+        receiver,
+        home,
+        holder,
+        class_side,
+    }
 }
 
 /// Copies of these marks, and one more inside them.

@@ -12,7 +12,7 @@ mod place;
 mod scope;
 
 pub use forms::{first_loop, form_of, form_under, is_super_head};
-pub use frame::{Frame, method_frame};
+pub use frame::{Frame, frame_without_scopes, method_frame};
 pub use locals::{Locals, nil_values, with_nils};
 pub use made_block::MadeBlock;
 pub use names::{is_super, where_is};
