@@ -9,3 +9,4 @@ mod Keeps
 mod Places
 mod Again
 mod There
+pub mod AfterReads

@@ -1,10 +1,12 @@
 -- What stands at the places of a table.
-use Rattle.std.proofs.Common.{◌≡◌, ◌∙◌, ◌⊎◌, inl, inr, refl, sym, ap, ℕ, zero, suc, ◌<◌, List, [], ◌∷◌, ◌++◌, length, set, Option, Some, None, option_and_then, arith}
+use Rattle.std.proofs.Common.{◌≡◌, ◌∙◌, ◌⊎◌, inl, inr, refl, sym, ap, subst, ℕ, zero, suc, ◌<◌, List, [], ◌∷◌, ◌++◌, length, set, slice_get, Option, Some, None, IfSome, option_map, option_and_then, arith}
 use Rattle.std.proofs.lemmas.Option.{none-some, same_Some}
 use Rattle.gem_language.specs.declared.found.Found.{Found}
 use Rattle.look_up_cache.specs.declared.memory.Entry.{Entry}
 use Rattle.look_up_cache.specs.Table.{held_at, AllHeld}
-use Rattle.look_up_cache.specs.Memory.{founds}
+use Rattle.gem_object.specs.declared.body.MethodCode.{MethodCode}
+use Rattle.running_objects.specs.Seen.{Seen}
+use Rattle.look_up_cache.specs.Memory.{IsFound, IsCoded, coded_by, founds}
 
 module _ {X : Type 0} where
   pub held_added : (places : List (Option X)) (at : ℕ) (x : X) → held_at (places ++ None ∷ []) at ≡ Some x
@@ -37,3 +39,60 @@ pub found_held : {T : Type 0} (places : List (Option (Entry T))) (at : ℕ)
 found_held [] at = refl
 found_held (place ∷ places) zero = refl
 found_held (place ∷ places) (suc at) = found_held places at
+
+module _ {X : Type 0} where
+  -- what stands in a table after what stood at a place was renewed
+  pub held_renewed : (places : List (Option X)) (at place : ℕ) (new : Option X) (x : X)
+      → held_at (set (set places at None) at new) place ≡ Some x
+      → (new ≡ Some x) ⊎ (held_at places place ≡ Some x)
+  held_renewed [] at place new x is = inr is
+  held_renewed (first ∷ places) zero zero new x is = inl is
+  held_renewed (first ∷ places) zero (suc place) new x is = inr is
+  held_renewed (first ∷ places) (suc at) zero new x is = inr is
+  held_renewed (first ∷ places) (suc at) (suc place) new x is = held_renewed places at place new x is
+
+module _ {T : Type 0} where
+  -- what was found stays where code comes beside it
+  pub founds_renewed : (places : List (Option (Entry T))) (at : ℕ) (entry : Option (Entry T)) (code : T)
+      → slice_get places at ≡ Some entry
+      → founds (set (set places at None) at (option_map (coded_by code) entry)) ≡ founds places
+  founds_renewed [] at entry code is = absurd (none-some entry is)
+  founds_renewed (None ∷ places) zero entry code is =
+      ap (λ (held : Option (Entry T)). option_and_then (λ one. one.found) (option_map (coded_by code) held) ∷ founds places)
+      (sym (same_Some None entry is))
+  founds_renewed (Some first ∷ places) zero entry code is =
+      ap (λ (held : Option (Entry T)). option_and_then (λ one. one.found) (option_map (coded_by code) held) ∷ founds places)
+      (sym (same_Some (Some first) entry is))
+  founds_renewed (place ∷ places) (suc at) entry code is =
+      ap (λ (more : List (Option Found)). option_and_then (λ one. one.found) place ∷ more)
+      (founds_renewed places at entry code is)
+
+  -- what holds of every look-up whatever code is beside it still does
+  pub all_found : (seen : Seen) (places : List (Option (Entry T))) (at : ℕ) (entry : Option (Entry T)) (code : T)
+      → slice_get places at ≡ Some entry → AllHeld (IsFound seen) places
+      → AllHeld (IsFound seen) (set (set places at None) at (option_map (coded_by code) entry))
+  all_found seen places at entry code is all place x here =
+      by_entry entry is (held_renewed places at place (option_map (coded_by code) entry) x here) where
+        by_entry : (entry : Option (Entry T)) → slice_get places at ≡ Some entry
+            → (option_map (coded_by code) entry ≡ Some x) ⊎ (held_at places place ≡ Some x) → IsFound seen x
+        by_entry entry is (inr there) = all place x there
+        by_entry None is (inl new) = absurd (none-some x new)
+        by_entry (Some old) is (inl new) =
+            subst (IsFound seen) (same_Some (coded_by code old) x new) (all at old (ap (option_and_then (λ (held : Option (Entry T)). held)) is))
+
+  -- the code that comes beside a method is its own
+  pub all_coded : (is_of : T → MethodCode → Type 0) (places : List (Option (Entry T))) (at : ℕ)
+      (entry : Option (Entry T)) (code : T) → slice_get places at ≡ Some entry
+      → IfSome (held_at (founds places) at) (λ found. is_of code found.code) → AllHeld (IsCoded is_of) places
+      → AllHeld (IsCoded is_of) (set (set places at None) at (option_map (coded_by code) entry))
+  all_coded is_of places at entry code is own all place x here =
+      by_entry entry is (held_renewed places at place (option_map (coded_by code) entry) x here) where
+        by_entry : (entry : Option (Entry T)) → slice_get places at ≡ Some entry
+            → (option_map (coded_by code) entry ≡ Some x) ⊎ (held_at places place ≡ Some x) → IsCoded is_of x
+        by_entry entry is (inr there) = all place x there
+        by_entry None is (inl new) = absurd (none-some x new)
+        by_entry (Some old) is (inl new) =
+            subst (IsCoded is_of) (same_Some (coded_by code old) x new)
+            (subst (λ (found : Option Found). IfSome found (λ one. is_of code one.code))
+            (found_held places at ∙ ap (λ (held : Option (Option (Entry T))). option_and_then (λ one. one.found) (option_and_then (λ (held : Option (Entry T)). held) held)) is)
+            own)

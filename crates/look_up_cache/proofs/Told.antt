@@ -73,7 +73,7 @@ module _ (setting : Setting) where
   read_still name state object after is = subst (λ (later : World). Still setting state.world later)
       (read_world name state object after is) (asked_still setting name state.world)
 
-  read_calm : (name : ℕ) (state : State MadeBlock) (object : Contents) (after : State MadeBlock)
+  pub read_calm : (name : ℕ) (state : State MadeBlock) (object : Contents) (after : State MadeBlock)
       → Comes (read name) setting state (gives object) after → Calm name (lasting_of object) setting after.world
   read_calm name state object after is = subst (λ (later : World). Calm name (lasting_of object) setting later)
       (read_world name state object after is)

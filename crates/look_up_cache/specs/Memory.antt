@@ -33,6 +33,10 @@ IsFound seen entry =
 abbrev pub IsCoded : {T : Type 0} → (T → MethodCode → Type 0) → Entry T → Type 0
 IsCoded is_of entry = IfSome entry.code (λ code. IfSome entry.found (λ found. is_of code found.code))
 
+-- the same look-up with this code beside it
+abbrev pub coded_by : {T : Type 0} → T → Entry T → Entry T
+coded_by code entry = record entry { code = Some code }
+
 -- All that is remembered is so.
 pub record Holds {T : Type 0} (memory : Memory T) (seen : Seen) : Type 0 where
   pub receivers : AllHeld (IsBegun seen) memory.receivers.items

@@ -2,11 +2,13 @@
 ghost use Rattle.std.specs.Prelude.{◌≡◌, ◌<◌, true, ℕ, Some, option_map, IfOk, IfSome};
 ghost use Rattle.gem_object.specs.declared.body.MethodCode.{MethodCode};
 ghost use Rattle.gem_language.specs.LookUp.{Start, start_of_object};
+ghost use Rattle.gem_world.specs.Access.{a_read};
+ghost use Rattle.running_objects.specs.Acted.{Reached};
 ghost use Rattle.running_objects.specs.Seen.{Seen};
 ghost use Rattle.look_up_cache.specs.Calm.{Begins, plain_start};
 ghost use Rattle.look_up_cache.specs.Remembered.{Finds};
 ghost use Rattle.look_up_cache.specs.Table.{held_at, AllHeld};
-ghost use Rattle.look_up_cache.specs.Memory.{start_at, IsBegun, IsCoded, Holds, Where, BeginsFor, FindsFor, founds};
+ghost use Rattle.look_up_cache.specs.Memory.{start_at, IsBegun, IsFound, IsCoded, coded_by, Holds, Where, BeginsFor, FindsFor, founds};
 
 use crate::kept::MethodCodeKept;
 use crate::memory::{Beginning, Entry, Memory, Receiver};
@@ -17,6 +19,7 @@ use gem_value::Oid;
 use prim_parts::class_of_plain;
 use running_objects::Objects;
 use std::alloc::AllocError;
+use std::mem;
 use texts::Text;
 
 /// Forgets all, unless it holds.
@@ -242,4 +245,70 @@ fn remember_object(
         start: start.copy(),
     };
     put_at(receivers, receiver_place(name), receiver)
+}
+
+/// Whether the object of this name is known to be read without a change of anything.
+#[tactic(auto, using(crate::proofs::AfterReads::found_reached))]
+pub(crate) fn is_calm(receivers: &Vec<Option<Receiver>>, name: Oid) -> bool
+    ensures { (seen : Seen) → AllHeld (IsBegun seen) receivers.now.items → result ≡ true
+        → Reached a_read name seen seen }
+{
+    object_start(receivers, name).is_some()
+}
+
+/// Remembers an object that was read, where what is remembered holds.
+pub(crate) fn remember_read<O: Objects, T>(
+    memory: &mut Memory<T>,
+    objects: &O,
+    held: bool,
+    name: Oid,
+)
+    ensures holds { (before : Seen) → Reached a_read name before (O.seen objects.now)
+        → Where held (Holds memory.old (O.seen objects.now))
+        → Where held (Holds memory.new (O.seen objects.now)) }
+    ensures methods { memory.new.methods.items ≡ memory.old.methods.items }
+{
+    if held {
+        remember_object_read(&mut memory.receivers, objects, name);
+    }
+}
+
+fn remember_object_read<O: Objects>(receivers: &mut Vec<Option<Receiver>>, objects: &O, name: Oid)
+    ensures { (before : Seen) → Reached a_read name before (O.seen objects.now)
+        → AllHeld (IsBegun (O.seen objects.now)) receivers.old.items
+        → AllHeld (IsBegun (O.seen objects.now)) receivers.new.items }
+{
+    if let Some(object) = objects.object(name) {
+        let start = start_by(name, object.class, &object.body);
+        let _ = remember_object(receivers, name, &start);
+    }
+}
+
+/// Keeps code beside the method that stands at a place. Where nothing stands there nothing changes.
+pub(crate) fn keep_at<T: MethodCodeKept>(methods: &mut Vec<Option<Entry<T>>>, at: usize, code: T)
+    requires { IfSome (held_at (founds methods.old.items) at) (λ found. T.is_of code found.code) }
+    ensures founds { founds methods.new.items ≡ founds methods.old.items }
+    ensures found { (seen : Seen) → AllHeld (IsFound seen) methods.old.items
+        → AllHeld (IsFound seen) methods.new.items }
+    ensures coded { AllHeld (IsCoded T.is_of) methods.old.items
+        → AllHeld (IsCoded T.is_of) methods.new.items }
+{
+    if at >= methods.len() {
+        return;
+    }
+    let entry = mem::replace(&mut methods[at], None);
+    methods[at] = with_code(entry, code);
+}
+
+// The same look-up with this code beside it.
+fn with_code<T: Drop>(entry: Option<Entry<T>>, code: T) -> Option<Entry<T>>
+    ensures { result ≡ option_map (coded_by code) entry }
+{
+    let entry = entry?;
+    Some(Entry {
+        start: entry.start,
+        selector: entry.selector,
+        found: entry.found,
+        code: Some(code),
+    })
 }

@@ -5,7 +5,7 @@ ghost use Rattle.prim_parts.specs.Does.{Does};
 ghost use Rattle.look_up_cache.specs.Table.{held_at};
 ghost use Rattle.look_up_cache.specs.Memory.{FindsFor, told_by};
 
-use crate::finding::{known_place, remember, renew};
+use crate::finding::{keep_at, known_place, remember, renew};
 use crate::kept::MethodCodeKept;
 use crate::memory::Memory;
 use crate::table::held_at;
@@ -123,5 +123,14 @@ impl<O: Objects, T: MethodCodeKept> KnownObjects<O, T> {
             IfSome (held_at self.now.1 at) (λ found. T.is_of code.now found.code)) }
     {
         held_at(&self.memory.methods, at)?.code.as_ref()
+    }
+
+    /// Keeps this beside the method that stands at a place, whose it is. Where nothing stands there
+    /// nothing is kept. It takes no memory.
+    pub fn keep_code(&mut self, at: usize, code: T)
+        requires { IfSome (held_at self.old.1 at) (λ found. T.is_of code found.code) }
+        ensures { self.new ≡ self.old }
+    {
+        keep_at(&mut self.memory.methods, at, code);
     }
 }

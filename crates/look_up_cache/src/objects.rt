@@ -4,12 +4,13 @@ ghost use Rattle.std.specs.Prelude.{◌≡◌, true, ◌&&◌, None, is_some, is
 ghost use Rattle.running_objects.specs.Seen.{object_at};
 ghost use Rattle.look_up_cache.specs.Lasting.{lasting_body};
 
+use crate::finding::{is_calm, remember_read};
 use crate::kept::MethodCodeKept;
 use crate::known::KnownObjects;
 use gem_object::{Body, Object, Value};
 use gem_update::Update;
 use gem_value::Oid;
-use running_objects::{Objects, Stop};
+use running_objects::{Objects, RunsChunks, Stop};
 
 impl<O: Objects, T: MethodCodeKept> Objects for KnownObjects<O, T> {
     ghost seen = { λ known. O.seen known.0 };
@@ -63,8 +64,12 @@ impl<O: Objects, T: MethodCodeKept> Objects for KnownObjects<O, T> {
     }
 
     fn read(&mut self, oid: Oid) -> Result<(), Stop> {
+        if self.holds && is_calm(&self.memory.receivers, oid) {
+            return Ok(());
+        }
         let result = self.objects.read(oid);
         self.holds = still(self.holds, &result);
+        remember_read(&mut self.memory, &self.objects, self.holds, oid);
         result
     }
 
@@ -151,6 +156,16 @@ impl<O: Objects, T: MethodCodeKept> Objects for KnownObjects<O, T> {
         let result = self.objects.make(objects);
         self.holds = still(self.holds, &result);
         result
+    }
+}
+
+impl<O: RunsChunks, T: MethodCodeKept> RunsChunks for KnownObjects<O, T> {
+    fn begin_chunk(&mut self) {
+        self.objects.begin_chunk();
+    }
+
+    fn transcript(&self) -> &[u8] {
+        self.objects.transcript()
     }
 }
 
