@@ -5,6 +5,7 @@
 #![tactic(auto)]
 
 mod answer;
+mod known_view;
 pub mod laws;
 mod names;
 mod run;

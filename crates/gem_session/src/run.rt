@@ -26,8 +26,8 @@ use stone_core::StonePort;
 /// case the session holds no lock afterwards.
 ///
 /// Chunks take a stack of their own depth: who calls this provides a thread with stack for 2,000
-/// activations. Plain texts took about 34 MB, the deepest text that was tried 2.3 GB; the server
-/// reserves 4 GB. Nothing is proved of it.
+/// activations. An activation took some 2.5 KB, whatever is nested in it; the server reserves 4 GB.
+/// Nothing is proved of it.
 ///
 /// # Errors
 ///

@@ -5,10 +5,10 @@ ghost use Rattle.running_objects.specs.Seen.{Keeps, with_whole_budget};
 ghost use Rattle.gem_session.specs.Answer.{lines_of, MeantBy, EvaluatedBy};
 
 use crate::answer::Answer;
-use session_view::View;
+use crate::known_view::KnownView;
 use shell_words::Command;
-use st_machine::{CodeCache, run_text};
-use st_plain::{Reply, install_source};
+use st_machine::CodeCache;
+use st_plain::Reply;
 use std::alloc::{AllocError, Global};
 
 /// Runs a chunk or a method with a whole budget, and gives the answer to it.
@@ -18,7 +18,7 @@ use std::alloc::{AllocError, Global};
 /// `AllocError` where memory ran out. What has become of the objects isn't said then.
 pub(crate) fn run_command(
     alloc: Global,
-    view: &mut View,
+    view: &mut KnownView,
     cache: &mut CodeCache,
     command: &Command,
 ) -> Result<Answer, AllocError>
@@ -35,7 +35,7 @@ pub(crate) fn run_command(
 // Runs a chunk or a method with the budget at hand.
 fn evaluate(
     alloc: Global,
-    view: &mut View,
+    view: &mut KnownView,
     cache: &mut CodeCache,
     command: &Command,
 ) -> Result<Reply, AllocError>
@@ -43,12 +43,12 @@ fn evaluate(
     ensures { EvaluatedBy (object_command command.now) view.old result view.new }
 {
     match command {
-        Command::Chunk { prints, text } => run_text(alloc, view, cache, *prints, text),
+        Command::Chunk { prints, text } => view.run_text(alloc, cache, *prints, text),
         Command::Method {
             class_side,
             class,
             text,
-        } => install_source(alloc, view, *class_side, class, text),
+        } => view.install_source(alloc, *class_side, class, text),
         _ => unreachable!(),
     }
 }

@@ -12,13 +12,13 @@ ghost use Rattle.gem_session.specs.Answer.{lines_of};
 ghost use Rattle.gem_session.specs.Running.{goes_on, session_state, ComesTo, HasEnded, Begins, Ran, RepliedBy};
 
 use crate::answer::Answer;
+use crate::known_view::KnownView;
 use crate::running::run_command;
 use gem_image::Image;
 use gem_replies::Line;
 use gem_value::Oid;
 use history_laws::laws::images_are_sound;
 use plain_state::laws::begins_on_sound_images;
-use running_objects::Objects;
 use session_view::View;
 use shell_words::Command;
 use st_machine::CodeCache;
@@ -43,7 +43,7 @@ pub(crate) struct Session {
     /// The image that the transaction runs on.
     pub image: Image,
     /// What the transaction works on.
-    pub view: View,
+    pub view: KnownView,
     /// The code of the methods that the session ran last.
     pub cache: CodeCache,
 }
@@ -215,7 +215,7 @@ fn start_view(
     serial: u32,
     next: u32,
     user: Oid,
-) -> Result<View, AllocError>
+) -> Result<KnownView, AllocError>
     requires { IsSoundFor (objects_in standing.image) user serial next }
     ensures seen { IfOk result
         (λ view. view.state.seen ≡ begun standing.image standing.image user serial next) }
@@ -223,7 +223,8 @@ fn start_view(
 {
     begins_on_sound_images();
     standing.image.invariant();
-    View::start(alloc, standing.image, standing.number, serial, next, user)
+    let view = View::start(alloc, standing.image, standing.number, serial, next, user)?;
+    Ok(KnownView::of(alloc, view))
 }
 
 // Whether the command is a chunk or a method.

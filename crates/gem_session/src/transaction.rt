@@ -55,6 +55,7 @@ impl Session {
     {
         let mut done = self
             .view
+            .view()
             .finish(self.session, self.transaction, self.first_command, number)?;
         done.view = self.number;
         Ok(done)
@@ -78,7 +79,7 @@ impl Session {
         ensures port { GoesOn self.old.session (P.state port.old) (P.state port.new) }
     {
         let kind = kind_asked(write);
-        let oid = match lock_target(&self.view, kind, name)? {
+        let oid = match lock_target(self.view.view(), kind, name)? {
             Target::Replies(line) => return Ok(line),
             Target::Asks(oid) => oid,
         };
@@ -115,7 +116,7 @@ impl Session {
             number self.old (Unlock name.now) (line ∷ []) self.new) }
         ensures port { GoesOn self.old.session (P.state port.old) (P.state port.new) }
     {
-        match unlock_target(&self.view, name)? {
+        match unlock_target(self.view.view(), name)? {
             Target::Replies(line) => Ok(line),
             Target::Asks(oid) => {
                 let held = port.unlock(self.session, oid);

@@ -2,10 +2,9 @@
 // size, on the image of the kernel.
 ghost use Rattle.std.specs.Prelude.{◌≡◌, ◌<◌};
 
-use crate::machine_tests::{install_many, reply_to, send_many};
+use crate::machine_tests::{Known, install_many, known, reply_to, send_many};
 use chunk_tables::{note, told};
 use gem_object::Value;
-use kernel_state::begin;
 use plain_state::PlainState;
 use radix_pages::Steps;
 use st_compiler::compile;
@@ -32,7 +31,7 @@ fn note_unless(wrong: &mut String, call: &str, right: bool) -> Result<(), AllocE
 /// Whether the code of `3 + 4` runs to 7.
 fn code_runs(
     alloc: Global,
-    state: &mut PlainState,
+    state: &mut Known<PlainState>,
     cache: &mut CodeCache,
 ) -> Result<bool, AllocError> {
     let Ok(tree) = parse_chunk(alloc, b"3 + 4".as_slice()) else {
@@ -43,7 +42,7 @@ fn code_runs(
 }
 
 /// Whether -7 is printed so.
-fn value_prints(alloc: Global, state: &mut PlainState) -> bool {
+fn value_prints(alloc: Global, state: &mut Known<PlainState>) -> bool {
     match print_value(alloc, state, &Value::Int(-7)) {
         Ok(text) => text.bytes() == b"-7".as_slice(),
         Err(_) => false,
@@ -53,7 +52,7 @@ fn value_prints(alloc: Global, state: &mut PlainState) -> bool {
 /// Whether a command is replied to so.
 fn command_replies(
     alloc: Global,
-    state: &mut PlainState,
+    state: &mut Known<PlainState>,
     cache: &mut CodeCache,
     command: &Command,
     wanted: &str,
@@ -65,7 +64,7 @@ fn command_replies(
 /// Whether a chunk, as a command, is replied to so.
 fn chunk_replies(
     alloc: Global,
-    state: &mut PlainState,
+    state: &mut Known<PlainState>,
     cache: &mut CodeCache,
     prints: bool,
     chunk: &str,
@@ -84,7 +83,7 @@ fn chunk_replies(
 /// Whether a method of Foo, as a command, is replied to so.
 fn method_replies(
     alloc: Global,
-    state: &mut PlainState,
+    state: &mut Known<PlainState>,
     cache: &mut CodeCache,
     source: &str,
     wanted: &str,
@@ -109,7 +108,7 @@ fn blanks(alloc: Global, count: usize) -> Result<String, AllocError> {
 /// Calls the single parts.
 fn check_parts(
     alloc: Global,
-    state: &mut PlainState,
+    state: &mut Known<PlainState>,
     cache: &mut CodeCache,
     wrong: &mut String,
 ) -> Result<(), AllocError> {
@@ -120,7 +119,7 @@ fn check_parts(
 /// Runs commands: a chunk that makes a class, a method of it, and a chunk that sends it.
 fn check_commands(
     alloc: Global,
-    state: &mut PlainState,
+    state: &mut Known<PlainState>,
     cache: &mut CodeCache,
     wrong: &mut String,
 ) -> Result<(), AllocError> {
@@ -139,7 +138,7 @@ fn check_commands(
 /// four parameters.
 fn check_sizes(
     alloc: Global,
-    state: &mut PlainState,
+    state: &mut Known<PlainState>,
     cache: &mut CodeCache,
     wrong: &mut String,
 ) -> Result<(), AllocError> {
@@ -174,7 +173,7 @@ fn check_holds(
 /// sent, and in the end those of all but the first.
 fn check_cache(
     alloc: Global,
-    state: &mut PlainState,
+    state: &mut Known<PlainState>,
     wrong: &mut String,
 ) -> Result<(), AllocError> {
     let mut cache = CodeCache::new(alloc)?;
@@ -198,7 +197,7 @@ fn wrong_calls<L: Ledger>(alloc: Global, blank: Blank) -> Result<String, AllocEr
     requires some_parts { 0 < L.parts }
 {
     let mut steps = Steps::<L>::start(blank);
-    let mut state = begin::<PlainState, L>(alloc, 1, &mut steps)?;
+    let mut state = known::<PlainState, L>(alloc, &mut steps)?;
     let mut cache = CodeCache::new(alloc)?;
     let mut wrong = String::new(alloc);
     check_parts(alloc, &mut state, &mut cache, &mut wrong)?;

@@ -7,9 +7,11 @@ use chunk_tables::{
     STRINGS, note, told,
 };
 use kernel_state::{Begins, begin};
+use look_up_cache::KnownObjects;
 use plain_state::PlainState;
 use radix_pages::Steps;
-use st_machine::CodeCache;
+use running_objects::RunsChunks;
+use st_machine::{CodeCache, SharedCode};
 use std::alloc::{AllocError, Global};
 use std::marker::Brand;
 use std::sync::ledger::{Blank, Ledger};
@@ -24,10 +26,60 @@ const STACK: usize = 256 << 20;
 /// One method more than the cache keeps.
 const METHODS: u32 = 257;
 
+/// A script in which methods, classes and segments change between messages of one kind.
+const CHANGES: &str = "\
+run Object subclass: #Animal instVarNames: #() inDictionary: UserGlobals => ok
+run Animal subclass: #Dog instVarNames: #() inDictionary: UserGlobals => ok
+run UserGlobals at: #S put: Segment new. UserGlobals at: #D put: Dog new => ok
+print D sound => error E1 not understood: sound
+method Animal sound ^1 => method sound
+print D sound => 1
+print D sound + D sound => 2
+method Animal sound ^2 => method sound
+print D sound => 2
+method Dog sound ^3 => method sound
+print D sound => 3
+print D sound * 10 + (Dog removeSelector: #sound; yourself) new sound => 32
+print D sound => 2
+print Animal removeSelector: #sound => Animal
+print D sound => error E1 not understood: sound
+method Animal sound ^4 => method sound
+print D sound => 4
+print Dog kind => error E1 not understood: kind
+class Animal kind ^5 => method kind
+print Dog kind => 5
+class Dog kind ^super kind + 1 => method kind
+print Dog kind => 6
+class Animal kind ^7 => method kind
+print Dog kind => 8
+run D assignToSegment: S => ok
+print D sound => 4
+run S ownerAuthorization: #none => ok
+print D sound => error E10 no read right: 1:6
+run S ownerAuthorization: #read => ok
+print D sound => 4
+run Animal assignToSegment: S => ok
+print D sound => 4
+run S ownerAuthorization: #none => ok
+print Dog new sound => error E10 no read right: 1:2
+run S ownerAuthorization: #write => ok
+print Dog new sound + D sound => 8";
+
+/// Objects on which the machine runs.
+pub(crate) type Known<S> = KnownObjects<S, SharedCode>;
+
+/// A transaction on the kernel's objects, of which nothing is remembered.
+pub(crate) fn known<S: Begins, L: Ledger>(
+    alloc: Global,
+    steps: &mut Steps<L>,
+) -> Result<Known<S>, AllocError> {
+    Ok(KnownObjects::new(alloc, begin::<S, L>(alloc, 1, steps)?))
+}
+
 /// What the machine replies to a chunk.
 pub(crate) fn reply_to<S: Begins>(
     alloc: Global,
-    state: &mut S,
+    state: &mut Known<S>,
     cache: &mut CodeCache,
     prints: bool,
     chunk: &str,
@@ -58,7 +110,7 @@ fn both_reply<S: Begins, L: Ledger>(
     wanted: &str,
     steps: &mut Steps<L>,
 ) -> Result<bool, AllocError> {
-    let mut first = begin::<S, L>(alloc, 1, steps)?;
+    let mut first = known::<S, L>(alloc, steps)?;
     let mut second = begin::<S, L>(alloc, 1, steps)?;
     let reply = reply_to(alloc, &mut first, cache, true, chunk)?;
     let plain = plain_reply_to(alloc, &mut second, chunk)?;
@@ -88,7 +140,7 @@ fn check_rows<S: Begins, L: Ledger>(
 /// What one command of a script is replied to.
 fn reply_to_command<S: Begins>(
     alloc: Global,
-    state: &mut S,
+    state: &mut Known<S>,
     cache: &mut CodeCache,
     word: &str,
     rest: &str,
@@ -112,7 +164,7 @@ fn reply_to_command<S: Begins>(
 /// Whether a line of a script, a command and what is wanted, is replied to so.
 fn line_replies<S: Begins>(
     alloc: Global,
-    state: &mut S,
+    state: &mut Known<S>,
     cache: &mut CodeCache,
     line: &str,
 ) -> Result<bool, AllocError> {
@@ -125,6 +177,20 @@ fn line_replies<S: Begins>(
     Ok(reply_to_command(alloc, state, cache, word, rest)?.as_slice() == wanted.as_bytes())
 }
 
+/// Notes a line of a script that isn't replied to as it should be.
+fn check_line<S: Begins>(
+    alloc: Global,
+    state: &mut Known<S>,
+    cache: &mut CodeCache,
+    line: &str,
+    wrong: &mut String,
+) -> Result<(), AllocError> {
+    if line_replies(alloc, state, cache, line)? {
+        return Ok(());
+    }
+    note(wrong, line)
+}
+
 /// Runs scripts over one cache: each begins after an empty line.
 fn check_scripts<S: Begins, L: Ledger>(
     alloc: Global,
@@ -133,15 +199,31 @@ fn check_scripts<S: Begins, L: Ledger>(
     steps: &mut Steps<L>,
     wrong: &mut String,
 ) -> Result<(), AllocError> {
-    let mut state = begin::<S, L>(alloc, 1, steps)?;
+    let mut state = known::<S, L>(alloc, steps)?;
     for line in scripts.lines() {
         if line.is_empty() {
-            state = begin::<S, L>(alloc, 1, steps)?;
+            state = known::<S, L>(alloc, steps)?;
             continue;
         }
-        if !line_replies(alloc, &mut state, cache, line)? {
-            note(wrong, line)?;
-        }
+        check_line(alloc, &mut state, cache, line, wrong)?;
+    }
+    Ok(())
+}
+
+/// Runs a script twice, on what it has remembered, and with all forgotten before each line.
+fn check_remembered<S: Begins, L: Ledger>(
+    alloc: Global,
+    cache: &mut CodeCache,
+    script: &str,
+    steps: &mut Steps<L>,
+    wrong: &mut String,
+) -> Result<(), AllocError> {
+    let mut first = known::<S, L>(alloc, steps)?;
+    let mut second = known::<S, L>(alloc, steps)?;
+    for line in script.lines() {
+        second = KnownObjects::new(alloc, second.into_objects());
+        check_line(alloc, &mut first, cache, line, wrong)?;
+        check_line(alloc, &mut second, cache, line, wrong)?;
     }
     Ok(())
 }
@@ -183,11 +265,15 @@ fn wrong_lines<S: Begins, L: Ledger>(alloc: Global, blank: Blank) -> Result<Stri
     let mut wrong = String::new(alloc);
     let mut cache = CodeCache::new(alloc)?;
     check_scripts::<S, L>(alloc, &mut cache, SCRIPTS, &mut steps, &mut wrong)?;
+    check_remembered::<S, L>(alloc, &mut cache, CHANGES, &mut steps, &mut wrong)?;
     Ok(wrong)
 }
 
 /// Gives the class Many its methods, each of which answers its number.
-pub(crate) fn install_many<S: Begins>(alloc: Global, state: &mut S) -> Result<(), AllocError> {
+pub(crate) fn install_many<S: Begins>(
+    alloc: Global,
+    state: &mut Known<S>,
+) -> Result<(), AllocError> {
     let class = Text::copy_of(alloc, b"Many")?;
     for number in 1..METHODS + 1 {
         state.begin_chunk();
@@ -201,7 +287,7 @@ pub(crate) fn install_many<S: Begins>(alloc: Global, state: &mut S) -> Result<()
 /// Sends all of them. Those that don't answer their number are noted.
 pub(crate) fn send_many<S: Begins>(
     alloc: Global,
-    state: &mut S,
+    state: &mut Known<S>,
     cache: &mut CodeCache,
     wrong: &mut String,
 ) -> Result<(), AllocError> {
@@ -226,7 +312,7 @@ fn wrong_sends<S: Begins, L: Ledger>(alloc: Global, blank: Blank) -> Result<Stri
     let mut steps = Steps::<L>::start(blank);
     let mut wrong = String::new(alloc);
     let mut cache = CodeCache::new(alloc)?;
-    let mut state = begin::<S, L>(alloc, 1, &mut steps)?;
+    let mut state = known::<S, L>(alloc, &mut steps)?;
     let class = "Object subclass: #Many instVarNames: #() inDictionary: UserGlobals";
     reply_to(alloc, &mut state, &mut cache, false, class)?;
     install_many(alloc, &mut state)?;

@@ -2,3 +2,4 @@ pub mod Layers
 pub mod Parts
 pub mod Led
 pub mod Methods
+pub mod Targets

@@ -5,6 +5,8 @@ use Rattle.texts.specs.Bytes.{Bytes as Text}
 use Rattle.st_tree.specs.Trees.{Program}
 use Rattle.st_grammar.specs.Grammar.{method}
 use Rattle.st_grammar_laws.specs.TreeOf.{TextFault, tree_of}
+use Rattle.gem_object.specs.declared.body.MethodCode.{MethodCode}
+use Rattle.gem_object.specs.declared.body.MethodCode.TheVariants.{Source, Primitive}
 use Rattle.gem_language.specs.Commands.{selector_of}
 
 -- The source of a method has this tree, with a selector, or it has none.
@@ -12,6 +14,11 @@ abbrev pub IsMethodOf : Text → Option Program → Type 0
 IsMethodOf source (Some tree) =
     (tree_of method source ≡ Ok tree) × (tree.selector ≡ Some (selector_of tree))
 IsMethodOf source None = (fault : TextFault) × (tree_of method source ≡ Err fault)
+
+-- The code of a method with source is that of its tree; of a primitive nothing is asked.
+abbrev pub IsCodeOf : Program → MethodCode → Type 0
+IsCodeOf tree (Source source) = IsMethodOf source (Some tree)
+IsCodeOf tree (Primitive number) = Unit {0}
 
 -- the sources of which code is kept
 abbrev pub sources : List (Text × Program) → List Text

@@ -1,7 +1,7 @@
 //! What stands between objects and variables: calls that do something to objects, said with the
 //! variables at hand, which they leave as they are. A frame here has no scopes: those of the
 //! activation that runs stand on a stack, and nothing here asks for them.
-ghost use Rattle.std.specs.Prelude.{◌≡◌};
+ghost use Rattle.std.specs.Prelude.{◌≡◌, true, false};
 ghost use Rattle.object_programs.specs.Atom.{Tick};
 ghost use Rattle.object_programs.specs.Run.{atom};
 ghost use Rattle.prim_rules.specs.Rules.{rule_of};
@@ -10,9 +10,11 @@ ghost use Rattle.gem_language.specs.LookUp.{find_method};
 ghost use Rattle.gem_language.specs.OutOfScope.{read_out_of_scope, write_out_of_scope};
 ghost use Rattle.gem_language.specs.Literals.{literal_value};
 ghost use Rattle.st_tree.specs.Views.{constant_of};
+ghost use Rattle.look_up_cache.specs.Memory.{told_by};
 ghost use Rattle.running_objects.specs.Ran.{Ran};
 ghost use Rattle.st_machine.specs.Parts.{framed};
 
+use crate::finds::FindsMethods;
 use crate::layers::Layers;
 use crate::locals::Locals;
 use crate::outline::Outline;
@@ -33,20 +35,35 @@ pub(crate) fn take_unit<O: Objects>(objects: &mut O, locals: &Locals) -> Result<
     objects.tick()
 }
 
-/// The method that answers a message with this selector to the receiver.
-pub(crate) fn find_method<O: Objects>(
+/// The method that answers a message with this selector to `super`.
+pub(crate) fn find_above<O: Objects>(
     objects: &mut O,
     locals: &Locals,
     chain: &Layers<Mark>,
-    to_super: bool,
     frame: &Outline,
     receiver: &Value,
     selector: &Text,
 ) -> Result<Option<Found>, Stop>
-    ensures { Ran (find_method to_super (framed chain.now.own frame.now) receiver.now selector.now)
+    ensures { Ran (find_method true (framed chain.now.own frame.now) receiver.now selector.now)
         (O.seen objects.old) locals.now result (O.seen objects.new) locals.now }
 {
-    st_outside::find_method(objects, to_super, frame.frame(), receiver, selector)
+    st_outside::find_method(objects, true, frame.frame(), receiver, selector)
+}
+
+/// The place at which the method stands that answers a message with this selector to the receiver.
+pub(crate) fn place_of_method<O: FindsMethods>(
+    objects: &mut O,
+    locals: &Locals,
+    chain: &Layers<Mark>,
+    frame: &Outline,
+    receiver: &Value,
+    selector: &Text,
+) -> Result<usize, Stop>
+    ensures { Ran (find_method false (framed chain.now.own frame.now) receiver.now selector.now)
+        (O.seen objects.old) locals.now (told_by (O.founds objects.new) result)
+        (O.seen objects.new) locals.now }
+{
+    objects.find_method(frame.frame(), receiver, selector)
 }
 
 /// What the primitive of this number comes to.

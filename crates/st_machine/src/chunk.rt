@@ -10,6 +10,7 @@ ghost use Rattle.gem_language.specs.Sends.{outside, chunk_value};
 ghost use Rattle.running_objects.specs.Ran.{Ran};
 
 use crate::cache::CodeCache;
+use crate::finds::FindsMethods;
 use crate::layers::Layers;
 use crate::leaving::leave_method;
 use crate::locals::Locals;
@@ -20,7 +21,7 @@ use gem_object::Value;
 use gem_sound::names::UNDEFINED_OBJECT_CLASS;
 use gem_value::Oid;
 use object_programs::ACTIVATION_LIMIT;
-use running_objects::{Objects, Stop};
+use running_objects::Stop;
 use std::alloc::Global;
 
 /// How many activations may begin in a chunk, which is the first one itself.
@@ -33,7 +34,7 @@ const CALLS_OF_CHUNK: u32 = (ACTIVATION_LIMIT - 1) as u32;
 ///
 /// `Fails` with the error by which the chunk ends. `Returns` exactly where the meaning ends so.
 /// `NoMemory` where memory ran out; then only what every run keeps is known.
-pub fn run_chunk<O: Objects>(
+pub fn run_chunk<O: FindsMethods>(
     alloc: Global,
     objects: &mut O,
     cache: &mut CodeCache,
@@ -48,7 +49,7 @@ pub fn run_chunk<O: Objects>(
 }
 
 /// The value of a chunk, from the variables at hand.
-pub(crate) fn run_locally<O: Objects>(
+pub(crate) fn run_locally<O: FindsMethods>(
     alloc: Global,
     objects: &mut O,
     locals: &mut Locals,
@@ -63,7 +64,7 @@ pub(crate) fn run_locally<O: Objects>(
 }
 
 /// The activation of a chunk, in which so many more may begin.
-fn activate_chunk<O: Objects>(
+fn activate_chunk<O: FindsMethods>(
     alloc: Global,
     objects: &mut O,
     locals: &mut Locals,
@@ -80,7 +81,7 @@ fn activate_chunk<O: Objects>(
     let mut chain = Layers::new(alloc);
     let mark = locals.mark();
     let holder = Oid::from_parts(0, UNDEFINED_OBJECT_CLASS);
-    let frame = Outline::of(alloc, Value::Nil, mark.living, holder, false)?;
+    let frame = Outline::of(alloc, Value::Nil, mark.living, holder, false);
     locals.begin_method(&mut stack, 0, code.temps_count())?;
     let ended = run_inside(
         alloc,

@@ -11,6 +11,7 @@ ghost use Rattle.st_plain.specs.Commands.{command_of};
 use crate::border::print;
 use crate::cache::CodeCache;
 use crate::chunk::run_locally;
+use crate::finds::FindsMethods;
 use crate::locals::Locals;
 use crate::shared_code::SharedCode;
 use gem_object::Value;
@@ -29,7 +30,7 @@ use texts::Text;
 ///
 /// Where memory ran out, or the text has 2^32 bytes or more: then only what every run keeps is
 /// known.
-pub fn run_command<O: Objects>(
+pub fn run_command<O: FindsMethods>(
     alloc: Global,
     objects: &mut O,
     cache: &mut CodeCache,
@@ -53,7 +54,7 @@ pub fn run_command<O: Objects>(
 /// # Errors
 ///
 /// Those of `run_command`.
-pub fn run_text<O: Objects>(
+pub fn run_text<O: FindsMethods>(
     alloc: Global,
     objects: &mut O,
     cache: &mut CodeCache,
@@ -88,7 +89,7 @@ pub fn print_value<O: Objects>(alloc: Global, objects: &mut O, value: &Value) ->
 }
 
 /// The reply to a chunk that was read.
-fn run_read_chunk<O: Objects>(
+fn run_read_chunk<O: FindsMethods>(
     alloc: Global,
     objects: &mut O,
     cache: &mut CodeCache,
@@ -106,7 +107,7 @@ fn run_read_chunk<O: Objects>(
 }
 
 /// What is printed of a chunk's value, if it is to be printed.
-fn print_of_chunk<O: Objects>(
+fn print_of_chunk<O: FindsMethods>(
     alloc: Global,
     objects: &mut O,
     locals: &mut Locals,

@@ -7,25 +7,25 @@
 
 ghost use Rattle.std.specs.Prelude.{◌≡◌, ◌<◌, [], ◌∷◌, suc, length, get_or, take, drop, reverse, slice_get, option_map, option_copied, nat_eq, IfOk, IfSome, Some};
 ghost use Rattle.gem_object.specs.declared.value.Value.TheVariants.{Nil};
-ghost use Rattle.st_grammar.specs.Grammar.{method};
-ghost use Rattle.st_grammar_laws.specs.TreeOf.{tree_of};
 ghost use Rattle.tree_meaning.specs.Bodies.{params_count, temps_count, method_body, block_body};
 ghost use Rattle.tree_meaning.specs.Calls.{activation, evaluation, call_block_at};
 ghost use Rattle.object_programs.specs.Run.{and_then};
 ghost use Rattle.prim_rules.specs.Rules.{rule_of};
 ghost use Rattle.gem_language.specs.Commands.{selector_of};
-ghost use Rattle.gem_language.specs.Sends.{outside, callee, send_by, call_found, call_code, call_source, primitive_value};
+ghost use Rattle.gem_language.specs.Sends.{outside, callee, send_by, primitive_value};
 ghost use Rattle.running_objects.specs.Seen.{Keeps};
 ghost use Rattle.running_objects.specs.Ran.{Ran};
 ghost use Rattle.st_compiler.specs.TreeCode.{send_op};
 ghost use Rattle.st_compiler.specs.Emitted.{instruction_of, instructions};
 ghost use Rattle.st_machine.specs.Led.{LedBy, IsForward};
 ghost use Rattle.st_machine.specs.Parts.{table_of, HasPart, part_run, framed};
+ghost use Rattle.st_machine.specs.Targets.{IsCallable, call_of};
 
-use crate::border::{find_method, primitive, take_unit};
+use crate::border::{primitive, take_unit};
 use crate::cache::CodeCache;
 use crate::code_block::CodeBlock;
 use crate::conditions::jump_unless;
+use crate::finds::FindsMethods;
 use crate::flow::Flow;
 use crate::jumps::{jump, jump_back, spend_unit};
 use crate::layers::Layers;
@@ -39,12 +39,12 @@ use crate::pushes::{duplicate, make_literal, pop, push_self, push_singleton, pus
 use crate::returns::{return_block, return_home, return_method};
 use crate::scopes::{enter, leave, put_scopes};
 use crate::shared_code::{Part, SharedCode};
-use gem_language::Found;
-use gem_object::{MethodCode, Value};
+use crate::target::{Target, target_of};
+use gem_object::Value;
 use gem_value::Oid;
 use object_programs::Fault;
 use prim_rules::PrimitiveAnswer;
-use running_objects::{Objects, Stop};
+use running_objects::Stop;
 use st_compiler::Instr;
 use std::alloc::Global;
 use texts::Text;
@@ -53,7 +53,7 @@ use tree_meaning::{Mark, Singleton};
 /// Runs a part of a text, from its first instruction to its end. The activation that runs has
 /// nothing on the stack yet.
 #[cycle(machine)]
-pub(crate) fn execute<O: Objects>(
+pub(crate) fn execute<O: FindsMethods>(
     alloc: Global,
     objects: &mut O,
     locals: &mut Locals,
@@ -112,7 +112,7 @@ fn instr_at(instrs: &[Instr], at: usize) -> Option<&Instr>
 
 /// Carries out one instruction.
 #[cycle(machine)]
-fn step<O: Objects>(
+fn step<O: FindsMethods>(
     alloc: Global,
     objects: &mut O,
     locals: &mut Locals,
@@ -233,7 +233,7 @@ fn step<O: Objects>(
 
 /// Sends a message with so many arguments.
 #[cycle(machine)]
-fn send<O: Objects>(
+fn send<O: FindsMethods>(
     alloc: Global,
     objects: &mut O,
     locals: &mut Locals,
@@ -269,7 +269,7 @@ fn send<O: Objects>(
 /// The answer to a message: a unit, the look-up, and the method.
 #[cycle(machine)]
 #[tactic(auto, using(crate::proofs::Runs::runs), unfolding(gem_language::specs::Sends::send_by))]
-fn answer_of<O: Objects>(
+fn answer_of<O: FindsMethods>(
     alloc: Global,
     objects: &mut O,
     locals: &mut Locals,
@@ -294,15 +294,17 @@ fn answer_of<O: Objects>(
     let Some(receiver) = stack.item(count) else {
         unreachable!()
     };
-    let found = find_method(objects, locals, chain, to_super, frame, receiver, selector)?;
-    call_found(
-        alloc, objects, locals, stack, chain, cache, selector, found, count, depth,
+    let target = target_of(
+        alloc, objects, locals, chain, cache, to_super, frame, receiver, selector,
+    )?;
+    call_target(
+        alloc, objects, locals, stack, chain, cache, selector, target, count, depth,
     )
 }
 
-/// The method that was found is called: E1 where none was.
+/// What answers the message is called: E1 where nothing does.
 #[cycle(machine)]
-fn call_found<O: Objects>(
+fn call_target<O: FindsMethods>(
     alloc: Global,
     objects: &mut O,
     locals: &mut Locals,
@@ -310,65 +312,33 @@ fn call_found<O: Objects>(
     chain: &mut Layers<Mark>,
     cache: &mut CodeCache,
     selector: &Text,
-    found: Option<Found>,
+    target: Target,
     count: usize,
     depth: u32,
 ) -> Result<Value, Stop>
-    requires { count < length stack.old.own }
-    ensures ran { Ran (call_found (callee depth) selector.now found
+    requires height { count < length stack.old.own }
+    requires callable { IsCallable target }
+    ensures ran { Ran (call_of (callee depth) selector.now target
         (get_or stack.old.own count Nil) (reverse (take count stack.old.own)))
         (O.seen objects.old) locals.old result (O.seen objects.new) locals.new }
     ensures own { IfOk result (λ _. stack.new.own ≡ drop (suc count) stack.old.own) }
     ensures stack { stack.new.below ≡ stack.old.below }
     ensures chain { chain.new ≡ chain.old }
 {
-    match found {
-        Some(found) => call_code(
-            alloc, objects, locals, stack, chain, cache, selector, &found, count, depth,
+    match target {
+        Target::Nothing => Err(Stop::Fails(Fault::NotUnderstood(selector.clone()?))),
+        Target::Primitive(number) => call_primitive(
+            alloc, objects, locals, stack, chain, cache, number, count, depth,
         ),
-        None => Err(Stop::Fails(Fault::NotUnderstood(selector.clone()?))),
-    }
-}
-
-/// What a method does: its primitive, or its source.
-#[cycle(machine)]
-fn call_code<O: Objects>(
-    alloc: Global,
-    objects: &mut O,
-    locals: &mut Locals,
-    stack: &mut Layers<Value>,
-    chain: &mut Layers<Mark>,
-    cache: &mut CodeCache,
-    selector: &Text,
-    found: &Found,
-    count: usize,
-    depth: u32,
-) -> Result<Value, Stop>
-    requires { count < length stack.old.own }
-    ensures ran { Ran (call_code (callee depth) selector.now found.now found.now.code
-        (get_or stack.old.own count Nil) (reverse (take count stack.old.own)))
-        (O.seen objects.old) locals.old result (O.seen objects.new) locals.new }
-    ensures own { IfOk result (λ _. stack.new.own ≡ drop (suc count) stack.old.own) }
-    ensures stack { stack.new.below ≡ stack.old.below }
-    ensures chain { chain.new ≡ chain.old }
-{
-    match &found.code {
-        MethodCode::Primitive(number) => {
-            call_primitive(
-                alloc, objects, locals, stack, chain, cache, *number, count, depth,
-            )
-        }
-        MethodCode::Source(source) => {
-            call_source(
-                alloc, objects, locals, stack, chain, cache, selector, found, source, count, depth,
-            )
-        }
+        Target::Method(code, holder, class_side) => call_method(
+            alloc, objects, locals, stack, chain, cache, &code, holder, class_side, count, depth,
+        ),
     }
 }
 
 /// What a primitive comes to.
 #[cycle(machine)]
-fn call_primitive<O: Objects>(
+fn call_primitive<O: FindsMethods>(
     alloc: Global,
     objects: &mut O,
     locals: &mut Locals,
@@ -398,7 +368,7 @@ fn call_primitive<O: Objects>(
 
 /// What a primitive's answer comes to: its value, or that of the block that it evaluates.
 #[cycle(machine)]
-fn value_of_primitive<O: Objects>(
+fn value_of_primitive<O: FindsMethods>(
     alloc: Global,
     objects: &mut O,
     locals: &mut Locals,
@@ -429,51 +399,9 @@ fn value_of_primitive<O: Objects>(
     }
 }
 
-/// A method with source is run by its code; E1 where the source has no tree.
-#[cycle(machine)]
-fn call_source<O: Objects>(
-    alloc: Global,
-    objects: &mut O,
-    locals: &mut Locals,
-    stack: &mut Layers<Value>,
-    chain: &mut Layers<Mark>,
-    cache: &mut CodeCache,
-    selector: &Text,
-    found: &Found,
-    source: &Text,
-    count: usize,
-    depth: u32,
-) -> Result<Value, Stop>
-    requires { count < length stack.old.own }
-    ensures ran { Ran (call_source (callee depth) selector.now found.now
-        (tree_of method source.now) (get_or stack.old.own count Nil)
-        (reverse (take count stack.old.own)))
-        (O.seen objects.old) locals.old result (O.seen objects.new) locals.new }
-    ensures own { IfOk result (λ _. stack.new.own ≡ drop (suc count) stack.old.own) }
-    ensures stack { stack.new.below ≡ stack.old.below }
-    ensures chain { chain.new ≡ chain.old }
-{
-    match cache.code_of(alloc, source)? {
-        Some(code) => call_method(
-            alloc,
-            objects,
-            locals,
-            stack,
-            chain,
-            cache,
-            &code,
-            found.holder,
-            found.class_side,
-            count,
-            depth,
-        ),
-        None => Err(Stop::Fails(Fault::NotUnderstood(selector.clone()?))),
-    }
-}
-
 /// A method with code is called: E14 where no activation may begin.
 #[cycle(machine)]
-fn call_method<O: Objects>(
+fn call_method<O: FindsMethods>(
     alloc: Global,
     objects: &mut O,
     locals: &mut Locals,
@@ -515,7 +443,7 @@ fn call_method<O: Objects>(
 
 /// The activation of a method, in which so many more may begin.
 #[cycle(machine)]
-fn activate<O: Objects>(
+fn activate<O: FindsMethods>(
     alloc: Global,
     objects: &mut O,
     locals: &mut Locals,
@@ -542,7 +470,7 @@ fn activate<O: Objects>(
     let Some(receiver) = stack.pop() else {
         unreachable!()
     };
-    let frame = Outline::of(alloc, receiver, mark.living, holder, class_side)?;
+    let frame = Outline::of(alloc, receiver, mark.living, holder, class_side);
     let ended = run_inside(
         alloc,
         objects,
@@ -563,7 +491,7 @@ fn activate<O: Objects>(
 /// Runs a part of a text with these scopes, the innermost one last, and the one of this mark inside
 /// them, above what stands on the stack.
 #[cycle(machine)]
-pub(crate) fn run_inside<O: Objects>(
+pub(crate) fn run_inside<O: FindsMethods>(
     alloc: Global,
     objects: &mut O,
     locals: &mut Locals,
@@ -596,7 +524,7 @@ pub(crate) fn run_inside<O: Objects>(
 
 /// The same, where the activation that runs has no scopes and no values yet.
 #[cycle(machine)]
-fn run_with<O: Objects>(
+fn run_with<O: FindsMethods>(
     alloc: Global,
     objects: &mut O,
     locals: &mut Locals,
@@ -628,7 +556,7 @@ fn run_with<O: Objects>(
 /// The made block of this number is called: E9 unless it takes so many arguments.
 #[cycle(machine)]
 #[tactic(auto, using(crate::proofs::Runs::runs), unfolding(tree_meaning::specs::Calls::call_block_at))]
-fn call_block<O: Objects>(
+fn call_block<O: FindsMethods>(
     alloc: Global,
     objects: &mut O,
     locals: &mut Locals,
@@ -665,7 +593,7 @@ fn takes(made: &CodeBlock, arguments: &[Value]) -> bool
 
 /// A made block is called: E14 where no activation may begin.
 #[cycle(machine)]
-fn call_made<O: Objects>(
+fn call_made<O: FindsMethods>(
     alloc: Global,
     objects: &mut O,
     locals: &mut Locals,
@@ -699,7 +627,7 @@ fn call_made<O: Objects>(
 
 /// The evaluation of a made block, in which so many activations more may begin.
 #[cycle(machine)]
-fn evaluate<O: Objects>(
+fn evaluate<O: FindsMethods>(
     alloc: Global,
     objects: &mut O,
     locals: &mut Locals,

@@ -1,10 +1,9 @@
 //! Frames without scopes.
-ghost use Rattle.std.specs.Prelude.{◌≡◌, [], IfOk};
-ghost use Rattle.tree_meaning.specs.Place.{Frame as TreeFrame};
+ghost use Rattle.std.specs.Prelude.{◌≡◌, []};
 
 use gem_object::Value;
 use gem_value::Oid;
-use st_locals::{Frame, Locals as Nowhere, method_frame};
+use st_locals::{Frame, frame_without_scopes};
 use std::alloc::{AllocError, Global};
 use std::marker::Model;
 
@@ -13,7 +12,6 @@ use std::marker::Model;
 #[derive(Drop)]
 pub(crate) struct Outline {
     frame: Frame,
-    home: u64,
 }
 
 impl Model for Outline {
@@ -25,7 +23,7 @@ impl Model for Outline {
     ghost view = { λ outline. record {
       scopes = [];
       receiver = outline.frame.receiver;
-      home = outline.home;
+      home = outline.frame.home;
       holder = outline.frame.holder;
       class_side = outline.frame.class_side;
     } };
@@ -33,27 +31,26 @@ impl Model for Outline {
 
 impl Outline {
     /// The outline of an activation with this receiver, of which this is the number of the
-    /// activation from which `^` answers: this class holds the method, on its class side or not.
+    /// activation from which `^` answers: this class holds the method, on its class side or not. It
+    /// takes no memory.
     pub(crate) fn of(
         alloc: Global,
         receiver: Value,
         home: u64,
         holder: Oid,
         class_side: bool,
-    ) -> Result<Outline, AllocError>
-        ensures { IfOk result (λ outline. outline ≡ record {
+    ) -> Outline
+        ensures { result ≡ record {
           scopes = [];
           receiver = receiver;
           home = home;
           holder = holder;
           class_side = class_side;
-        }) }
+        } }
     {
-        let nowhere = Nowhere::new(alloc);
-        Ok(Outline {
-            frame: method_frame(holder, class_side, receiver, &nowhere)?,
-            home,
-        })
+        Outline {
+            frame: frame_without_scopes(alloc, holder, class_side, receiver, home),
+        }
     }
 
     /// A frame with what a look-up asks of one.
@@ -76,7 +73,7 @@ impl Outline {
     pub(crate) fn home(&self) -> u64
         ensures { result ≡ self.now.home }
     {
-        self.home
+        self.frame.home()
     }
 }
 
@@ -86,7 +83,6 @@ impl Clone for Outline {
     fn clone(&self) -> Result<Outline, AllocError> {
         Ok(Outline {
             frame: self.frame.clone()?,
-            home: self.home,
         })
     }
 }

@@ -10,11 +10,11 @@ use Rattle.st_machine.proofs.chunk.activate_chunk.Goals as goal
 
 pub returns : goal.returns
 returns g c =
-    let frame = framed (c.mark-mark.result ∷ []) c.in_ok-frame.frame in
+    let frame = framed (c.mark-mark.result ∷ []) c.of-frame.result in
     activation_ran (chunk_body (outside c.args.depth) c.args.code.now) (length c.args.code.now.temps) UNDEFINED_OBJECT_CLASS
     false Nil [] c.run_inside-ended.result c.mark-mark.result Nil frame (replicate c.temps_count.result Nil) c.temps_count.result
     c.mark-mark.ensures refl
-    (method_framed c.in_ok-frame.frame c.mark-mark.result Nil UNDEFINED_OBJECT_CLASS false c.args.locals.now
-    c.mark-mark.ensures (rw c.from_parts-holder.ensures at c.in_ok-frame.ensures))
+    (method_framed c.of-frame.result c.mark-mark.result Nil UNDEFINED_OBJECT_CLASS false c.args.locals.now
+    c.mark-mark.ensures (rw c.from_parts-holder.ensures at c.of-frame.ensures))
     refl c.temps_count.ensures c.in_ok-begin_method.ensures.begun
     (chunk_ran_by (outside c.args.depth) c.args.code.now frame c.requires c.run_inside-ended.ensures.ran) c.leave_method.ensures

@@ -74,14 +74,14 @@ pub activate-returns-clause-ran : goal.activate-returns-clause-ran
 activate-returns-clause-ran g t c =
     let receiver = get_or c.args.stack.now.own c.args.count Nil in
     let arguments = reverse (take c.args.count c.args.stack.now.own) in
-    let frame = framed (c.mark-mark.result ∷ []) c.in_ok-frame.frame in
+    let frame = framed (c.mark-mark.result ∷ []) c.of-frame.result in
     activation_ran (method_body (outside c.args.depth) c.args.code.now) (length c.args.code.now.temps) c.args.holder c.args.class_side
     receiver arguments c.run_inside-ended.result c.mark-mark.result c.in-Some.receiver frame
     (arguments ++ replicate c.temps_count.result Nil) c.temps_count.result c.mark-mark.ensures
     (receiver_is c.args.stack.now.own c.args.count Nil c.in-Some.receiver c.pop.new.self.own c.requires.height
     (sym c.in_ok-begin_method.ensures.own ∙ c.in-Some.ensures.popped))
-    (method_framed c.in_ok-frame.frame c.mark-mark.result c.in-Some.receiver c.args.holder c.args.class_side c.args.locals.now
-    c.mark-mark.ensures c.in_ok-frame.ensures)
+    (method_framed c.of-frame.result c.mark-mark.result c.in-Some.receiver c.args.holder c.args.class_side c.args.locals.now
+    c.mark-mark.ensures c.of-frame.ensures)
     refl c.temps_count.ensures c.in_ok-begin_method.ensures.begun
     (method_ran_by (outside c.args.depth) c.args.code.now (selector_of c.args.code.now) frame c.requires.method
     c.run_inside-ended.ensures.ran) c.leave_method.ensures

@@ -16,20 +16,14 @@ decreases-send g l = 16 * l.depth + 10
 abbrev pub decreases-answer_of : goal.decreases-answer_of
 decreases-answer_of g l = 16 * l.depth + 9
 
-abbrev pub decreases-call_found : goal.decreases-call_found
-decreases-call_found g l = 16 * l.depth + 8
-
-abbrev pub decreases-call_code : goal.decreases-call_code
-decreases-call_code g l = 16 * l.depth + 7
+abbrev pub decreases-call_target : goal.decreases-call_target
+decreases-call_target g l = 16 * l.depth + 8
 
 abbrev pub decreases-call_primitive : goal.decreases-call_primitive
 decreases-call_primitive g l = 16 * l.depth + 6
 
 abbrev pub decreases-value_of_primitive : goal.decreases-value_of_primitive
 decreases-value_of_primitive g l = 16 * l.depth + 5
-
-abbrev pub decreases-call_source : goal.decreases-call_source
-decreases-call_source g l = 16 * l.depth + 6
 
 abbrev pub decreases-call_method : goal.decreases-call_method
 decreases-call_method g l = 16 * l.depth + 3

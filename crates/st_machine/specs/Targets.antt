@@ -1,0 +1,58 @@
+-- What answers a message, and what it comes to.
+use Rattle.std.specs.Prelude.{◌≡◌, Option, None, Some, List, Result, Ok, Err}
+use Rattle.texts.specs.Bytes.{Bytes as Text}
+use Rattle.st_tree.specs.Trees.{Program}
+use Rattle.st_grammar.specs.Grammar.{method}
+use Rattle.st_grammar_laws.specs.TreeOf.{TextFault, tree_of}
+use Rattle.gem_object.specs.declared.value.Value.{Value}
+use Rattle.gem_object.specs.declared.body.MethodCode.{MethodCode}
+use Rattle.gem_object.specs.declared.body.MethodCode.TheVariants.{Source, Primitive as by_primitive}
+use Rattle.object_programs.specs.Local.{Local}
+use Rattle.object_programs.specs.Run.{Run, fail, and_then}
+use Rattle.object_programs.specs.declared.fault.Fault.TheVariants as fault
+use Rattle.tree_meaning.specs.Place.{MadeBlock}
+use Rattle.tree_meaning.specs.Operands.{ValueRun}
+use Rattle.prim_rules.specs.Rules.{rule_of}
+use Rattle.gem_language.specs.declared.found.Found.{Found}
+use Rattle.gem_language.specs.Commands.{selector_of}
+use Rattle.gem_language.specs.Sends.{Callee, primitive_value}
+use Rattle.running_objects.specs.Seen.{Seen}
+use Rattle.running_objects.specs.Ran.{Ran}
+use Rattle.running_objects.specs.declared.stop.Stop.{Stop}
+use Rattle.st_machine.specs.declared.target.Target.{Target}
+use Rattle.st_machine.specs.declared.target.Target.TheVariants.{Nothing, Primitive, Method}
+
+-- what answers by the method that was found: nothing where its source has no tree
+abbrev pub target_by_tree : Found → Result Program TextFault → Target
+target_by_tree found (Ok tree) = Method tree found.holder found.class_side
+target_by_tree found (Err wrong) = Nothing
+
+abbrev pub target_by : Found → MethodCode → Target
+target_by found (by_primitive number) = Primitive number
+target_by found (Source source) = target_by_tree found (tree_of method source)
+
+abbrev pub target_for : Option Found → Target
+target_for None = Nothing
+target_for (Some found) = target_by found found.code
+
+-- what its call comes to
+abbrev pub call_of : Callee → (selector : Text) → Target → (receiver : Value)
+    → (arguments : List Value) → ValueRun
+call_of callee selector Nothing receiver arguments = fail (fault.NotUnderstood selector)
+call_of callee selector (Primitive number) receiver arguments =
+    and_then (rule_of number receiver arguments) (λ answer. primitive_value callee answer)
+call_of callee selector (Method tree holder class_side) receiver arguments =
+    callee.method tree holder class_side receiver arguments
+
+-- a method that answers has a selector
+abbrev pub IsCallable : Target → Type 0
+IsCallable (Method tree holder class_side) = tree.selector ≡ Some (selector_of tree)
+IsCallable target = Unit {0}
+
+-- The look-up ran, and leads to what answers by what it found.
+abbrev pub LeadsTo : Run MadeBlock (Option Found) → Seen → Local MadeBlock → Result Target Stop
+    → Seen → Type 0
+LeadsTo program before local (Ok target) after =
+    (found : Option Found) × (Ran program before local (Ok found) after local)
+    × (target_for found ≡ target)
+LeadsTo program before local (Err ended) after = Ran program before local (Err ended) after local
