@@ -5,4 +5,4 @@ use Rattle.gem_session.proofs.session.Session.record.Goals as goal
 
 pub returns : goal.returns
 unfolding record_of
-returns c = ap (λ (x : TxnRecord). record x { view = c.args.self.now.number }) c.in_ok-done.ensures
+returns c = ap (λ (x : TxnRecord). record x { view = c.args.self.now.number }) (rw c.view.ensures at c.in_ok-done.ensures)
