@@ -44,7 +44,7 @@ pub(crate) struct Session {
     pub image: Image,
     /// What the transaction works on.
     pub view: KnownView,
-    /// The code of the methods that the session ran last.
+    /// The code of the methods that were asked for last.
     pub cache: CodeCache,
 }
 
