@@ -23,8 +23,11 @@ pub(crate) struct KnownView {
 
 impl Model for KnownView {
     ghost use Rattle.session_view.specs.declared.view.View.{View as AView};
+    ghost use Rattle.session_view.specs.contracts.view.View as row;
 
     ghost Value = { AView };
+
+    ghost coded = { row.the_row.coded };
 
     ghost view = { λ one. one.known.0 };
 }
