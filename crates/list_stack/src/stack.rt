@@ -1,0 +1,149 @@
+//! The stack.
+ghost use Rattle.std.specs.Prelude.{◌≡◌, ◌<◌, List, [], ◌∷◌, ◌++◌, length, take, set, suc, get_or, slice_get, option_copied, OnOk, OnErr};
+ghost use Rattle.list_stack.specs.Lists.{with_last};
+ghost use Rattle.list_stack.specs.Places.{Ascend, IsPlace};
+
+use std::alloc::{AllocError, Global};
+use std::marker::Model;
+
+/// Lists that stand one behind the other in one stretch of memory, the uppermost one last. To open
+/// a list takes no memory of its own, once the stack has been as high before.
+///
+/// Contracts see it as the list of its lists.
+#[derive(Drop)]
+pub struct ListStack<T> {
+    items: Vec<T>,
+    // Where each list begins. It ends where the next one begins, and the uppermost one at the end.
+    starts: Vec<usize>,
+}
+
+impl<T> Model for ListStack<T> {
+    ghost use Rattle.std.specs.Prelude.{List, length};
+    ghost use Rattle.list_stack.specs.Lists.{lists_of};
+    ghost use Rattle.list_stack.specs.Places.{AreStarts};
+
+    ghost Value = { List (List T) };
+
+    ghost view = { λ stack.
+        lists_of (length stack.items.items) stack.items.items stack.starts.items };
+
+    ghost invariant = { λ stack. AreStarts stack.starts.items (length stack.items.items) };
+}
+
+impl<T: Drop> ListStack<T> {
+    /// The stack without lists. Takes no memory.
+    pub fn new(alloc: Global) -> ListStack<T>
+        ensures { result ≡ [] }
+    {
+        ListStack {
+            items: Vec::new(alloc),
+            starts: Vec::new(alloc),
+        }
+    }
+
+    /// How many lists there are.
+    pub fn len(&self) -> usize
+        ensures { result ≡ length self.now }
+    {
+        self.starts.len()
+    }
+
+    /// Puts a new list without items on top.
+    ///
+    /// # Errors
+    ///
+    /// `AllocError` where memory ran out. The stack is as it was.
+    pub fn open(&mut self) -> Result<(), AllocError>
+        ensures opened { OnOk result (self.new ≡ self.old ++ [] ∷ []) }
+        ensures unchanged { OnErr result (self.new ≡ self.old) }
+    {
+        Ok(self.starts.push(self.items.len())?)
+    }
+
+    /// Puts a new list of these items on top.
+    ///
+    /// # Errors
+    ///
+    /// `AllocError` where memory ran out. The stack is as it was.
+    pub fn open_with(&mut self, mut items: Vec<T>) -> Result<(), AllocError>
+        ensures opened { OnOk result (self.new ≡ self.old ++ items.items ∷ []) }
+        ensures unchanged { OnErr result (self.new ≡ self.old) }
+    {
+        let size = self.items.len();
+        self.items.append(&mut items)?;
+        if self.starts.push(size).is_err() {
+            self.items.truncate(size);
+            return Err(AllocError);
+        }
+        Ok(())
+    }
+
+    /// Adds an item at the end of the uppermost list.
+    ///
+    /// # Errors
+    ///
+    /// `AllocError` where memory ran out. The stack is as it was.
+    pub fn push(&mut self, item: T) -> Result<(), AllocError>
+        requires { 0 < length self.old }
+        ensures pushed { OnOk result (self.new ≡ with_last self.old item) }
+        ensures unchanged { OnErr result (self.new ≡ self.old) }
+    {
+        Ok(self.items.push(item)?)
+    }
+
+    /// The item at this place of this list; None where there is no such list or place. The lowest
+    /// list and the first place have the number 0.
+    pub fn get(&self, list: usize, at: usize) -> Option<&T>
+        ensures { option_copied result ≡ slice_get (get_or self.now list []) at }
+    {
+        let place = place_of(&self.starts, self.items.len(), list, at)?;
+        Some(&self.items[place])
+    }
+
+    /// Sets the item at this place of this list, numbered as for `get`. Where there is no such list
+    /// or place, nothing changes.
+    pub fn set(&mut self, list: usize, at: usize, item: T)
+        ensures { self.new ≡ set self.old list (set (get_or self.old list []) at item) }
+    {
+        if let Some(place) = place_of(&self.starts, self.items.len(), list, at) {
+            self.items[place] = item;
+        }
+    }
+
+    /// Takes away all lists but so many of the lowest ones, with their items.
+    pub fn truncate(&mut self, count: usize)
+        ensures { self.new ≡ take count self.old }
+    {
+        if count < self.starts.len() {
+            self.items.truncate(self.starts[count]);
+            self.starts.truncate(count);
+        }
+    }
+}
+
+/// Where the item at a place of a list stands among the items of all lists, which are so many.
+fn place_of(starts: &[usize], size: usize, list: usize, at: usize) -> Option<usize>
+    requires { Ascend starts.now size }
+    ensures { IsPlace starts.now size list at result }
+{
+    if list >= starts.len() {
+        return None;
+    }
+    let start = starts[list];
+    if at >= end_of(starts, size, list) - start {
+        return None;
+    }
+    Some(start + at)
+}
+
+/// Where a list ends.
+fn end_of(starts: &[usize], size: usize, list: usize) -> usize
+    requires { list < length starts.now }
+    ensures { result ≡ get_or starts.now (suc list) size }
+{
+    if list + 1 < starts.len() {
+        starts[list + 1]
+    } else {
+        size
+    }
+}
