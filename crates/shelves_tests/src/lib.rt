@@ -8,6 +8,8 @@ mod gem_io_tests;
 #[cfg(test)]
 mod insertion_map_tests;
 #[cfg(test)]
+mod list_stack_tests;
+#[cfg(test)]
 mod profile_tests;
 #[cfg(test)]
 mod radix_pages_tests;
