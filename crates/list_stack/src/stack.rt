@@ -69,6 +69,9 @@ impl<T: Drop> ListStack<T> {
         ensures opened { OnOk result (self.new ≡ self.old ++ items.items ∷ []) }
         ensures unchanged { OnErr result (self.new ≡ self.old) }
     {
+        if items.is_empty() {
+            return self.open();
+        }
         let size = self.items.len();
         self.items.append(&mut items)?;
         if self.starts.push(size).is_err() {
