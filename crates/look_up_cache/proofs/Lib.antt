@@ -10,3 +10,4 @@ mod Places
 mod Again
 mod There
 pub mod AfterReads
+pub mod Meets

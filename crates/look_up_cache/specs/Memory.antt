@@ -1,12 +1,13 @@
 -- What holds of all that is remembered.
-use Rattle.std.specs.Prelude.{◌≡◌, ℕ, Bool, true, false, List, map, Option, Some, None, Result, Ok, Err, IfSome, option_and_then}
+use Rattle.std.specs.Prelude.{◌≡◌, ℕ, Bool, true, false, List, map, Option, Some, Result, Ok, Err, IfSome, option_and_then}
 use Rattle.texts.specs.Bytes.{Bytes as Text}
 use Rattle.gem_object.specs.declared.value.Value.{Value}
 use Rattle.gem_object.specs.declared.value.Value.TheVariants.{Ref}
 use Rattle.gem_object.specs.declared.body.MethodCode.{MethodCode}
-use Rattle.prim_rules.specs.Parts.{class_of_plain}
 use Rattle.gem_language.specs.declared.found.Found.{Found}
 use Rattle.gem_language.specs.LookUp.{Start}
+use Rattle.gem_world.specs.Access.{a_read}
+use Rattle.running_objects.specs.Acted.{Accessed}
 use Rattle.running_objects.specs.Seen.{Seen}
 use Rattle.running_objects.specs.declared.stop.Stop.{Stop}
 use Rattle.look_up_cache.specs.Calm.{Begins, plain_start}
@@ -74,3 +75,9 @@ founds places = map (λ held. option_and_then (λ entry. entry.found) held) plac
 abbrev pub told_by : List (Option Found) → Result ℕ Stop → Result (Option Found) Stop
 told_by found (Ok at) = Ok (held_at found at)
 told_by found (Err ended) = Err ended
+
+-- A receiver was read, if it is an object; any other tells its class without an access.
+abbrev pub Met : Value → Seen → Result (Unit {0}) Stop → Seen → Type 0
+Met (Ref name) before result after = Accessed a_read name before result after
+Met value before (Ok met) after = after ≡ before
+Met value before (Err ended) after = ⊥

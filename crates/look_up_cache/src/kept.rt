@@ -6,13 +6,3 @@ pub trait MethodCodeKept: Drop {
     /// It is that of this method.
     ghost is_of: { Self → MethodCode → Type 0 };
 }
-
-/// Nothing is kept.
-#[derive(Drop)]
-pub struct NoCode;
-
-impl MethodCodeKept for NoCode {
-    ghost use Rattle.std.specs.Prelude.{⊤};
-
-    ghost is_of = { λ _ _. ⊤ };
-}

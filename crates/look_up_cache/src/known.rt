@@ -3,7 +3,7 @@ ghost use Rattle.std.specs.Prelude.{◌≡◌, false, IfSome, option_copied};
 ghost use Rattle.gem_language.specs.LookUp.{find_method};
 ghost use Rattle.prim_parts.specs.Does.{Does};
 ghost use Rattle.look_up_cache.specs.Table.{held_at};
-ghost use Rattle.look_up_cache.specs.Memory.{FindsFor, told_by};
+ghost use Rattle.look_up_cache.specs.Memory.{FindsFor, Met, told_by};
 
 use crate::finding::{keep_at, known_place, remember, renew};
 use crate::kept::MethodCodeKept;
@@ -68,8 +68,8 @@ impl<O: Objects, T: MethodCodeKept> KnownObjects<O, T> {
     }
 
     /// Looks up which method answers a message with this selector to the receiver, and tells the
-    /// place at which what was found stands until the next look-up. What was found before, and
-    /// can't have changed, is found without memory.
+    /// place at which what was found stands until the next call. What was found before, and can't
+    /// have changed, is found without memory; for an object that is new to it, after a read.
     pub fn find_method(
         &mut self,
         frame: &Frame,
@@ -79,9 +79,24 @@ impl<O: Objects, T: MethodCodeKept> KnownObjects<O, T> {
         ensures { Does (find_method false frame.now receiver.now selector.now) (O.seen self.old.0)
             (told_by self.new.1 result) (O.seen self.new.0) }
     {
+        if let Some(at) = self.known_place(receiver, selector) {
+            return Ok(at);
+        }
+        self.meet(receiver)?;
         match self.known_place(receiver, selector) {
             Some(at) => Ok(at),
             None => self.look_up(frame, receiver, selector),
+        }
+    }
+
+    // Reads the receiver, if it is an object. Where what is remembered holds, the object is
+    // remembered by that, and with it where look-ups for it begin.
+    fn meet(&mut self, receiver: &Value) -> Result<(), Stop>
+        ensures { Met receiver.now (O.seen self.old.0) result (O.seen self.new.0) }
+    {
+        match receiver {
+            Value::Ref(name) => self.read(*name),
+            _ => Ok(()),
         }
     }
 

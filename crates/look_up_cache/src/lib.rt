@@ -1,6 +1,6 @@
-//! Room: running. Gives objects that remember look-ups: which class answers a message is found once
-//! and then known, until something changes on which it depends. Knows nothing of how a tree is run,
-//! of the Stone and of other sessions.
+//! Room: running. Gives objects that remember look-ups: which method answers a message is found
+//! once and then known, until something changes on which it depends. Knows nothing of how a tree is
+//! run, of the Stone and of other sessions.
 #![tactic(auto)]
 
 mod finding;
@@ -11,6 +11,6 @@ mod memory;
 mod objects;
 mod table;
 
-pub use kept::{MethodCodeKept, NoCode};
+pub use kept::MethodCodeKept;
 pub use known::KnownObjects;
 pub use memory::Memory;

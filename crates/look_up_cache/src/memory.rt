@@ -25,7 +25,7 @@ impl Beginning {
     }
 }
 
-/// An object that received a message, and where look-ups for it begin.
+/// An object that was read, and where look-ups for it begin.
 #[derive(Drop)]
 pub(crate) struct Receiver {
     pub(crate) name: Oid,

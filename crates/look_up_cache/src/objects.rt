@@ -1,5 +1,6 @@
-//! What programs do on objects that remember look-ups. Each call is that of the objects; after an
-//! error, and where a class, a segment or a user changes, all is forgotten.
+//! What programs do on objects that remember look-ups. Each call is that of the objects, but for a
+//! read of one that is known to be read without a change. After an error, and where a class, a
+//! segment or a user changes, all is forgotten.
 ghost use Rattle.std.specs.Prelude.{◌≡◌, true, ◌&&◌, None, is_some, is_ok};
 ghost use Rattle.running_objects.specs.Seen.{object_at};
 ghost use Rattle.look_up_cache.specs.Lasting.{lasting_body};
