@@ -7,3 +7,6 @@ pub mod Sent
 pub mod Pieces
 pub mod Outlines
 pub mod Kept
+pub mod QuickRuns
+pub mod PutItem
+pub mod MoreNils

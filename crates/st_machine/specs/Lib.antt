@@ -3,3 +3,5 @@ pub mod Parts
 pub mod Led
 pub mod Methods
 pub mod Targets
+pub mod Quick
+pub mod Variables

@@ -1,4 +1,4 @@
-//! The code of the methods that were used last.
+//! The code of the methods that were asked for last.
 ghost use Rattle.std.specs.Prelude.{◌≡◌, [], bytes_eq, None, IfOk};
 ghost use Rattle.std.specs.Map.{lookup};
 ghost use Rattle.st_machine.specs.Methods.{is_kept, sources, AllAreCode, IsMethodOf, UsedBy};
@@ -15,8 +15,8 @@ use texts::Text;
 /// How many sources are kept.
 const SOURCES: usize = 256;
 
-/// The code of the methods that were used last. Contracts see their sources, the most recently used
-/// one first.
+/// The code of the methods that were asked for last. Contracts see their sources, the last one
+/// first.
 #[derive(Drop)]
 pub struct CodeCache {
     entries: LruCache<Text, SharedCode>,

@@ -21,7 +21,7 @@ pub trait FindsMethods: Objects {
     ghost founds: { Self → List (Option AFound) };
 
     /// Looks up which method answers a message with this selector to the receiver, and tells the
-    /// place at which what was found stands until the next look-up.
+    /// place at which what was found stands until the next call.
     fn find_method(
         &mut self,
         frame: &Frame,

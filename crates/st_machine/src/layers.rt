@@ -1,12 +1,12 @@
 //! A stack that all activations share.
-ghost use Rattle.std.specs.Prelude.{◌≡◌, ◌≤◌, ◌∷◌, length, reverse, take, drop, get_or, slice_get, option_copied, IfOk, OnOk, OnErr};
+ghost use Rattle.std.specs.Prelude.{◌≡◌, ◌≤◌, ◌∷◌, length, reverse, take, drop, set, slice_get, option_copied, IfOk, OnOk, OnErr};
 ghost use Rattle.st_machine.specs.Layers.{nothing_on, begun, ended, Popped};
 
 use std::alloc::{AllocError, Global};
 use std::marker::Model;
 
 /// A stack that all activations share: each has its own part of it, above those of the activations
-/// that wait for it. A send takes no memory here, once the stack has been as high before.
+/// that wait for it. What is put there takes no memory, once the stack has been as high before.
 #[derive(Drop)]
 pub(crate) struct Layers<T> {
     items: Vec<T>,
@@ -90,14 +90,27 @@ impl<T: Drop> Layers<T> {
         &self.items[self.base..]
     }
 
+    /// Puts an item in place of the one at this depth, if there is one. It takes no memory.
+    pub(crate) fn put(&mut self, depth: usize, item: T)
+        ensures own { self.new.own ≡ set self.old.own depth item }
+        ensures below { self.new.below ≡ self.old.below }
+    {
+        if depth < self.items.len() - self.base {
+            let at = self.items.len() - 1 - depth;
+            self.items[at] = item;
+        }
+    }
+
     /// Drops so many of the uppermost items.
     pub(crate) fn drop_upper(&mut self, count: usize)
         requires { count ≤ length self.old.own }
         ensures own { self.new.own ≡ drop count self.old.own }
         ensures below { self.new.below ≡ self.old.below }
     {
-        let left = self.items.len() - count;
-        self.items.truncate(left);
+        if count > 0 {
+            let left = self.items.len() - count;
+            self.items.truncate(left);
+        }
     }
 
     /// Takes so many of the uppermost items away and gives them, the uppermost one last. Where it

@@ -1,5 +1,5 @@
-//! Room: running. Gives the machine: runs the code of chunks and commands over any objects. Knows
-//! nothing of how objects are kept, of the Stone and of other sessions.
+//! Room: running. Gives the machine: runs the code of chunks and commands over objects that
+//! remember look-ups. Knows nothing of how objects are kept, of the Stone and of other sessions.
 #![tactic(auto)]
 
 mod border;
@@ -20,11 +20,11 @@ mod names;
 mod outline;
 mod places;
 mod pushes;
+mod quick;
 mod returns;
 mod scopes;
 mod shared_code;
 mod target;
-mod variables;
 
 pub use cache::CodeCache;
 pub use chunk::run_chunk;

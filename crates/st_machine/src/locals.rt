@@ -1,14 +1,15 @@
 //! Variables, made blocks and activations.
-ghost use Rattle.std.specs.Prelude.{◌≡◌, ◌≤◌, ◌++◌, ◌∷◌, [], length, get_or, set, reverse, take, drop, replicate, slice_get, option_copied, IfOk, OnOk, OnErr};
+ghost use Rattle.std.specs.Prelude.{◌≡◌, ◌<◌, ◌≤◌, ◌++◌, ℕ, ◌∷◌, [], length, get_or, set, reverse, take, drop, replicate, slice_get, option_copied, IfOk, OnOk, OnErr};
 ghost use Rattle.gem_object.specs.declared.value.Value.TheVariants.{Nil};
 ghost use Rattle.object_programs.specs.Local.{nothing};
+ghost use Rattle.st_machine.specs.Variables.{more_nils};
 ghost use Rattle.tree_meaning.specs.Place.{MadeBlock as TreeBlock};
 ghost use Rattle.tree_meaning.specs.Scopes.{mark, open_scope, begin_method, is_living, end_living, give_back, with_value};
 
 use crate::code_block::CodeBlock;
 use crate::layers::Layers;
-use crate::variables::Variables;
 use gem_object::Value;
+use list_stack::ListStack;
 use std::alloc::{AllocError, Global};
 use std::marker::Model;
 use tree_meaning::Mark;
@@ -17,7 +18,7 @@ use tree_meaning::Mark;
 /// with whether each still lives. All stand in the order in which they came.
 #[derive(Drop)]
 pub(crate) struct Locals {
-    scopes: Vec<Variables>,
+    scopes: ListStack<Value>,
     blocks: Vec<CodeBlock>,
     living: Vec<bool>,
 }
@@ -34,7 +35,7 @@ impl Model for Locals {
     ghost coded = { local_code value.the_row.coded mark.the_row.coded };
 
     ghost view = { λ locals. record {
-      scopes = locals.scopes.items;
+      scopes = locals.scopes;
       blocks = locals.blocks.items;
       living = locals.living.items;
     } };
@@ -46,7 +47,7 @@ impl Locals {
         ensures { result ≡ nothing TreeBlock }
     {
         Locals {
-            scopes: Vec::new(alloc),
+            scopes: ListStack::new(alloc),
             blocks: Vec::new(alloc),
             living: Vec::new(alloc),
         }
@@ -70,8 +71,7 @@ impl Locals {
             (self.new ≡ open_scope (values.items ++ replicate nils Nil) self.old) }
         ensures unchanged { OnErr result (self.new ≡ self.old) }
     {
-        let values = with_nils(values, nils)?;
-        Ok(self.scopes.push(Variables { values })?)
+        open_in(&mut self.scopes, values, nils)
     }
 
     /// Begins an activation, which lives. The variables of its scope are so many of the uppermost
@@ -91,16 +91,17 @@ impl Locals {
         ensures unchanged { OnErr result (self.new ≡ self.old) }
     {
         let arguments = stack.take_upper(count)?;
-        self.begin_with(with_nils(arguments, temps)?)
+        self.begin_with(arguments, temps)
     }
 
-    /// The same with these variables.
-    fn begin_with(&mut self, values: Vec<Value>) -> Result<(), AllocError>
-        ensures begun { OnOk result (self.new ≡ begin_method values.items self.old) }
+    /// The same with these variables, and so many more that are nil.
+    fn begin_with(&mut self, values: Vec<Value>, temps: usize) -> Result<(), AllocError>
+        ensures begun { OnOk result
+            (self.new ≡ begin_method (values.items ++ replicate temps Nil) self.old) }
         ensures unchanged { OnErr result (self.new ≡ self.old) }
     {
         self.living.reserve(1)?;
-        self.scopes.push(Variables { values })?;
+        open_in(&mut self.scopes, values, temps)?;
         Ok(self.living.push(true)?)
     }
 
@@ -139,7 +140,10 @@ impl Locals {
         ensures { IfOk result (λ value.
             value ≡ get_or (get_or self.now.scopes scope []) index Nil) }
     {
-        value_in(&self.scopes, scope, index)
+        match self.scopes.get(scope as usize, index) {
+            Some(value) => value.clone(),
+            None => Ok(Value::Nil),
+        }
     }
 
     /// Puts a value into a variable of the scope of this number. Where there is no such variable
@@ -147,7 +151,7 @@ impl Locals {
     pub(crate) fn set_value(&mut self, scope: u64, index: usize, value: Value)
         ensures { self.new ≡ with_value scope index value self.old }
     {
-        put_value(&mut self.scopes, scope, index, value);
+        self.scopes.set(scope as usize, index, value);
     }
 
     /// Adds a block; its number. Where it finds no memory all is as before.
@@ -170,36 +174,32 @@ impl Locals {
     }
 }
 
-/// A copy of the value at an index of the scope of a number, and nil where there is none.
-fn value_in(scopes: &Vec<Variables>, number: u64, index: usize) -> Result<Value, AllocError>
-    ensures { IfOk result (λ value. value ≡ get_or (get_or scopes.now.items number []) index Nil) }
+/// A scope more, of these variables and so many that are nil. Where it finds no memory all is as
+/// before.
+fn open_in(scopes: &mut ListStack<Value>, values: Vec<Value>, nils: usize) -> Result<(), AllocError>
+    ensures opened { OnOk result
+        (scopes.new ≡ scopes.old ++ (values.items ++ replicate nils Nil) ∷ []) }
+    ensures unchanged { OnErr result (scopes.new ≡ scopes.old) }
 {
-    let number = number as usize;
-    if number < scopes.len() {
-        scopes[number].value(index)
-    } else {
-        Ok(Value::Nil)
+    let count = scopes.len();
+    scopes.open_with(values)?;
+    let filled = add_nils(scopes, nils);
+    if filled.is_err() {
+        scopes.truncate(count);
     }
+    filled
 }
 
-/// Puts a value at an index of the scope of a number, where there is one.
-fn put_value(scopes: &mut Vec<Variables>, number: u64, index: usize, value: Value)
-    ensures { scopes.new.items ≡ set scopes.old.items number
-        (set (get_or scopes.old.items number []) index value) }
+/// So many variables more, which are nil, come into the innermost scope. Where it finds no memory
+/// some of them came.
+fn add_nils(scopes: &mut ListStack<Value>, nils: usize) -> Result<(), AllocError>
+    requires { 0 < length scopes.old }
+    ensures added { OnOk result (scopes.new ≡ more_nils nils scopes.old) }
+    ensures rest { (count : ℕ) → count < length scopes.old
+        → take count scopes.new ≡ take count scopes.old }
 {
-    let number = number as usize;
-    if number < scopes.len() {
-        scopes[number].put(index, value);
-    }
-}
-
-/// These values, and then so many that are nil.
-fn with_nils(values: Vec<Value>, nils: usize) -> Result<Vec<Value>, AllocError>
-    ensures { IfOk result (λ all. all.items ≡ values.items ++ replicate nils Nil) }
-{
-    let mut all = values;
     for _nil in 0..nils {
-        all.push(Value::Nil)?;
+        scopes.push(Value::Nil)?;
     }
-    Ok(all)
+    Ok(())
 }

@@ -97,14 +97,13 @@ pub(crate) fn loop_step<O: Objects>(
     let (Some(limit), Some(counter)) = (stack.item(0), stack.item(1)) else {
         return Ok(Flow::Stuck);
     };
-    let Pair::Ints(number, last) = int_pair(counter, limit) else {
+    let Pair::Ints(number, _) = int_pair(counter, limit) else {
         return Ok(Flow::Stuck);
     };
-    stack.drop_upper(2);
     if number >= LARGEST_INTEGER {
+        stack.drop_upper(2);
         return Ok(Flow::Goes(next_of(place)?));
     }
-    stack.push(Value::Int(number + 1))?;
-    stack.push(Value::Int(last))?;
+    stack.put(1, Value::Int(number + 1));
     Ok(Flow::Jumps(behind(place, back)))
 }

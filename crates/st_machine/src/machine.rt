@@ -36,6 +36,7 @@ use crate::names::{push_block, push_local, push_name, store_local, store_name};
 use crate::outline::Outline;
 use crate::places::next_of;
 use crate::pushes::{duplicate, make_literal, pop, push_self, push_singleton, push_value};
+use crate::quick::{answer_quickly, quick_instr};
 use crate::returns::{return_block, return_home, return_method};
 use crate::scopes::{enter, leave, put_scopes};
 use crate::shared_code::{Part, SharedCode};
@@ -426,19 +427,33 @@ fn call_method<O: FindsMethods>(
     if depth == 0 {
         return Err(Stop::Fails(Fault::Depth));
     }
-    activate(
-        alloc,
-        objects,
-        locals,
-        stack,
-        chain,
-        cache,
-        code,
-        holder,
-        class_side,
-        count,
-        depth - 1,
-    )
+    match quick_instr(code) {
+        Some(instr) => answer_quickly(
+            alloc,
+            objects,
+            locals,
+            stack,
+            code,
+            instr,
+            holder,
+            class_side,
+            count,
+            depth - 1,
+        ),
+        None => activate(
+            alloc,
+            objects,
+            locals,
+            stack,
+            chain,
+            cache,
+            code,
+            holder,
+            class_side,
+            count,
+            depth - 1,
+        ),
+    }
 }
 
 /// The activation of a method, in which so many more may begin.

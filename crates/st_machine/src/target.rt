@@ -31,8 +31,8 @@ pub(crate) enum Target {
     Method(SharedCode, Oid, bool),
 }
 
-/// What answers a message with this selector to the receiver. The code of a method that was found
-/// before isn't asked for again.
+/// What answers a message with this selector to the receiver. The code of a method that is kept
+/// with its look-up isn't asked for again.
 pub(crate) fn target_of<O: FindsMethods>(
     alloc: Global,
     objects: &mut O,
@@ -129,7 +129,7 @@ fn target_at<O: FindsMethods>(
     ensures callable { IfOk result IsCallable }
     ensures same { objects.new ≡ objects.old }
 {
-    if let Some(target) = known_target(objects, at)? {
+    if let Some(target) = kept_target(objects, at)? {
         return Ok(target);
     }
     let target = target_for(alloc, cache, objects.found(at))?;
@@ -140,7 +140,7 @@ fn target_at<O: FindsMethods>(
 }
 
 /// The same where it is known without the cache.
-fn known_target<O: FindsMethods>(objects: &O, at: usize) -> Result<Option<Target>, AllocError>
+fn kept_target<O: FindsMethods>(objects: &O, at: usize) -> Result<Option<Target>, AllocError>
     ensures target { IfOk result (λ known. IfSome known (λ target.
         target ≡ target_for (held_at (O.founds objects.now) at))) }
     ensures callable { IfOk result (λ known. IfSome known IsCallable) }

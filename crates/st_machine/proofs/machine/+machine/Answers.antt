@@ -38,8 +38,13 @@ send-returns-clause-led g t c =
     (c.in_ok-push.ensures.pushed ∙ ap (λ (rest : List _). c.in_ok-answer.answer ∷ rest) c.in_ok-answer.ensures.own)
     c.in_ok-answer.ensures.ran
 
-pub call_method-returns-clause-ran : goal.call_method-returns-clause-ran
-call_method-returns-clause-ran g t c =
+pub call_method-returns-in-Some-clause-ran : goal.call_method-returns-in-Some-clause-ran
+call_method-returns-in-Some-clause-ran g t c =
+    method_ran c.args.depth (omega (arith, c.if-depth-eq0.false)) c.args.code.now c.args.holder c.args.class_side
+    (get_or c.args.stack.now.own c.args.count Nil) (reverse (take c.args.count c.args.stack.now.own)) c.answer_quickly.ensures.ran
+
+pub call_method-returns-in-None-clause-ran : goal.call_method-returns-in-None-clause-ran
+call_method-returns-in-None-clause-ran g t c =
     method_ran c.args.depth (omega (arith, c.if-depth-eq0.false)) c.args.code.now c.args.holder c.args.class_side
     (get_or c.args.stack.now.own c.args.count Nil) (reverse (take c.args.count c.args.stack.now.own)) c.activate.ensures.ran
 

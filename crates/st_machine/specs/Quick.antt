@@ -1,0 +1,56 @@
+-- Methods that answer by one push: one instruction puts a value, and the next returns it.
+use Rattle.std.specs.Prelude.{◌≡◌, ℕ, Bool, nat_eq, cond, [], slice_get, Some, Result, Ok, Err}
+use Rattle.st_tree.specs.Trees.{Program}
+use Rattle.gem_object.specs.declared.value.Value.{Value}
+use Rattle.gem_object.specs.declared.value.Value.TheVariants as value
+use Rattle.object_programs.specs.Run.{give}
+use Rattle.tree_meaning.specs.Place.{Frame}
+use Rattle.tree_meaning.specs.Operands.{ValueRun}
+use Rattle.gem_language.specs.OutOfScope.{read_out_of_scope}
+use Rattle.running_objects.specs.declared.stop.Stop.{Stop}
+use Rattle.running_objects.specs.declared.stop.Stop.TheVariants as stop
+use Rattle.st_compiler.specs.Instruction.{Instruction, PushSelf, PushNil, PushTrue, PushFalse, PushLit, PushName, ReturnMethod}
+use Rattle.st_machine.specs.Parts.{part_code}
+use Rattle.st_machine.specs.declared.shared_code.Part.TheVariants.{Whole}
+
+-- It puts self, a constant that is a value, or what a name out of scope stands for.
+abbrev pub IsPut : Instruction → Type 0
+IsPut PushSelf = Unit {0}
+IsPut PushNil = Unit {0}
+IsPut PushTrue = Unit {0}
+IsPut PushFalse = Unit {0}
+IsPut (PushLit answer) = Unit {0}
+IsPut (PushName name) = Unit {0}
+IsPut other = ⊥
+
+-- what it puts; of any other nothing is asked
+abbrev pub put_value : Instruction → Frame → ValueRun
+put_value PushNil frame = give value.Nil
+put_value PushTrue frame = give value.True
+put_value PushFalse frame = give value.False
+put_value (PushLit answer) frame = give answer
+put_value PushSelf frame = give frame.receiver
+put_value (PushName name) frame = read_out_of_scope name frame
+put_value other frame = give value.Nil
+
+-- A text begins with such an instruction, and the return: no code after them runs.
+pub record IsQuick (tree : Program) (one : Instruction) : Type 0 where
+  pub puts : IsPut one
+  pub first : slice_get (part_code tree Whole) 0 ≡ Some one
+  pub second : slice_get (part_code tree Whole) 1 ≡ Some ReturnMethod
+
+-- what such an instruction asks of a frame
+abbrev pub quick_frame : (receiver : Value) → (holder : ℕ) → (class_side : Bool) → Frame
+quick_frame receiver holder class_side = record {
+  scopes = [];
+  receiver = receiver;
+  home = 0;
+  holder = holder;
+  class_side = class_side;
+}
+
+-- The method's answer, where this is its home: a value that returns to it is its answer.
+abbrev pub at_home : (home : ℕ) → Result Value Stop → Result Value Stop
+at_home home (Err (stop.Returns answer number)) =
+    cond (nat_eq number home) (Ok answer) (Err (stop.Returns answer number))
+at_home home ended = ended
