@@ -16,9 +16,15 @@ use texts::Text;
 
 /// The view of a transaction. What messages to its objects were answered by is remembered with it,
 /// until it ends. Contracts see the view.
-#[derive(Drop)]
 pub(crate) struct KnownView {
     known: KnownObjects<View, SharedCode>,
+}
+
+// By hand, so that it stands once in proofs and not wherever a session may be dropped.
+impl Drop for KnownView {
+    fn drop(self) {
+        let KnownView { known: _ } = self;
+    }
 }
 
 impl Model for KnownView {
