@@ -57,6 +57,49 @@ method Deep down: n n = 0 ifTrue: [^0]. ^self down: n - 1 => method down:
 print Deep new down: 1998 => 0
 print Deep new down: 1999 => error E14 depth
 print Deep new down: 5 => 0
+method Deep sum: n | t | t := n. n = 0 ifTrue: [^t]. \
+1 to: 2 do: [:i | | u | u := i. t := t + u]. ^(self sum: n - 1) + t => method sum:
+print Deep new sum: 3 => 15
+method Deep kept: n | t | t := n. [:x | t := t + x] value: 1. n = 0 ifTrue: [^t]. \
+^(self kept: n - 1) + t => method kept:
+print Deep new kept: 3 => 10
+
+run Object subclass: #Base instVarNames: #(a) inDictionary: UserGlobals => ok
+run Base subclass: #Mid instVarNames: #(b) inDictionary: UserGlobals => ok
+run UserGlobals at: #P put: Mid new; at: #G put: 5; at: #S put: Segment new => ok
+method Base a ^a => method a
+method Base put: n a := n => method put:
+method Mid b ^b => method b
+method Mid me: x also: y | t u | ^self => method me:also:
+method Mid none: x ^nil => method none:
+method Mid arg: a ^a => method arg:
+method Mid g ^G => method g
+method Mid missing ^nowhere => method missing
+method Mid empty => method empty
+class Base a ^a => method a
+print P a => nil
+print (P put: 7; yourself) a => 7
+print P b => nil
+print P arg: 4 => 4
+print 2 + (P me: 3 also: 4) a => 9
+print P empty => a Mid
+print P g => 5
+print P missing => error E2 undefined variable: nowhere
+print Mid a => error E2 undefined variable: a
+run UserGlobals at: #a put: 3 => ok
+print Mid a => 3
+print P a => 7
+method Base down: n n = 0 ifTrue: [^self a]. ^self down: n - 1 => method down:
+print P down: 1997 => 7
+print P down: 1998 => error E14 depth
+method Mid sink: n n = 0 ifTrue: [^self missing]. ^self sink: n - 1 => method sink:
+print P sink: 1997 => error E2 undefined variable: nowhere
+print P sink: 1998 => error E14 depth
+run Base assignToSegment: S. S ownerAuthorization: #none => ok
+print P none: 3 => nil
+print P b => error E10 no read right: 1:2
+run S ownerAuthorization: #read => ok
+print P b => nil
 
 run Object subclass: #Loop instVarNames: #() inDictionary: UserGlobals => ok
 method Loop find: x in: all all do: [:each | each = x ifTrue: [^each]]. ^nil => method find:in:

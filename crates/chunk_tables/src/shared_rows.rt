@@ -206,6 +206,15 @@ Object foo => error E1 not understood: foo
 1 to: 3 do: 4 => error E1 not understood: value:
 1 to: 499999 do: [:i | i + 1]. 3 + 4 => 7
 1 to: 499999 do: [:i | i + 1]. 3 + 4 + 5 => error E13 send budget
+1 to: 499999 do: [:i | i yourself]. 3 yourself => 3
+1 to: 499999 do: [:i | i yourself]. 3 yourself yourself => error E13 send budget
+[3] yourself value => 3
+| b | b := [:x | x + 1]. 3 yourself. b value: 4 => 5
+[:a :b :c | | d e | d := c. e := d - a. e * b] value: 1 value: 2 value: 4 => 6
+| f g | 1 to: 2 do: [:i | | t | t := i. i = 1 ifTrue: [f := [t := t + 1]] ifFalse: [g := [t := \
+t + 10]]]. f value. f value + g value => 15
+| a b | a := 1. b := [:x | | c | c := x + a. a := c. [:y | a := a + y. c + y]]. ((b value: 2) \
+value: 10) + a => 26
 ";
 
 /// What rights let a user do, and which error comes first.
