@@ -15,7 +15,8 @@ use Rattle.gem_language.specs.declared.found.Found.{Found}
 use Rattle.gem_language.proofs.Ends.{then_comes}
 use Rattle.prim_parts.specs.Does.{Does}
 use Rattle.prim_parts.proofs.Does.{does_give, does_atom, does_then, does_stop}
-use Rattle.look_up_cache.specs.Memory.{Met}
+use Rattle.object_programs.specs.Budget.{Budget}
+use Rattle.look_up_cache.specs.Memory.{Met, BeginsFor, FindsFor, with_budget}
 use Rattle.look_up_cache.proofs.AfterReads.{reached_begins}
 use Rattle.look_up_cache.proofs.Gives.{begins_does}
 
@@ -56,3 +57,17 @@ module _ (frame : Frame) (selector : Text) where
   unfolding find_method
   met_stops (value.Ref name) ended met = does_stop (does_stop (does_atom met))
   met_stops receiver ended met = absurd met
+
+-- What is known of a look-up is so whatever the budget is.
+begins_with : (receiver : Value) (start : Start) (seen : Seen) (budget : Budget) → BeginsFor receiver start seen
+    → BeginsFor receiver start (with_budget budget seen)
+begins_with (value.Ref name) start seen budget begins = begins
+begins_with other start seen budget begins = begins
+
+pub known_with : (receiver : Value) (selector : Text) (found : Option Found) (seen : Seen) (budget : Budget)
+    → FindsFor receiver selector found seen → FindsFor receiver selector found (with_budget budget seen)
+known_with receiver selector found seen budget known = record {
+  start = known.start;
+  begins = begins_with receiver known.start seen budget known.begins;
+  finds = known.finds;
+}

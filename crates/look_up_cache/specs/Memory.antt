@@ -4,6 +4,7 @@ use Rattle.texts.specs.Bytes.{Bytes as Text}
 use Rattle.gem_object.specs.declared.value.Value.{Value}
 use Rattle.gem_object.specs.declared.value.Value.TheVariants.{Ref}
 use Rattle.gem_object.specs.declared.body.MethodCode.{MethodCode}
+use Rattle.object_programs.specs.Budget.{Budget}
 use Rattle.gem_language.specs.declared.found.Found.{Found}
 use Rattle.gem_language.specs.LookUp.{Start}
 use Rattle.gem_world.specs.Access.{a_read}
@@ -81,3 +82,7 @@ abbrev pub Met : Value → Seen → Result (Unit {0}) Stop → Seen → Type 0
 Met (Ref name) before result after = Accessed a_read name before result after
 Met value before (Ok met) after = after ≡ before
 Met value before (Err ended) after = ⊥
+
+-- what is seen, with another budget
+abbrev pub with_budget : Budget → Seen → Seen
+with_budget budget seen = record seen { budget = budget }

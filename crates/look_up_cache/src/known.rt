@@ -1,9 +1,10 @@
 //! Objects that remember look-ups.
-ghost use Rattle.std.specs.Prelude.{◌≡◌, false, IfSome, option_copied};
+ghost use Rattle.std.specs.Prelude.{◌≡◌, false, Ok, IfSome, option_copied};
+ghost use Rattle.object_programs.specs.Budget.{Budget};
 ghost use Rattle.gem_language.specs.LookUp.{find_method};
 ghost use Rattle.prim_parts.specs.Does.{Does};
 ghost use Rattle.look_up_cache.specs.Table.{held_at};
-ghost use Rattle.look_up_cache.specs.Memory.{FindsFor, Met, told_by};
+ghost use Rattle.look_up_cache.specs.Memory.{FindsFor, Met, told_by, with_budget};
 
 use crate::finding::{keep_at, known_place, remember, renew};
 use crate::kept::MethodCodeKept;
@@ -87,6 +88,18 @@ impl<O: Objects, T: MethodCodeKept> KnownObjects<O, T> {
             Some(at) => Ok(at),
             None => self.look_up(frame, receiver, selector),
         }
+    }
+
+    /// The place at which what a look-up finds stands, where that is known without a look at any
+    /// object, whatever the budget is. It takes no memory.
+    pub fn known_method(&self, frame: &Frame, receiver: &Value, selector: &Text) -> Option<usize>
+        ensures { IfSome result (λ at. (budget : Budget)
+            → Does (find_method false frame.now receiver.now selector.now)
+            (with_budget budget (O.seen self.now.0)) (Ok (held_at self.now.1 at))
+            (with_budget budget (O.seen self.now.0))) }
+    {
+        let at = self.known_place(receiver, selector)?;
+        Some(at)
     }
 
     // Reads the receiver, if it is an object. Where what is remembered holds, the object is
