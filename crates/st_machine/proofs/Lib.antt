@@ -8,5 +8,6 @@ pub mod Pieces
 pub mod Outlines
 pub mod Kept
 pub mod QuickRuns
+pub mod KnownAnswers
 pub mod PutItem
 pub mod MoreNils

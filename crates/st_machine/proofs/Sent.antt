@@ -7,7 +7,7 @@ use Rattle.gem_object.specs.declared.value.Value.{Value}
 use Rattle.gem_object.specs.declared.value.Value.TheVariants.{Nil}
 use Rattle.gem_object.specs.declared.value.Value.TheVariants as value
 use Rattle.object_programs.specs.Local.{Local}
-use Rattle.object_programs.specs.Run.{State, Outcome}
+use Rattle.object_programs.specs.Run.{Run, State, Outcome}
 use Rattle.tree_meaning.specs.Place.{Frame, MadeBlock}
 use Rattle.tree_meaning.specs.Operands.{ValueRun}
 use Rattle.tree_meaning.specs.Bodies.{params_count}
@@ -27,11 +27,11 @@ use Rattle.st_machine.specs.declared.flow.Flow.TheVariants.{Goes, Stuck}
 use Rattle.st_machine.proofs.Ends.{receiver_first}
 
 -- A program whose answer is put on the stack, and one that stopped.
-pub answered : (program : ValueRun) {before now : Seen} {local later : Local MadeBlock} (answer : Value)
-    (further : Value → State MadeBlock → CodeEnd) → Ran program before local (Ok answer) now later
+pub answered : {A : Type 0} (program : Run MadeBlock A) {before now : Seen} {local later : Local MadeBlock} (answer : A)
+    (further : A → State MadeBlock → CodeEnd) → Ran program before local (Ok answer) now later
     → does program before.setting (with_local before local) further ≡ further answer (with_local now later)
-answered program answer further ran =
-    ap (λ (outcome : Outcome MadeBlock Value). after outcome.end outcome.state further) ran.ends
+answered {A} program answer further ran =
+    ap (λ (outcome : Outcome MadeBlock A). after outcome.end outcome.state further) ran.ends
 
 pub stopped : (program : ValueRun) {before now : Seen} {local later : Local MadeBlock} (ended : Stop)
     (further : Next → Next → Value → State MadeBlock → CodeEnd) (left : List Value) (frame : Frame)

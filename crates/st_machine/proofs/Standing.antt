@@ -19,8 +19,9 @@ use Rattle.st_compiler.specs.Code.{Piece}
 use Rattle.st_compiler.specs.Machine.{CodeEnd, over, ran_out, stuck, Next, act, straight, execute}
 use Rattle.st_compiler.specs.Runs.{Runs}
 use Rattle.st_machine.specs.Parts.{framed}
-use Rattle.st_machine.specs.Led.{LedBy}
-use Rattle.st_machine.specs.declared.flow.Flow.TheVariants.{Goes, Jumps, Leaves, Stuck}
+use Rattle.st_machine.specs.Led.{LedBy, TurnedBy}
+use Rattle.st_machine.specs.declared.flow.Flow.TheVariants.{Goes, Leaves, Stuck}
+use Rattle.st_machine.specs.declared.flow.Turn.TheVariants as turn
 
 -- an end is none of the others
 abbrev IsOver : CodeEnd → Type 0
@@ -125,6 +126,20 @@ module _ (outside : Outside) (table : List Piece) (code : List Instruction) wher
       subst (λ items. Standing (program frame) before begun 0 items frame before begun) (sym is)
       (stands_first program frame before begun runs)
 
+  -- The same where an instruction was left.
+  pub stands_left : (program : ValueRun) (before : Seen) (begun : Local MadeBlock) (place : ℕ) (frame : Frame)
+      {stack left : List Value} {scopes inner : List Mark} {now after : Seen} {local later : Local MadeBlock}
+      → after ≡ now → left ≡ stack → inner ≡ scopes → later ≡ local
+      → Standing program before begun place stack (framed scopes frame) now local
+      → Standing program before begun place left (framed inner frame) after later
+  stands_left program before begun place frame {stack} {left} {scopes} {inner} {now} {after} {local} {later} seen own marks
+      variables standing =
+      let AtSeen : Seen → Type 0 = λ one. Standing program before begun place left (framed inner frame) one later in
+      let AtOwn : List Value → Type 0 = λ one. Standing program before begun place one (framed inner frame) now later in
+      let AtMarks : List Mark → Type 0 = λ one. Standing program before begun place stack (framed one frame) now later in
+      let AtLocal : Local MadeBlock → Type 0 = λ one. Standing program before begun place stack (framed scopes frame) now one in
+      subst AtSeen (sym seen) (subst AtOwn (sym own) (subst AtMarks (sym marks) (subst AtLocal (sym variables) standing)))
+
   module _ (program : ValueRun) (before now after : Seen) (begun local later : Local MadeBlock) (place : ℕ)
       (stack left : List Value) (scopes inner : List Mark) (frame : Frame)
       (standing : Standing program before begun place stack (framed scopes frame) now local)
@@ -143,7 +158,7 @@ module _ (outside : Outside) (table : List Piece) (code : List Instruction) wher
         }
 
     pub stands_back : (there : ℕ)
-        → LedBy outside table one place stack scopes frame now local (Ok (Jumps there)) left inner after later
+        → TurnedBy outside table one place stack scopes frame now local (Ok (turn.Jumps there)) left inner after later
         → Standing program before begun there left (framed inner frame) after later
     stands_back there led =
         let outcome = perform program before.setting (with_local before begun) in

@@ -1,29 +1,33 @@
 -- What one instruction led to.
-use Rattle.std.specs.Prelude.{◌≡◌, ℕ, ◌<◌, List, Some, Result, Ok, Err}
+use Rattle.std.specs.Prelude.{◌≡◌, ℕ, suc, ◌<◌, List, Some, Result, Ok, Err}
+use Rattle.std.specs.declared.alloc.AllocError.{AllocError}
 use Rattle.gem_object.specs.declared.value.Value.{Value}
+use Rattle.object_programs.specs.Atom.{Tick}
 use Rattle.object_programs.specs.Local.{Local}
 use Rattle.object_programs.specs.Run.{gives, returns, fails, State}
+use Rattle.object_programs.specs.declared.fault.Fault.TheVariants as fault
+use Rattle.running_objects.specs.Acted.{Acted}
 use Rattle.running_objects.specs.Seen.{Seen, with_local}
 use Rattle.running_objects.specs.declared.stop.Stop.{Stop}
 use Rattle.running_objects.specs.declared.stop.Stop.TheVariants as stop
 use Rattle.tree_meaning.specs.Place.{Frame, MadeBlock}
 use Rattle.tree_meaning.specs.Meaning.{Outside}
 use Rattle.tree_meaning.specs.declared.place.Mark.{Mark}
-use Rattle.st_compiler.specs.Instruction.{Instruction}
+use Rattle.st_compiler.specs.Instruction.{Instruction, MakeLit, PushName, StoreName, Send, SuperSend, PushBlock, ReturnMethod, ReturnHome, ReturnBlock}
 use Rattle.st_compiler.specs.Code.{Piece}
 use Rattle.st_compiler.specs.Machine.{CodeEnd, over, stuck, Next, act}
 use Rattle.st_machine.specs.Parts.{framed}
 use Rattle.st_machine.specs.declared.flow.Flow.{Flow}
-use Rattle.st_machine.specs.declared.flow.Flow.TheVariants.{Goes, Jumps, Leaves, Stuck}
+use Rattle.st_machine.specs.declared.flow.Flow.TheVariants.{Goes, Leaves, Stuck}
+use Rattle.st_machine.specs.declared.flow.Turn.{Turn}
+use Rattle.st_machine.specs.declared.flow.Turn.TheVariants as turn
 
--- Code goes on, jumps back or ends so: `end` is what the instruction gives, whatever is done from
+-- Code goes on or ends so: `end` is what the instruction gives, whatever is done from
 -- the next place on and after a jump back. Where memory ran out nothing is said.
 abbrev pub LedTo : (end : Next → Next → CodeEnd) → Result Flow Stop → (stack : List Value) → Frame
     → State MadeBlock → Type 0
 LedTo end (Ok (Goes place)) stack frame state =
     (next back : Next) → end next back ≡ next place stack frame state
-LedTo end (Ok (Jumps place)) stack frame state =
-    (next back : Next) → end next back ≡ back place stack frame state
 LedTo end (Ok (Leaves answer)) stack frame state =
     (next back : Next) → end next back ≡ over (record { end = gives answer; state = state })
 LedTo end (Ok Stuck) stack frame state = (next back : Next) → end next back ≡ stuck
@@ -48,3 +52,55 @@ LedBy outside table one place stack scopes frame before local result left inner 
 abbrev pub IsForward : (place : ℕ) → Flow → Type 0
 IsForward place (Goes next) = place < next
 IsForward place other = Unit {0}
+
+-- The same of an instruction that needs no more than the receiver, the stack, the scopes with their
+-- variables, units and what is remembered.
+abbrev pub TurnedTo : (end : Next → Next → CodeEnd) → Result Turn AllocError
+    → (stack : List Value) → Frame → State MadeBlock → Type 0
+TurnedTo end (Ok (turn.Goes place)) stack frame state =
+    (next back : Next) → end next back ≡ next place stack frame state
+TurnedTo end (Ok (turn.Jumps place)) stack frame state =
+    (next back : Next) → end next back ≡ back place stack frame state
+TurnedTo end (Ok turn.NotBoolean) stack frame state = (next back : Next)
+    → end next back ≡ over (record { end = fails fault.NotBoolean; state = state })
+TurnedTo end (Ok turn.ArgumentKind) stack frame state = (next back : Next)
+    → end next back ≡ over (record { end = fails fault.ArgumentKind; state = state })
+TurnedTo end (Ok turn.NoUnit) stack frame state = (next back : Next)
+    → end next back ≡ over (record { end = fails fault.SendBudget; state = state })
+TurnedTo end (Ok turn.Stuck) stack frame state = (next back : Next) → end next back ≡ stuck
+TurnedTo end (Err none) stack frame state = Unit {0}
+
+abbrev pub TurnedBy : Outside → (table : List Piece) → Instruction → (place : ℕ)
+    → (stack : List Value) → (scopes : List Mark) → Frame → (before : Seen) → Local MadeBlock
+    → Result Turn AllocError → (left : List Value) → (inner : List Mark) → (after : Seen)
+    → Local MadeBlock → Type 0
+TurnedBy outside table one place stack scopes frame before local result left inner after later =
+    TurnedTo (λ next back. act outside before.setting table (Some one) next back place stack
+    (framed scopes frame) (with_local before local)) result left (framed inner frame)
+    (with_local after later)
+
+abbrev pub TurnsForward : (place : ℕ) → Turn → Type 0
+TurnsForward place (turn.Goes next) = place < next
+TurnsForward place other = Unit {0}
+
+-- A unit was taken, and the next instruction follows; or none was left.
+abbrev pub UnitTurned : (place : ℕ) → Seen → Result Turn AllocError → Seen → Type 0
+UnitTurned place before (Ok (turn.Goes there)) after =
+    (there ≡ suc place) × Acted Tick before (Ok tt) after
+UnitTurned place before (Ok turn.NoUnit) after =
+    Acted Tick before (Err (stop.Fails fault.SendBudget)) after
+UnitTurned place before (Ok other) after = ⊥
+UnitTurned place before (Err none) after = Unit {0}
+
+-- It sends, makes an object or a block, asks for a name, or ends.
+abbrev pub IsAsked : Instruction → Type 0
+IsAsked (MakeLit constant) = Unit {0}
+IsAsked (PushName name) = Unit {0}
+IsAsked (StoreName name) = Unit {0}
+IsAsked (Send selector count) = Unit {0}
+IsAsked (SuperSend selector count) = Unit {0}
+IsAsked (PushBlock number) = Unit {0}
+IsAsked ReturnMethod = Unit {0}
+IsAsked ReturnHome = Unit {0}
+IsAsked ReturnBlock = Unit {0}
+IsAsked other = ⊥

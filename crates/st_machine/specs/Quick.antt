@@ -1,5 +1,5 @@
 -- Methods that answer by one push: one instruction puts a value, and the next returns it.
-use Rattle.std.specs.Prelude.{◌≡◌, ℕ, Bool, nat_eq, cond, [], slice_get, Some, Result, Ok, Err}
+use Rattle.std.specs.Prelude.{◌≡◌, ℕ, Bool, nat_eq, cond, List, [], ◌∷◌, slice_get, Option, None, Some, Result, Ok, Err}
 use Rattle.st_tree.specs.Trees.{Program}
 use Rattle.gem_object.specs.declared.value.Value.{Value}
 use Rattle.gem_object.specs.declared.value.Value.TheVariants as value
@@ -7,11 +7,15 @@ use Rattle.object_programs.specs.Run.{give}
 use Rattle.tree_meaning.specs.Place.{Frame}
 use Rattle.tree_meaning.specs.Operands.{ValueRun}
 use Rattle.gem_language.specs.OutOfScope.{read_out_of_scope}
+use Rattle.gem_language.specs.declared.found.Found.{Found}
+use Rattle.gem_language.specs.Commands.{selector_of}
 use Rattle.running_objects.specs.declared.stop.Stop.{Stop}
 use Rattle.running_objects.specs.declared.stop.Stop.TheVariants as stop
 use Rattle.st_compiler.specs.Instruction.{Instruction, PushSelf, PushNil, PushTrue, PushFalse, PushLit, PushName, ReturnMethod}
 use Rattle.st_machine.specs.Parts.{part_code}
+use Rattle.st_machine.specs.Targets.{target_for}
 use Rattle.st_machine.specs.declared.shared_code.Part.TheVariants.{Whole}
+use Rattle.st_machine.specs.declared.target.Target.TheVariants.{Method}
 
 -- It puts self, a constant that is a value, or what a name out of scope stands for.
 abbrev pub IsPut : Instruction → Type 0
@@ -54,3 +58,26 @@ abbrev pub at_home : (home : ℕ) → Result Value Stop → Result Value Stop
 at_home home (Err (stop.Returns answer number)) =
     cond (nat_eq number home) (Ok answer) (Err (stop.Returns answer number))
 at_home home ended = ended
+
+-- what such an instruction puts, where that asks no objects
+abbrev pub constant_put : Instruction → (receiver : Value) → Option Value
+constant_put PushSelf receiver = Some receiver
+constant_put PushNil receiver = Some value.Nil
+constant_put PushTrue receiver = Some value.True
+constant_put PushFalse receiver = Some value.False
+constant_put (PushLit answer) receiver = Some answer
+constant_put other receiver = None
+
+-- there is an answer, and it stands above these values
+abbrev pub Replaced : Option Value → (below left : List Value) → Type 0
+Replaced (Some answer) below left = left ≡ answer ∷ below
+Replaced None below left = ⊥
+
+-- What was found is a method that answers by this push.
+pub record AnswersQuickly (found : Option Found) (one : Instruction) : Type 0 where
+  pub tree : Program
+  pub holder : ℕ
+  pub class_side : Bool
+  pub leads : target_for found ≡ Method tree holder class_side
+  pub named : tree.selector ≡ Some (selector_of tree)
+  pub quick : IsQuick tree one

@@ -1,5 +1,5 @@
 -- What answers a message, and what it comes to.
-use Rattle.std.specs.Prelude.{◌≡◌, Option, None, Some, List, Result, Ok, Err}
+use Rattle.std.specs.Prelude.{◌≡◌, ◌∷◌, false, reverse, Option, None, Some, List, Result, Ok, Err}
 use Rattle.texts.specs.Bytes.{Bytes as Text}
 use Rattle.st_tree.specs.Trees.{Program}
 use Rattle.st_grammar.specs.Grammar.{method}
@@ -10,12 +10,13 @@ use Rattle.gem_object.specs.declared.body.MethodCode.TheVariants.{Source, Primit
 use Rattle.object_programs.specs.Local.{Local}
 use Rattle.object_programs.specs.Run.{Run, fail, and_then}
 use Rattle.object_programs.specs.declared.fault.Fault.TheVariants as fault
-use Rattle.tree_meaning.specs.Place.{MadeBlock}
+use Rattle.tree_meaning.specs.Place.{Frame, MadeBlock}
 use Rattle.tree_meaning.specs.Operands.{ValueRun}
 use Rattle.prim_rules.specs.Rules.{rule_of}
 use Rattle.gem_language.specs.declared.found.Found.{Found}
 use Rattle.gem_language.specs.Commands.{selector_of}
-use Rattle.gem_language.specs.Sends.{Callee, primitive_value}
+use Rattle.gem_language.specs.LookUp.{find_method}
+use Rattle.gem_language.specs.Sends.{Callee, primitive_value, call_found}
 use Rattle.running_objects.specs.Seen.{Seen}
 use Rattle.running_objects.specs.Ran.{Ran}
 use Rattle.running_objects.specs.declared.stop.Stop.{Stop}
@@ -56,3 +57,17 @@ LeadsTo program before local (Ok target) after =
     (found : Option Found) × (Ran program before local (Ok found) after local)
     × (target_for found ≡ target)
 LeadsTo program before local (Err ended) after = Ran program before local (Err ended) after local
+
+-- A message, with its arguments the last one first, after its unit: the look-up, and the method.
+abbrev pub found_by : Callee → (selector : Text) → Frame → (receiver : Value)
+    → (arguments : List Value) → ValueRun
+found_by callee selector frame receiver arguments =
+    and_then (find_method false frame receiver selector) (λ found.
+    call_found callee selector found receiver (reverse arguments))
+
+-- A program gives an answer and changes nothing; the answer stands above these values.
+pub record Answered (program : ValueRun) (seen : Seen) (local : Local MadeBlock)
+    (below left : List Value) : Type 0 where
+  pub answer : Value
+  pub ran : Ran program seen local (Ok answer) seen local
+  pub stands : left ≡ answer ∷ below

@@ -1,8 +1,9 @@
 //! What stands between objects and variables: calls that do something to objects, said with the
 //! variables at hand, which they leave as they are. A frame here has no scopes: those of the
 //! activation that runs stand on a stack, and nothing here asks for them.
-ghost use Rattle.std.specs.Prelude.{◌≡◌, true, false};
+ghost use Rattle.std.specs.Prelude.{◌≡◌, true, false, Ok, IfSome};
 ghost use Rattle.object_programs.specs.Atom.{Tick};
+ghost use Rattle.object_programs.specs.Budget.{Budget};
 ghost use Rattle.object_programs.specs.Run.{atom};
 ghost use Rattle.prim_rules.specs.Rules.{rule_of};
 ghost use Rattle.prim_rules.specs.Printing.{print_text};
@@ -10,7 +11,8 @@ ghost use Rattle.gem_language.specs.LookUp.{find_method};
 ghost use Rattle.gem_language.specs.OutOfScope.{read_out_of_scope, write_out_of_scope};
 ghost use Rattle.gem_language.specs.Literals.{literal_value};
 ghost use Rattle.st_tree.specs.Views.{constant_of};
-ghost use Rattle.look_up_cache.specs.Memory.{told_by};
+ghost use Rattle.look_up_cache.specs.Memory.{told_by, with_budget};
+ghost use Rattle.look_up_cache.specs.Table.{held_at};
 ghost use Rattle.running_objects.specs.Ran.{Ran};
 ghost use Rattle.st_machine.specs.Parts.{framed};
 
@@ -64,6 +66,26 @@ pub(crate) fn place_of_method<O: FindsMethods>(
         (O.seen objects.new) locals.now }
 {
     objects.find_method(frame.frame(), receiver, selector)
+}
+
+/// The place at which what such a look-up finds stands, where that is known without a look at any
+/// object, whatever the budget is.
+pub(crate) fn known_place<O: FindsMethods>(
+    objects: &O,
+    locals: &Locals,
+    chain: &Layers<Mark>,
+    frame: &Outline,
+    receiver: &Value,
+    selector: &Text,
+) -> Option<usize>
+    ensures { IfSome result (λ at. (budget : Budget) → Ran
+        (find_method false (framed chain.now.own frame.now) receiver.now selector.now)
+        (with_budget budget (O.seen objects.now)) locals.now
+        (Ok (held_at (O.founds objects.now) at)) (with_budget budget (O.seen objects.now))
+        locals.now) }
+{
+    let at = objects.known_method(frame.frame(), receiver, selector)?;
+    Some(at)
 }
 
 /// What the primitive of this number comes to.

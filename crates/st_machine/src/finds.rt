@@ -1,10 +1,11 @@
 //! Objects that remember which methods answer which messages.
-ghost use Rattle.std.specs.Prelude.{◌≡◌, false, List, Option, IfSome, option_copied};
+ghost use Rattle.std.specs.Prelude.{◌≡◌, false, List, Option, Ok, IfSome, option_copied};
+ghost use Rattle.object_programs.specs.Budget.{Budget};
 ghost use Rattle.gem_language.specs.declared.found.Found.{Found as AFound};
 ghost use Rattle.gem_language.specs.LookUp.{find_method};
 ghost use Rattle.prim_parts.specs.Does.{Does};
 ghost use Rattle.look_up_cache.specs.Table.{held_at};
-ghost use Rattle.look_up_cache.specs.Memory.{told_by};
+ghost use Rattle.look_up_cache.specs.Memory.{told_by, with_budget};
 ghost use Rattle.st_machine.specs.Methods.{IsCodeOf};
 
 use crate::shared_code::SharedCode;
@@ -30,6 +31,14 @@ pub trait FindsMethods: Objects {
     ) -> Result<usize, Stop>
         ensures { Does (find_method false frame.now receiver.now selector.now)
             (Self.seen self.old) (told_by (founds self.new) result) (Self.seen self.new) };
+
+    /// The place at which what such a look-up finds stands until the next call, where that is
+    /// known without a look at any object, whatever the budget is. It takes no memory.
+    fn known_method(&self, frame: &Frame, receiver: &Value, selector: &Text) -> Option<usize>
+        ensures { IfSome result (λ at. (budget : Budget)
+            → Does (find_method false frame.now receiver.now selector.now)
+            (with_budget budget (Self.seen self.now)) (Ok (held_at (founds self.now) at))
+            (with_budget budget (Self.seen self.now))) };
 
     /// The method that was found and stands at a place. It takes no memory.
     fn found(&self, at: usize) -> Option<&Found>
@@ -60,6 +69,10 @@ impl<O: Objects> FindsMethods for KnownObjects<O, SharedCode> {
         selector: &Text,
     ) -> Result<usize, Stop> {
         KnownObjects::find_method(self, frame, receiver, selector)
+    }
+
+    fn known_method(&self, frame: &Frame, receiver: &Value, selector: &Text) -> Option<usize> {
+        KnownObjects::known_method(self, frame, receiver, selector)
     }
 
     fn found(&self, at: usize) -> Option<&Found> {

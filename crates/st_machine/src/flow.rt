@@ -2,15 +2,33 @@
 
 use gem_object::Value;
 
-/// What an instruction leads to, where it doesn't stop the run.
+/// What an instruction leads to that sends, makes an object or a block, asks for a name or ends,
+/// where it doesn't stop the run.
 #[derive(Debug, Drop)]
 pub(crate) enum Flow {
     /// The instruction at this place, further on.
     Goes(usize),
-    /// The same after a jump back.
-    Jumps(usize),
     /// The part ends with this answer.
     Leaves(Value),
+    /// It couldn't be carried out. No code that was compiled comes to this.
+    Stuck,
+}
+
+/// What an instruction leads to that needs no more than the receiver, the stack, the scopes with
+/// their variables, units and what is remembered. It is small, so that the loop of the machine goes
+/// on at once.
+#[derive(Clone, Copy, Debug)]
+pub(crate) enum Turn {
+    /// The instruction at this place, further on.
+    Goes(usize),
+    /// The same after a jump back.
+    Jumps(usize),
+    /// The run fails: E3.
+    NotBoolean,
+    /// The run fails: E5.
+    ArgumentKind,
+    /// The run fails: E13.
+    NoUnit,
     /// It couldn't be carried out. No code that was compiled comes to this.
     Stuck,
 }

@@ -11,6 +11,7 @@ mod conditions;
 mod finds;
 mod flow;
 mod jumps;
+mod known;
 mod layers;
 mod leaving;
 mod locals;
@@ -25,6 +26,8 @@ mod returns;
 mod scopes;
 mod shared_code;
 mod target;
+mod turns;
+mod units;
 
 pub use cache::CodeCache;
 pub use chunk::run_chunk;

@@ -17,30 +17,28 @@ ghost use Rattle.running_objects.specs.Seen.{Keeps};
 ghost use Rattle.running_objects.specs.Ran.{Ran};
 ghost use Rattle.st_compiler.specs.TreeCode.{send_op};
 ghost use Rattle.st_compiler.specs.Emitted.{instruction_of, instructions};
-ghost use Rattle.st_machine.specs.Led.{LedBy, IsForward};
+ghost use Rattle.st_machine.specs.Led.{LedBy, IsForward, IsAsked};
 ghost use Rattle.st_machine.specs.Parts.{table_of, HasPart, part_run, framed};
 ghost use Rattle.st_machine.specs.Targets.{IsCallable, call_of};
 
 use crate::border::{primitive, take_unit};
 use crate::cache::CodeCache;
 use crate::code_block::CodeBlock;
-use crate::conditions::jump_unless;
 use crate::finds::FindsMethods;
-use crate::flow::Flow;
-use crate::jumps::{jump, jump_back, spend_unit};
+use crate::flow::{Flow, Turn};
 use crate::layers::Layers;
 use crate::leaving::{leave_block, leave_method};
 use crate::locals::Locals;
-use crate::loops::{loop_next, loop_start, loop_step};
-use crate::names::{push_block, push_local, push_name, store_local, store_name};
+use crate::names::{push_block, push_name, store_name};
 use crate::outline::Outline;
 use crate::places::next_of;
-use crate::pushes::{duplicate, make_literal, pop, push_self, push_singleton, push_value};
+use crate::pushes::make_literal;
 use crate::quick::{answer_quickly, quick_instr};
 use crate::returns::{return_block, return_home, return_method};
-use crate::scopes::{enter, leave, put_scopes};
+use crate::scopes::put_scopes;
 use crate::shared_code::{Part, SharedCode};
 use crate::target::{Target, target_of};
+use crate::turns::turn;
 use gem_object::Value;
 use gem_value::Oid;
 use object_programs::Fault;
@@ -49,7 +47,7 @@ use running_objects::Stop;
 use st_compiler::Instr;
 use std::alloc::Global;
 use texts::Text;
-use tree_meaning::{Mark, Singleton};
+use tree_meaning::Mark;
 
 /// Runs a part of a text, from its first instruction to its end. The activation that runs has
 /// nothing on the stack yet.
@@ -80,24 +78,44 @@ pub(crate) fn execute<O: FindsMethods>(
         let Some(instr) = instr_at(instrs, at) else {
             unreachable!()
         };
-        let led = step(
-            alloc, objects, locals, stack, chain, cache, frame, code, instr, at, depth,
+        let turned = turn(
+            alloc, objects, locals, stack, chain, frame, code, instr, at, depth,
         );
-        let flow = match led {
-            Ok(flow) => flow,
-            Err(stop) => return Err(stop),
-        };
-        match flow {
-            Flow::Goes(place) => at = place,
-            Flow::Jumps(place) => {
-                let Some(more) = jumps.checked_add(1) else {
-                    return Err(Stop::NoMemory);
+        match turned {
+            None => {
+                let led = step(
+                    alloc, objects, locals, stack, chain, cache, frame, code, instr, at, depth,
+                );
+                let flow = match led {
+                    Ok(flow) => flow,
+                    Err(stop) => return Err(stop),
                 };
-                jumps = more;
-                at = place;
+                match flow {
+                    Flow::Goes(place) => at = place,
+                    Flow::Leaves(answer) => return Ok(answer),
+                    Flow::Stuck => unreachable!(),
+                }
             }
-            Flow::Leaves(answer) => return Ok(answer),
-            Flow::Stuck => unreachable!(),
+            Some(done) => {
+                let turn = match done {
+                    Ok(turn) => turn,
+                    Err(_) => return Err(Stop::NoMemory),
+                };
+                match turn {
+                    Turn::Goes(place) => at = place,
+                    Turn::Jumps(place) => {
+                        let Some(more) = jumps.checked_add(1) else {
+                            return Err(Stop::NoMemory);
+                        };
+                        jumps = more;
+                        at = place;
+                    }
+                    Turn::NotBoolean => return Err(Stop::Fails(Fault::NotBoolean)),
+                    Turn::ArgumentKind => return Err(Stop::Fails(Fault::ArgumentKind)),
+                    Turn::NoUnit => return Err(Stop::Fails(Fault::SendBudget)),
+                    Turn::Stuck => unreachable!(),
+                }
+            }
         }
     }
 }
@@ -111,7 +129,7 @@ fn instr_at(instrs: &[Instr], at: usize) -> Option<&Instr>
     instrs.get(at)
 }
 
-/// Carries out one instruction.
+/// Carries out an instruction that `turn` leaves.
 #[cycle(machine)]
 fn step<O: FindsMethods>(
     alloc: Global,
@@ -126,6 +144,7 @@ fn step<O: FindsMethods>(
     at: usize,
     depth: u32,
 ) -> Result<Flow, Stop>
+    requires { IsAsked (instruction_of instr.now) }
     ensures keeps { Keeps (O.seen objects.old) (O.seen objects.new) }
     ensures led { LedBy (outside depth) (table_of code.now) (instruction_of instr.now) at
         stack.old.own chain.old.own frame.now (O.seen objects.old) locals.old result stack.new.own
@@ -135,51 +154,8 @@ fn step<O: FindsMethods>(
     ensures chain { chain.new.below ≡ chain.old.below }
 {
     match instr {
-        Instr::PushSelf => push_self(objects, locals, stack, chain, frame, code, at, depth),
-        Instr::PushNil => push_singleton(
-            objects,
-            locals,
-            stack,
-            chain,
-            frame,
-            code,
-            Singleton::Nil,
-            at,
-            depth,
-        ),
-        Instr::PushTrue => push_singleton(
-            objects,
-            locals,
-            stack,
-            chain,
-            frame,
-            code,
-            Singleton::True,
-            at,
-            depth,
-        ),
-        Instr::PushFalse => push_singleton(
-            objects,
-            locals,
-            stack,
-            chain,
-            frame,
-            code,
-            Singleton::False,
-            at,
-            depth,
-        ),
-        Instr::PushLit(value) => {
-            push_value(objects, locals, stack, chain, frame, code, value, at, depth)
-        }
         Instr::MakeLit(tree) => make_literal(
             alloc, objects, locals, stack, chain, frame, code, tree, at, depth,
-        ),
-        Instr::PushLocal(scope, index) => push_local(
-            objects, locals, stack, chain, frame, code, *scope, *index, at, depth,
-        ),
-        Instr::StoreLocal(scope, index) => store_local(
-            objects, locals, stack, chain, frame, code, *scope, *index, at, depth,
         ),
         Instr::PushName(name) => {
             push_name(objects, locals, stack, chain, frame, code, name, at, depth)
@@ -187,8 +163,6 @@ fn step<O: FindsMethods>(
         Instr::StoreName(name) => {
             store_name(objects, locals, stack, chain, frame, code, name, at, depth)
         }
-        Instr::Pop => pop(objects, locals, stack, chain, frame, code, at, depth),
-        Instr::Dup => duplicate(objects, locals, stack, chain, frame, code, at, depth),
         Instr::Send(selector, count) => send(
             alloc, objects, locals, stack, chain, cache, frame, code, false, selector, *count, at,
             depth,
@@ -203,32 +177,7 @@ fn step<O: FindsMethods>(
         Instr::ReturnMethod => return_method(objects, locals, stack, chain, frame, code, at, depth),
         Instr::ReturnHome => return_home(objects, locals, stack, chain, frame, code, at, depth),
         Instr::ReturnBlock => return_block(objects, locals, stack, chain, frame, code, at, depth),
-        Instr::Jump(ahead) => jump(
-            objects, locals, stack, chain, frame, code, *ahead, at, depth,
-        ),
-        Instr::JumpBack(back) => {
-            jump_back(objects, locals, stack, chain, frame, code, *back, at, depth)
-        }
-        Instr::JumpTrue(ahead) => jump_unless(
-            objects, locals, stack, chain, frame, code, false, *ahead, at, depth,
-        ),
-        Instr::JumpFalse(ahead) => jump_unless(
-            objects, locals, stack, chain, frame, code, true, *ahead, at, depth,
-        ),
-        Instr::TakeUnit => spend_unit(objects, locals, stack, chain, frame, code, at, depth),
-        Instr::Enter(count) => enter(
-            alloc, objects, locals, stack, chain, frame, code, *count, at, depth,
-        ),
-        Instr::Leave => leave(objects, locals, stack, chain, frame, code, at, depth),
-        Instr::LoopStart => loop_start(objects, locals, stack, chain, frame, code, at, depth),
-        Instr::LoopNext(ahead) => {
-            loop_next(
-                objects, locals, stack, chain, frame, code, *ahead, at, depth,
-            )
-        }
-        Instr::LoopStep(back) => {
-            loop_step(objects, locals, stack, chain, frame, code, *back, at, depth)
-        }
+        _ => unreachable!(),
     }
 }
 

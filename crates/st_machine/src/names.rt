@@ -3,12 +3,12 @@ ghost use Rattle.std.specs.Prelude.{◌≡◌, IfOk};
 ghost use Rattle.gem_language.specs.Sends.{outside};
 ghost use Rattle.running_objects.specs.Seen.{Keeps};
 ghost use Rattle.st_compiler.specs.Instruction.{PushLocal, StoreLocal, PushName, StoreName, PushBlock};
-ghost use Rattle.st_machine.specs.Led.{LedBy, IsForward};
+ghost use Rattle.st_machine.specs.Led.{LedBy, IsForward, TurnedBy, TurnsForward};
 ghost use Rattle.st_machine.specs.Parts.{table_of};
 
 use crate::border::{read_name, write_name};
 use crate::code_block::CodeBlock;
-use crate::flow::Flow;
+use crate::flow::{Flow, Turn};
 use crate::layers::Layers;
 use crate::locals::Locals;
 use crate::outline::Outline;
@@ -34,16 +34,16 @@ pub(crate) fn push_local<O: Objects>(
     index: usize,
     place: usize,
     depth: u32,
-) -> Result<Flow, Stop>
-    ensures led { LedBy (outside depth) (table_of code.now) (PushLocal scope index) place
+) -> Result<Turn, AllocError>
+    ensures led { TurnedBy (outside depth) (table_of code.now) (PushLocal scope index) place
         stack.old.own chain.now.own frame.now (O.seen objects.now) locals.now result stack.new.own
         chain.now.own (O.seen objects.now) locals.now }
-    ensures forward { IfOk result (IsForward place) }
+    ensures forward { IfOk result (TurnsForward place) }
     ensures stack { stack.new.below ≡ stack.old.below }
 {
     let value = locals.value(scope_number(chain, scope), index)?;
     stack.push(value)?;
-    Ok(Flow::Goes(next_of(place)?))
+    Ok(Turn::Goes(next_of(place)?))
 }
 
 /// Stores the uppermost value in a variable, and leaves it.
@@ -59,17 +59,17 @@ pub(crate) fn store_local<O: Objects>(
     index: usize,
     place: usize,
     depth: u32,
-) -> Result<Flow, Stop>
-    ensures led { LedBy (outside depth) (table_of code.now) (StoreLocal scope index) place
+) -> Result<Turn, AllocError>
+    ensures led { TurnedBy (outside depth) (table_of code.now) (StoreLocal scope index) place
         stack.now.own chain.now.own frame.now (O.seen objects.now) locals.old result stack.now.own
         chain.now.own (O.seen objects.now) locals.new }
-    ensures forward { IfOk result (IsForward place) }
+    ensures forward { IfOk result (TurnsForward place) }
 {
     let Some(top) = stack.item(0) else {
-        return Ok(Flow::Stuck);
+        return Ok(Turn::Stuck);
     };
     locals.set_value(scope_number(chain, scope), index, top.clone()?);
-    Ok(Flow::Goes(next_of(place)?))
+    Ok(Turn::Goes(next_of(place)?))
 }
 
 /// Puts what a name out of scope stands for.

@@ -4,12 +4,12 @@ ghost use Rattle.gem_language.specs.Sends.{outside};
 ghost use Rattle.running_objects.specs.Seen.{Keeps};
 ghost use Rattle.st_compiler.specs.Instruction.{PushSelf, PushLit, MakeLit, Pop, Dup};
 ghost use Rattle.st_compiler.specs.TreeCode.{singleton_op};
-ghost use Rattle.st_machine.specs.Led.{LedBy, IsForward};
+ghost use Rattle.st_machine.specs.Led.{LedBy, IsForward, TurnedBy, TurnsForward};
 ghost use Rattle.st_machine.specs.Parts.{table_of};
 ghost use Rattle.st_tree.specs.Views.{constant_of};
 
 use crate::border::literal;
-use crate::flow::Flow;
+use crate::flow::{Flow, Turn};
 use crate::layers::Layers;
 use crate::locals::Locals;
 use crate::outline::Outline;
@@ -19,7 +19,7 @@ use gem_object::Value;
 use running_objects::{Objects, Stop};
 use st_locals::singleton_value;
 use st_tree::Literal;
-use std::alloc::Global;
+use std::alloc::{AllocError, Global};
 use tree_meaning::{Mark, Singleton};
 
 /// Puts the receiver.
@@ -32,15 +32,15 @@ pub(crate) fn push_self<O: Objects>(
     code: &SharedCode,
     place: usize,
     depth: u32,
-) -> Result<Flow, Stop>
-    ensures led { LedBy (outside depth) (table_of code.now) PushSelf place stack.old.own
+) -> Result<Turn, AllocError>
+    ensures led { TurnedBy (outside depth) (table_of code.now) PushSelf place stack.old.own
         chain.now.own frame.now (O.seen objects.now) locals.now result stack.new.own chain.now.own
         (O.seen objects.now) locals.now }
-    ensures forward { IfOk result (IsForward place) }
+    ensures forward { IfOk result (TurnsForward place) }
     ensures stack { stack.new.below ≡ stack.old.below }
 {
     stack.push(frame.receiver().clone()?)?;
-    Ok(Flow::Goes(next_of(place)?))
+    Ok(Turn::Goes(next_of(place)?))
 }
 
 /// Puts nil, true or false.
@@ -54,15 +54,15 @@ pub(crate) fn push_singleton<O: Objects>(
     singleton: Singleton,
     place: usize,
     depth: u32,
-) -> Result<Flow, Stop>
-    ensures led { LedBy (outside depth) (table_of code.now) (singleton_op singleton) place
+) -> Result<Turn, AllocError>
+    ensures led { TurnedBy (outside depth) (table_of code.now) (singleton_op singleton) place
         stack.old.own chain.now.own frame.now (O.seen objects.now) locals.now result stack.new.own
         chain.now.own (O.seen objects.now) locals.now }
-    ensures forward { IfOk result (IsForward place) }
+    ensures forward { IfOk result (TurnsForward place) }
     ensures stack { stack.new.below ≡ stack.old.below }
 {
     stack.push(singleton_value(singleton))?;
-    Ok(Flow::Goes(next_of(place)?))
+    Ok(Turn::Goes(next_of(place)?))
 }
 
 /// Puts a value.
@@ -76,15 +76,15 @@ pub(crate) fn push_value<O: Objects>(
     value: &Value,
     place: usize,
     depth: u32,
-) -> Result<Flow, Stop>
-    ensures led { LedBy (outside depth) (table_of code.now) (PushLit value.now) place stack.old.own
-        chain.now.own frame.now (O.seen objects.now) locals.now result stack.new.own chain.now.own
-        (O.seen objects.now) locals.now }
-    ensures forward { IfOk result (IsForward place) }
+) -> Result<Turn, AllocError>
+    ensures led { TurnedBy (outside depth) (table_of code.now) (PushLit value.now) place
+        stack.old.own chain.now.own frame.now (O.seen objects.now) locals.now result stack.new.own
+        chain.now.own (O.seen objects.now) locals.now }
+    ensures forward { IfOk result (TurnsForward place) }
     ensures stack { stack.new.below ≡ stack.old.below }
 {
     stack.push(value.clone()?)?;
-    Ok(Flow::Goes(next_of(place)?))
+    Ok(Turn::Goes(next_of(place)?))
 }
 
 /// Puts the new object of a string or an array.
@@ -122,17 +122,17 @@ pub(crate) fn pop<O: Objects>(
     code: &SharedCode,
     place: usize,
     depth: u32,
-) -> Result<Flow, Stop>
-    ensures led { LedBy (outside depth) (table_of code.now) Pop place stack.old.own chain.now.own
+) -> Result<Turn, AllocError>
+    ensures led { TurnedBy (outside depth) (table_of code.now) Pop place stack.old.own chain.now.own
         frame.now (O.seen objects.now) locals.now result stack.new.own chain.now.own (O.seen
         objects.now) locals.now }
-    ensures forward { IfOk result (IsForward place) }
+    ensures forward { IfOk result (TurnsForward place) }
     ensures stack { stack.new.below ≡ stack.old.below }
 {
     let Some(_) = stack.pop() else {
-        return Ok(Flow::Stuck);
+        return Ok(Turn::Stuck);
     };
-    Ok(Flow::Goes(next_of(place)?))
+    Ok(Turn::Goes(next_of(place)?))
 }
 
 /// Puts the uppermost value again.
@@ -145,17 +145,17 @@ pub(crate) fn duplicate<O: Objects>(
     code: &SharedCode,
     place: usize,
     depth: u32,
-) -> Result<Flow, Stop>
-    ensures led { LedBy (outside depth) (table_of code.now) Dup place stack.old.own chain.now.own
+) -> Result<Turn, AllocError>
+    ensures led { TurnedBy (outside depth) (table_of code.now) Dup place stack.old.own chain.now.own
         frame.now (O.seen objects.now) locals.now result stack.new.own chain.now.own (O.seen
         objects.now) locals.now }
-    ensures forward { IfOk result (IsForward place) }
+    ensures forward { IfOk result (TurnsForward place) }
     ensures stack { stack.new.below ≡ stack.old.below }
 {
     let Some(top) = stack.item(0) else {
-        return Ok(Flow::Stuck);
+        return Ok(Turn::Stuck);
     };
     let copy = top.clone()?;
     stack.push(copy)?;
-    Ok(Flow::Goes(next_of(place)?))
+    Ok(Turn::Goes(next_of(place)?))
 }

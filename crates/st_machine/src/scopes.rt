@@ -2,18 +2,18 @@
 ghost use Rattle.std.specs.Prelude.{◌≡◌, ◌∷◌, ◌++◌, get_or, reverse, IfOk, OnOk};
 ghost use Rattle.gem_language.specs.Sends.{outside};
 ghost use Rattle.st_compiler.specs.Instruction.{Enter, Leave};
-ghost use Rattle.st_machine.specs.Led.{LedBy, IsForward};
+ghost use Rattle.st_machine.specs.Led.{TurnedBy, TurnsForward};
 ghost use Rattle.st_machine.specs.Parts.{table_of};
 ghost use Rattle.tree_meaning.specs.Scopes.{no_mark};
 
-use crate::flow::Flow;
+use crate::flow::Turn;
 use crate::layers::Layers;
 use crate::locals::Locals;
 use crate::outline::Outline;
 use crate::places::next_of;
 use crate::shared_code::SharedCode;
 use gem_object::Value;
-use running_objects::{Objects, Stop};
+use running_objects::Objects;
 use std::alloc::{AllocError, Global};
 use tree_meaning::Mark;
 
@@ -54,17 +54,17 @@ pub(crate) fn enter<O: Objects>(
     count: usize,
     place: usize,
     depth: u32,
-) -> Result<Flow, Stop>
-    ensures led { LedBy (outside depth) (table_of code.now) (Enter count) place stack.now.own
+) -> Result<Turn, AllocError>
+    ensures led { TurnedBy (outside depth) (table_of code.now) (Enter count) place stack.now.own
         chain.old.own frame.now (O.seen objects.now) locals.old result stack.now.own chain.new.own
         (O.seen objects.now) locals.new }
-    ensures forward { IfOk result (IsForward place) }
+    ensures forward { IfOk result (TurnsForward place) }
     ensures chain { chain.new.below ≡ chain.old.below }
 {
     let mark = locals.mark();
     locals.open_scope(Vec::new(alloc), count)?;
     chain.push(mark)?;
-    Ok(Flow::Goes(next_of(place)?))
+    Ok(Turn::Goes(next_of(place)?))
 }
 
 /// Closes the innermost scope.
@@ -77,16 +77,16 @@ pub(crate) fn leave<O: Objects>(
     code: &SharedCode,
     place: usize,
     depth: u32,
-) -> Result<Flow, Stop>
-    ensures led { LedBy (outside depth) (table_of code.now) Leave place stack.now.own chain.old.own
-        frame.now (O.seen objects.now) locals.old result stack.now.own chain.new.own (O.seen
-        objects.now) locals.new }
-    ensures forward { IfOk result (IsForward place) }
+) -> Result<Turn, AllocError>
+    ensures led { TurnedBy (outside depth) (table_of code.now) Leave place stack.now.own
+        chain.old.own frame.now (O.seen objects.now) locals.old result stack.now.own chain.new.own
+        (O.seen objects.now) locals.new }
+    ensures forward { IfOk result (TurnsForward place) }
     ensures chain { chain.new.below ≡ chain.old.below }
 {
     let Some(mark) = chain.pop() else {
-        return Ok(Flow::Stuck);
+        return Ok(Turn::Stuck);
     };
     locals.give_back(mark);
-    Ok(Flow::Goes(next_of(place)?))
+    Ok(Turn::Goes(next_of(place)?))
 }

@@ -6,6 +6,8 @@ use Rattle.tree_meaning.specs.Bodies.{temps_count, method_body, block_body}
 use Rattle.tree_meaning.specs.declared.place.Mark.{Mark}
 use Rattle.gem_language.specs.Commands.{selector_of}
 use Rattle.gem_language.specs.Sends.{outside}
+use Rattle.object_programs.specs.declared.fault.Fault.TheVariants as fault
+use Rattle.running_objects.specs.declared.stop.Stop.TheVariants as stop
 use Rattle.st_compiler.specs.Instruction.{Instruction}
 use Rattle.st_compiler.specs.Emitted.{instruction_of}
 use Rattle.st_plain.proofs.Activations.{activation_ran, evaluation_ran, method_ran, made_ran}
@@ -14,7 +16,7 @@ use Rattle.st_machine.specs.Parts.{table_of, part_code, part_run, framed}
 use Rattle.st_machine.proofs.Ends.{receiver_is, rest_is, never_empty, whatever}
 use Rattle.st_machine.proofs.Outlines.{method_framed, block_framed, method_ran_by, block_ran_by}
 use Rattle.st_machine.proofs.PartRuns.{part_runs}
-use Rattle.st_machine.proofs.Standing.{stands_empty, stands_next, stands_back, stands_leaves, stands_stop, never_stuck, never_past}
+use Rattle.st_machine.proofs.Standing.{stands_empty, stands_left, stands_next, stands_back, stands_leaves, stands_stop, never_stuck, never_past}
 use Rattle.st_machine.proofs.Sent.{sent_answers, sent_stops}
 use Rattle.st_machine.proofs.machine.+machine.Goals as goal
 
@@ -108,41 +110,107 @@ execute-unreachable-requires g t c =
     c.run.invariant.standing
     (ap (λ (code : List Instruction). slice_get code c.run.at) (sym c.code_of-instrs.ensures) ∙ sym none)
 
-pub execute-run-preserved-in-Goes : goal.execute-run-preserved-in-Goes
-execute-run-preserved-in-Goes g t c = record {
+pub execute-run-preserved-in-Goes-turn : goal.execute-run-preserved-in-Goes-turn
+execute-run-preserved-in-Goes-turn g t c = record {
   standing = stands_next (outside c.args.depth) (table_of c.args.code.now) (part_code c.args.code.now c.args.part)
       (part_run (outside c.args.depth) c.args.code.now c.args.part (framed c.args.chain.now.own c.args.frame.now))
-      (g.O.Objects.seen c.args.objects.now) (g.O.Objects.seen c.run.objects) (g.O.Objects.seen c.step-led.new.objects)
-      c.args.locals.now c.run.locals c.step-led.new.locals c.run.at c.run.stack.own c.step-led.new.stack.own
-      c.run.chain.own c.step-led.new.chain.own c.args.frame.now c.run.invariant.standing
+      (g.O.Objects.seen c.args.objects.now) (g.O.Objects.seen c.run.objects) (g.O.Objects.seen c.turn-turned.new.objects)
+      c.args.locals.now c.run.locals c.turn-turned.new.locals c.run.at c.run.stack.own c.turn-turned.new.stack.own
+      c.run.chain.own c.turn-turned.new.chain.own c.args.frame.now c.run.invariant.standing
       (instruction_of c.in-Some.instr.now)
       (ap (λ (code : List Instruction). slice_get code c.run.at) (sym c.code_of-instrs.ensures) ∙ sym c.in-Some.ensures.is)
-      c.in-Ok.ensures.keeps c.in-Goes.place (rw c.in-Goes.is at c.in-Ok.ensures.led);
-  below = c.in-Ok.ensures.stack ∙ c.run.invariant.below;
-  outer = c.in-Ok.ensures.chain ∙ c.run.invariant.outer;
+      c.turn-turned.ensures.keeps c.in-Goes-turn.place (rw c.in-Goes-turn.is at (rw c.in-Ok-done.is at c.in-Some-turned.ensures.led));
+  below = c.turn-turned.ensures.stack ∙ c.run.invariant.below;
+  outer = c.turn-turned.ensures.chain ∙ c.run.invariant.outer;
 }
 
 pub execute-run-preserved : goal.execute-run-preserved
 execute-run-preserved g t c = record {
   standing = stands_back (outside c.args.depth) (table_of c.args.code.now) (part_code c.args.code.now c.args.part)
       (part_run (outside c.args.depth) c.args.code.now c.args.part (framed c.args.chain.now.own c.args.frame.now))
-      (g.O.Objects.seen c.args.objects.now) (g.O.Objects.seen c.run.objects) (g.O.Objects.seen c.step-led.new.objects)
-      c.args.locals.now c.run.locals c.step-led.new.locals c.run.at c.run.stack.own c.step-led.new.stack.own
-      c.run.chain.own c.step-led.new.chain.own c.args.frame.now c.run.invariant.standing
+      (g.O.Objects.seen c.args.objects.now) (g.O.Objects.seen c.run.objects) (g.O.Objects.seen c.turn-turned.new.objects)
+      c.args.locals.now c.run.locals c.turn-turned.new.locals c.run.at c.run.stack.own c.turn-turned.new.stack.own
+      c.run.chain.own c.turn-turned.new.chain.own c.args.frame.now c.run.invariant.standing
       (instruction_of c.in-Some.instr.now)
       (ap (λ (code : List Instruction). slice_get code c.run.at) (sym c.code_of-instrs.ensures) ∙ sym c.in-Some.ensures.is)
-      c.in-Ok.ensures.keeps c.in-Jumps.place (rw c.in-Jumps.is at c.in-Ok.ensures.led);
-  below = c.in-Ok.ensures.stack ∙ c.run.invariant.below;
-  outer = c.in-Ok.ensures.chain ∙ c.run.invariant.outer;
+      c.turn-turned.ensures.keeps c.in-Jumps.place (rw c.in-Jumps.is at (rw c.in-Ok-done.is at c.in-Some-turned.ensures.led));
+  below = c.turn-turned.ensures.stack ∙ c.run.invariant.below;
+  outer = c.turn-turned.ensures.chain ∙ c.run.invariant.outer;
+}
+
+pub execute-returns-in-NotBoolean-clause-ran : goal.execute-returns-in-NotBoolean-clause-ran
+execute-returns-in-NotBoolean-clause-ran g t c =
+    stands_stop (outside c.args.depth) (table_of c.args.code.now) (part_code c.args.code.now c.args.part)
+    (part_run (outside c.args.depth) c.args.code.now c.args.part (framed c.args.chain.now.own c.args.frame.now))
+    (g.O.Objects.seen c.args.objects.now) (g.O.Objects.seen c.run.objects) (g.O.Objects.seen c.turn-turned.new.objects)
+    c.args.locals.now c.run.locals c.turn-turned.new.locals c.run.at c.run.stack.own c.turn-turned.new.stack.own
+    c.run.chain.own c.turn-turned.new.chain.own c.args.frame.now c.run.invariant.standing
+    (instruction_of c.in-Some.instr.now)
+    (ap (λ (code : List Instruction). slice_get code c.run.at) (sym c.code_of-instrs.ensures) ∙ sym c.in-Some.ensures.is)
+    c.turn-turned.ensures.keeps (stop.Fails fault.NotBoolean) (rw c.in-NotBoolean.is at (rw c.in-Ok-done.is at c.in-Some-turned.ensures.led))
+
+pub execute-returns-in-ArgumentKind-clause-ran : goal.execute-returns-in-ArgumentKind-clause-ran
+execute-returns-in-ArgumentKind-clause-ran g t c =
+    stands_stop (outside c.args.depth) (table_of c.args.code.now) (part_code c.args.code.now c.args.part)
+    (part_run (outside c.args.depth) c.args.code.now c.args.part (framed c.args.chain.now.own c.args.frame.now))
+    (g.O.Objects.seen c.args.objects.now) (g.O.Objects.seen c.run.objects) (g.O.Objects.seen c.turn-turned.new.objects)
+    c.args.locals.now c.run.locals c.turn-turned.new.locals c.run.at c.run.stack.own c.turn-turned.new.stack.own
+    c.run.chain.own c.turn-turned.new.chain.own c.args.frame.now c.run.invariant.standing
+    (instruction_of c.in-Some.instr.now)
+    (ap (λ (code : List Instruction). slice_get code c.run.at) (sym c.code_of-instrs.ensures) ∙ sym c.in-Some.ensures.is)
+    c.turn-turned.ensures.keeps (stop.Fails fault.ArgumentKind) (rw c.in-ArgumentKind.is at (rw c.in-Ok-done.is at c.in-Some-turned.ensures.led))
+
+pub execute-returns-in-NoUnit-clause-ran : goal.execute-returns-in-NoUnit-clause-ran
+execute-returns-in-NoUnit-clause-ran g t c =
+    stands_stop (outside c.args.depth) (table_of c.args.code.now) (part_code c.args.code.now c.args.part)
+    (part_run (outside c.args.depth) c.args.code.now c.args.part (framed c.args.chain.now.own c.args.frame.now))
+    (g.O.Objects.seen c.args.objects.now) (g.O.Objects.seen c.run.objects) (g.O.Objects.seen c.turn-turned.new.objects)
+    c.args.locals.now c.run.locals c.turn-turned.new.locals c.run.at c.run.stack.own c.turn-turned.new.stack.own
+    c.run.chain.own c.turn-turned.new.chain.own c.args.frame.now c.run.invariant.standing
+    (instruction_of c.in-Some.instr.now)
+    (ap (λ (code : List Instruction). slice_get code c.run.at) (sym c.code_of-instrs.ensures) ∙ sym c.in-Some.ensures.is)
+    c.turn-turned.ensures.keeps (stop.Fails fault.SendBudget) (rw c.in-NoUnit.is at (rw c.in-Ok-done.is at c.in-Some-turned.ensures.led))
+
+pub execute-unreachable-requires-in-Stuck-turn : goal.execute-unreachable-requires-in-Stuck-turn
+execute-unreachable-requires-in-Stuck-turn g t c =
+    never_stuck (outside c.args.depth) (table_of c.args.code.now) (part_code c.args.code.now c.args.part)
+    (part_run (outside c.args.depth) c.args.code.now c.args.part (framed c.args.chain.now.own c.args.frame.now))
+    (g.O.Objects.seen c.args.objects.now) (g.O.Objects.seen c.run.objects) (g.O.Objects.seen c.turn-turned.new.objects)
+    c.args.locals.now c.run.locals c.turn-turned.new.locals c.run.at c.run.stack.own c.turn-turned.new.stack.own
+    c.run.chain.own c.turn-turned.new.chain.own c.args.frame.now c.run.invariant.standing
+    (instruction_of c.in-Some.instr.now)
+    (ap (λ (code : List Instruction). slice_get code c.run.at) (sym c.code_of-instrs.ensures) ∙ sym c.in-Some.ensures.is)
+    c.turn-turned.ensures.keeps (rw c.in-Stuck-turn.is at (rw c.in-Ok-done.is at c.in-Some-turned.ensures.led))
+
+pub execute-run-preserved-in-Goes : goal.execute-run-preserved-in-Goes
+execute-run-preserved-in-Goes g t c = record {
+  standing = stands_next (outside c.args.depth) (table_of c.args.code.now) (part_code c.args.code.now c.args.part)
+      (part_run (outside c.args.depth) c.args.code.now c.args.part (framed c.args.chain.now.own c.args.frame.now))
+      (g.O.Objects.seen c.args.objects.now) (g.O.Objects.seen c.turn-turned.new.objects) (g.O.Objects.seen c.step-led.new.objects)
+      c.args.locals.now c.turn-turned.new.locals c.step-led.new.locals c.run.at c.turn-turned.new.stack.own
+      c.step-led.new.stack.own c.turn-turned.new.chain.own c.step-led.new.chain.own c.args.frame.now
+      (stands_left (outside c.args.depth) (table_of c.args.code.now) (part_code c.args.code.now c.args.part)
+      (part_run (outside c.args.depth) c.args.code.now c.args.part (framed c.args.chain.now.own c.args.frame.now))
+      (g.O.Objects.seen c.args.objects.now) c.args.locals.now c.run.at c.args.frame.now c.in-None.ensures.seen
+      c.in-None.ensures.own c.in-None.ensures.scopes c.in-None.ensures.locals c.run.invariant.standing)
+      (instruction_of c.in-Some.instr.now)
+      (ap (λ (code : List Instruction). slice_get code c.run.at) (sym c.code_of-instrs.ensures) ∙ sym c.in-Some.ensures.is)
+      c.in-Ok.ensures.keeps c.in-Goes.place (rw c.in-Goes.is at c.in-Ok.ensures.led);
+  below = c.in-Ok.ensures.stack ∙ (c.in-None.ensures.stack ∙ c.run.invariant.below);
+  outer = c.in-Ok.ensures.chain ∙ (c.in-None.ensures.chain ∙ c.run.invariant.outer);
 }
 
 pub execute-returns-in-Err-clause-ran : goal.execute-returns-in-Err-clause-ran
 execute-returns-in-Err-clause-ran g t c =
     stands_stop (outside c.args.depth) (table_of c.args.code.now) (part_code c.args.code.now c.args.part)
     (part_run (outside c.args.depth) c.args.code.now c.args.part (framed c.args.chain.now.own c.args.frame.now))
-    (g.O.Objects.seen c.args.objects.now) (g.O.Objects.seen c.run.objects) (g.O.Objects.seen c.step-led.new.objects)
-    c.args.locals.now c.run.locals c.step-led.new.locals c.run.at c.run.stack.own c.step-led.new.stack.own
-    c.run.chain.own c.step-led.new.chain.own c.args.frame.now c.run.invariant.standing
+    (g.O.Objects.seen c.args.objects.now) (g.O.Objects.seen c.turn-turned.new.objects) (g.O.Objects.seen c.step-led.new.objects)
+    c.args.locals.now c.turn-turned.new.locals c.step-led.new.locals c.run.at c.turn-turned.new.stack.own
+    c.step-led.new.stack.own c.turn-turned.new.chain.own c.step-led.new.chain.own c.args.frame.now
+    (stands_left (outside c.args.depth) (table_of c.args.code.now) (part_code c.args.code.now c.args.part)
+    (part_run (outside c.args.depth) c.args.code.now c.args.part (framed c.args.chain.now.own c.args.frame.now))
+    (g.O.Objects.seen c.args.objects.now) c.args.locals.now c.run.at c.args.frame.now c.in-None.ensures.seen
+    c.in-None.ensures.own c.in-None.ensures.scopes c.in-None.ensures.locals c.run.invariant.standing)
     (instruction_of c.in-Some.instr.now)
     (ap (λ (code : List Instruction). slice_get code c.run.at) (sym c.code_of-instrs.ensures) ∙ sym c.in-Some.ensures.is)
     c.in-Err.ensures.keeps c.in-Err.stop c.in-Err.ensures.led
@@ -151,9 +219,13 @@ pub execute-returns-in-Leaves-clause-ran : goal.execute-returns-in-Leaves-clause
 execute-returns-in-Leaves-clause-ran g t c =
     stands_leaves (outside c.args.depth) (table_of c.args.code.now) (part_code c.args.code.now c.args.part)
     (part_run (outside c.args.depth) c.args.code.now c.args.part (framed c.args.chain.now.own c.args.frame.now))
-    (g.O.Objects.seen c.args.objects.now) (g.O.Objects.seen c.run.objects) (g.O.Objects.seen c.step-led.new.objects)
-    c.args.locals.now c.run.locals c.step-led.new.locals c.run.at c.run.stack.own c.step-led.new.stack.own
-    c.run.chain.own c.step-led.new.chain.own c.args.frame.now c.run.invariant.standing
+    (g.O.Objects.seen c.args.objects.now) (g.O.Objects.seen c.turn-turned.new.objects) (g.O.Objects.seen c.step-led.new.objects)
+    c.args.locals.now c.turn-turned.new.locals c.step-led.new.locals c.run.at c.turn-turned.new.stack.own
+    c.step-led.new.stack.own c.turn-turned.new.chain.own c.step-led.new.chain.own c.args.frame.now
+    (stands_left (outside c.args.depth) (table_of c.args.code.now) (part_code c.args.code.now c.args.part)
+    (part_run (outside c.args.depth) c.args.code.now c.args.part (framed c.args.chain.now.own c.args.frame.now))
+    (g.O.Objects.seen c.args.objects.now) c.args.locals.now c.run.at c.args.frame.now c.in-None.ensures.seen
+    c.in-None.ensures.own c.in-None.ensures.scopes c.in-None.ensures.locals c.run.invariant.standing)
     (instruction_of c.in-Some.instr.now)
     (ap (λ (code : List Instruction). slice_get code c.run.at) (sym c.code_of-instrs.ensures) ∙ sym c.in-Some.ensures.is)
     c.in-Ok.ensures.keeps c.in-Leaves.answer (rw c.in-Leaves.is at c.in-Ok.ensures.led)
@@ -162,9 +234,13 @@ pub execute-unreachable-requires-in-Stuck : goal.execute-unreachable-requires-in
 execute-unreachable-requires-in-Stuck g t c =
     never_stuck (outside c.args.depth) (table_of c.args.code.now) (part_code c.args.code.now c.args.part)
     (part_run (outside c.args.depth) c.args.code.now c.args.part (framed c.args.chain.now.own c.args.frame.now))
-    (g.O.Objects.seen c.args.objects.now) (g.O.Objects.seen c.run.objects) (g.O.Objects.seen c.step-led.new.objects)
-    c.args.locals.now c.run.locals c.step-led.new.locals c.run.at c.run.stack.own c.step-led.new.stack.own
-    c.run.chain.own c.step-led.new.chain.own c.args.frame.now c.run.invariant.standing
+    (g.O.Objects.seen c.args.objects.now) (g.O.Objects.seen c.turn-turned.new.objects) (g.O.Objects.seen c.step-led.new.objects)
+    c.args.locals.now c.turn-turned.new.locals c.step-led.new.locals c.run.at c.turn-turned.new.stack.own
+    c.step-led.new.stack.own c.turn-turned.new.chain.own c.step-led.new.chain.own c.args.frame.now
+    (stands_left (outside c.args.depth) (table_of c.args.code.now) (part_code c.args.code.now c.args.part)
+    (part_run (outside c.args.depth) c.args.code.now c.args.part (framed c.args.chain.now.own c.args.frame.now))
+    (g.O.Objects.seen c.args.objects.now) c.args.locals.now c.run.at c.args.frame.now c.in-None.ensures.seen
+    c.in-None.ensures.own c.in-None.ensures.scopes c.in-None.ensures.locals c.run.invariant.standing)
     (instruction_of c.in-Some.instr.now)
     (ap (λ (code : List Instruction). slice_get code c.run.at) (sym c.code_of-instrs.ensures) ∙ sym c.in-Some.ensures.is)
     c.in-Ok.ensures.keeps (rw c.in-Stuck.is at c.in-Ok.ensures.led)

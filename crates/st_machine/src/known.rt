@@ -1,0 +1,153 @@
+//! Messages whose answers are known: the method that answers is remembered with its code, and it
+//! answers by one push that asks no objects.
+ghost use Rattle.std.specs.Prelude.{◌≡◌, ◌<◌, ◌∷◌, true, false, suc, length, get_or, take, drop, IfOk, IfSome, IfNone};
+ghost use Rattle.gem_object.specs.declared.value.Value.TheVariants.{Nil};
+ghost use Rattle.object_programs.specs.Budget.{Budget};
+ghost use Rattle.gem_language.specs.Sends.{outside, callee};
+ghost use Rattle.running_objects.specs.Seen.{Keeps};
+ghost use Rattle.look_up_cache.specs.Memory.{with_budget};
+ghost use Rattle.look_up_cache.specs.Table.{held_at};
+ghost use Rattle.st_compiler.specs.Emitted.{instruction_of};
+ghost use Rattle.st_compiler.specs.Instruction.{Send};
+ghost use Rattle.st_machine.specs.Led.{TurnedBy, TurnsForward};
+ghost use Rattle.st_machine.specs.Parts.{framed, table_of};
+ghost use Rattle.st_machine.specs.Quick.{constant_put, Replaced, AnswersQuickly};
+ghost use Rattle.st_machine.specs.Targets.{found_by, Answered};
+
+use crate::border::known_place;
+use crate::finds::FindsMethods;
+use crate::flow::Turn;
+use crate::layers::Layers;
+use crate::locals::Locals;
+use crate::outline::Outline;
+use crate::quick::quick_instr;
+use crate::shared_code::SharedCode;
+use crate::units::spend_unit;
+use gem_object::{MethodCode, Value};
+use st_compiler::Instr;
+use std::alloc::AllocError;
+use texts::Text;
+use tree_meaning::Mark;
+
+/// Sends a message with so many arguments, where its answer is known. None where it isn't: then all
+/// is as before. It takes no memory, but for the copy of a symbol.
+pub(crate) fn send_known<O: FindsMethods>(
+    objects: &mut O,
+    locals: &Locals,
+    stack: &mut Layers<Value>,
+    chain: &Layers<Mark>,
+    frame: &Outline,
+    code: &SharedCode,
+    selector: &Text,
+    count: usize,
+    place: usize,
+    depth: u32,
+) -> Option<Result<Turn, AllocError>>
+    ensures keeps { Keeps (O.seen objects.old) (O.seen objects.new) }
+    ensures led { IfSome result (λ turned. TurnedBy (outside depth) (table_of code.now)
+        (Send selector.now count) place stack.old.own chain.now.own frame.now (O.seen objects.old)
+        locals.now turned stack.new.own chain.now.own (O.seen objects.new) locals.now) }
+    ensures forward { IfSome result (λ turned. IfOk turned (TurnsForward place)) }
+    ensures seen { IfNone result (O.seen objects.new ≡ O.seen objects.old) }
+    ensures own { IfNone result (stack.new.own ≡ stack.old.own) }
+    ensures below { stack.new.below ≡ stack.old.below }
+{
+    if stack.height() <= count {
+        return None;
+    }
+    if !answer_known(objects, locals, stack, chain, frame, selector, count, depth) {
+        return None;
+    }
+    Some(spend_unit(objects, place))
+}
+
+/// Puts the answer to a message in place of its receiver and of so many arguments, which stand on
+/// the stack above it, where the answer is known. Its unit isn't taken yet. Else false, and all is
+/// as before.
+fn answer_known<O: FindsMethods>(
+    objects: &O,
+    locals: &Locals,
+    stack: &mut Layers<Value>,
+    chain: &Layers<Mark>,
+    frame: &Outline,
+    selector: &Text,
+    count: usize,
+    depth: u32,
+) -> bool
+    requires { count < length stack.old.own }
+    ensures answered { result ≡ true → (budget : Budget) → Answered
+        (found_by (callee depth) selector.now (framed chain.now.own frame.now)
+        (get_or stack.old.own count Nil) (take count stack.old.own))
+        (with_budget budget (O.seen objects.now)) locals.now (drop (suc count) stack.old.own)
+        stack.new.own }
+    ensures unknown { result ≡ false → stack.new.own ≡ stack.old.own }
+    ensures below { stack.new.below ≡ stack.old.below }
+{
+    if depth == 0 {
+        return false;
+    }
+    let Some(receiver) = stack.item(count) else {
+        unreachable!()
+    };
+    let Some(at) = known_place(objects, locals, chain, frame, receiver, selector) else {
+        return false;
+    };
+    let Some(instr) = quick_at(objects, at) else {
+        return false;
+    };
+    put_constant(stack, instr, count)
+}
+
+/// What puts the answer of the method that stands at a place, where its code is kept and it answers
+/// by one push.
+fn quick_at<O: FindsMethods>(objects: &O, at: usize) -> Option<&Instr>
+    ensures { IfSome result (λ one.
+        AnswersQuickly (held_at (O.founds objects.now) at) (instruction_of one.now)) }
+{
+    let found = objects.found(at)?;
+    match &found.code {
+        MethodCode::Source(_) => {
+            let code = objects.code(at)?;
+            let instr = quick_instr(code)?;
+            Some(instr)
+        }
+        MethodCode::Primitive(_) => None,
+    }
+}
+
+/// Puts what the instruction puts in place of the receiver and of so many arguments above it, where
+/// it asks no objects. Else false, and all is as before.
+fn put_constant(stack: &mut Layers<Value>, instr: &Instr, count: usize) -> bool
+    requires { count < length stack.old.own }
+    ensures put { result ≡ true → Replaced (constant_put (instruction_of instr.now)
+        (get_or stack.old.own count Nil)) (drop (suc count) stack.old.own) stack.new.own }
+    ensures unchanged { result ≡ false → stack.new.own ≡ stack.old.own }
+    ensures below { stack.new.below ≡ stack.old.below }
+{
+    match instr {
+        Instr::PushSelf => {
+            stack.drop_upper(count);
+            true
+        }
+        Instr::PushNil => put_over(stack, count, Value::Nil),
+        Instr::PushTrue => put_over(stack, count, Value::True),
+        Instr::PushFalse => put_over(stack, count, Value::False),
+        Instr::PushLit(value) => match value.clone() {
+            Ok(value) => put_over(stack, count, value),
+            Err(_) => false,
+        },
+        _ => false,
+    }
+}
+
+/// Puts a value in place of the receiver and of so many arguments above it. Always true.
+fn put_over(stack: &mut Layers<Value>, count: usize, value: Value) -> bool
+    requires { count < length stack.old.own }
+    ensures done { result ≡ true }
+    ensures own { stack.new.own ≡ value ∷ drop (suc count) stack.old.own }
+    ensures below { stack.new.below ≡ stack.old.below }
+{
+    stack.put(count, value);
+    stack.drop_upper(count);
+    true
+}
