@@ -5,9 +5,13 @@ ghost use Rattle.std.specs.Prelude.{◌≡◌, ◌<◌};
 use crate::machine_tests::{Known, install_many, known, reply_to, send_many};
 use chunk_tables::{note, told};
 use gem_object::Value;
+use gem_sound::names::UNDEFINED_OBJECT_CLASS;
+use gem_value::Oid;
 use plain_state::PlainState;
 use radix_pages::Steps;
+use running_objects::RunsChunks;
 use st_compiler::compile;
+use st_locals::frame_without_scopes;
 use st_machine::{CodeCache, SharedCode, print_value, run_chunk, run_command};
 use st_parser::parse_chunk;
 use st_plain::Command;
@@ -190,6 +194,76 @@ fn check_cache(
     check_holds(alloc, &cache, "m257 ^257", true, wrong)
 }
 
+/// The value of the chunk `One`, or nil.
+fn value_of_one(
+    alloc: Global,
+    state: &mut Known<PlainState>,
+    cache: &mut CodeCache,
+) -> Result<Value, AllocError> {
+    state.begin_chunk();
+    let Ok(tree) = parse_chunk(alloc, b"One".as_slice()) else {
+        return Ok(Value::Nil);
+    };
+    let code = SharedCode::of(alloc, compile(&tree)?)?;
+    match run_chunk(alloc, state, cache, &code) {
+        Ok(value) => Ok(value),
+        Err(_) => Ok(Value::Nil),
+    }
+}
+
+/// Whether it is known, without a look at an object, which method answers this message, and its
+/// code is kept.
+fn is_kept(
+    alloc: Global,
+    state: &Known<PlainState>,
+    receiver: &Value,
+    selector: &str,
+) -> Result<bool, AllocError> {
+    let holder = Oid::from_parts(0, UNDEFINED_OBJECT_CLASS);
+    let frame = frame_without_scopes(alloc, holder, false, Value::Nil, 0);
+    let selector = Text::copy_of(alloc, selector.as_bytes())?;
+    match state.known_method(&frame, receiver, &selector) {
+        Some(at) => Ok(state.code(at).is_some()),
+        None => Ok(false),
+    }
+}
+
+/// Sends a message: from then on it is known which method answers it, with its code, until a class
+/// changes.
+fn check_kept(
+    alloc: Global,
+    state: &mut Known<PlainState>,
+    cache: &mut CodeCache,
+    wrong: &mut String,
+) -> Result<(), AllocError> {
+    reply_to(
+        alloc,
+        state,
+        cache,
+        false,
+        "UserGlobals at: #One put: Foo new",
+    )?;
+    let one = value_of_one(alloc, state, cache)?;
+    note_unless(
+        wrong,
+        "nothing is kept",
+        !is_kept(alloc, state, &one, "bar")?,
+    )?;
+    reply_to(alloc, state, cache, true, "One bar")?;
+    note_unless(wrong, "bar is kept", is_kept(alloc, state, &one, "bar")?)?;
+    note_unless(
+        wrong,
+        "size isn't kept",
+        !is_kept(alloc, state, &one, "size")?,
+    )?;
+    method_replies(alloc, state, cache, "bar ^4", "method bar")?;
+    note_unless(
+        wrong,
+        "nothing is kept now",
+        !is_kept(alloc, state, &one, "bar")?,
+    )
+}
+
 /// The calls that aren't answered as they should be.
 fn wrong_calls<L: Ledger>(alloc: Global, blank: Blank) -> Result<String, AllocError>
     requires name { blank.name ≡ L.name }
@@ -203,6 +277,7 @@ fn wrong_calls<L: Ledger>(alloc: Global, blank: Blank) -> Result<String, AllocEr
     check_parts(alloc, &mut state, &mut cache, &mut wrong)?;
     check_commands(alloc, &mut state, &mut cache, &mut wrong)?;
     check_sizes(alloc, &mut state, &mut cache, &mut wrong)?;
+    check_kept(alloc, &mut state, &mut cache, &mut wrong)?;
     check_cache(alloc, &mut state, &mut wrong)?;
     Ok(wrong)
 }
