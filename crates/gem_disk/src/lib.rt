@@ -11,8 +11,6 @@ mod images;
 pub mod laws;
 mod memory;
 mod recorded;
-#[cfg(test)]
-mod tests;
 
 pub use disk::{Disk, Which};
 pub use file::FileDisk;

@@ -2,4 +2,3 @@ mod Agreement
 mod Given
 mod Objects
 mod Puts
-mod Samples

@@ -5,8 +5,6 @@
 mod image;
 pub mod laws;
 mod rights;
-#[cfg(test)]
-mod tests;
 
 pub use image::Image;
 pub use rights::{groups_of, right_on_segment, rights_of};

@@ -1,9 +1,8 @@
 -- What a search in an ascending list of names says.
-use Rattle.std.proofs.Common.{◌≡◌, ℕ, ◌<◌, ◌≤◌, List, [], ◌∷◌, length, get_or, Err, ap, sym, ◌∙◌, subst, arith}
+use Rattle.std.proofs.Common.{◌≡◌, ℕ, ◌<◌, ◌≤◌, List, length, get_or, Err, ap, ◌∙◌, arith}
 use Rattle.std.specs.List.{Contains}
 use Rattle.std.specs.Ordering.{nat_cmp, is_lt}
-use Rattle.std.specs.List.Sorted.{IsBinarySearchResult, IsStrictlySortedBy}
-use Rattle.std.specs.declared.cmp.Ordering.TheVariants.{Less}
+use Rattle.std.specs.List.Sorted.{IsBinarySearchResult}
 use Rattle.std.proofs.lemmas.Cmp.{nat_cmp_total}
 use Rattle.std.proofs.lemmas.List.{get_or_default}
 use Rattle.std.proofs.lemmas.List.Sorted.{searched}
@@ -37,12 +36,3 @@ not_found names name at ascend answer there =
     = get_or_default names there.0 0 name there.1 ∙ there.2 in
     apart there.0 at (length names) (get_or names there.0 0) name (parted.1 there.0)
     (parted.2 there.0) there.1 same
-
-two_alone : (x y : ℕ) → nat_cmp x y ≡ Less → Ascend (x ∷ y ∷ [])
-unfolding IsStrictlySortedBy
-two_alone x y below = ((below, tt), (tt, tt))
-
--- two names, the lesser first, are in order
-pub two_ascend : (names : List ℕ) (x y : ℕ) → names ≡ x ∷ y ∷ [] → nat_cmp x y ≡ Less
-    → Ascend names
-two_ascend names x y is below = subst Ascend (sym is) (two_alone x y below)

@@ -6,8 +6,6 @@ mod by_name;
 mod effect;
 mod oid_list;
 mod record;
-#[cfg(test)]
-mod tests;
 
 pub use by_name::ByName;
 pub use effect::Effect;

@@ -1,1 +1,2 @@
+mod ImageSamples
 mod Samples

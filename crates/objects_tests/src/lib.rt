@@ -1,4 +1,4 @@
-//! Room: values. Tests `gem_object` and `body_codec`, a file for each.
+//! Room: values. Tests `gem_object`, `gem_record` and `body_codec`.
 //!
 //! No crate has tests of its own, as it would be proved once more with them.
 #![tactic(auto)]
@@ -9,3 +9,5 @@ mod body_codec_reading_tests;
 mod body_codec_tests;
 #[cfg(test)]
 mod gem_object_tests;
+#[cfg(test)]
+mod gem_record_tests;

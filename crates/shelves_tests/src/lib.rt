@@ -4,6 +4,8 @@
 #![tactic(auto)]
 
 #[cfg(test)]
+mod gem_disk_tests;
+#[cfg(test)]
 mod gem_io_tests;
 #[cfg(test)]
 mod insertion_map_tests;

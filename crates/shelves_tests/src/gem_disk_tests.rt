@@ -1,5 +1,5 @@
 // The disks. Expected values are those of the disk model, worked by hand.
-use super::*;
+use gem_disk::{Disk, FileDisk, Images, MemDisk, Pick, Which};
 use gem_io::Failed;
 use std::alloc::{AllocError, Global};
 use std::fs;

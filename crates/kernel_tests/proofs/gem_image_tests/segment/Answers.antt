@@ -1,6 +1,6 @@
 use Rattle.std.proofs.Common.{◌∙◌}
-use Rattle.gem_image.proofs.Samples.{segment_is}
-use Rattle.gem_image.proofs.tests.segment.Goals as goal
+use Rattle.kernel_tests.proofs.ImageSamples.{segment_is}
+use Rattle.kernel_tests.proofs.gem_image_tests.segment.Goals as goal
 
 pub returns : goal.returns
 returns c = segment_is c.name-2.result c.name-3.result c.number.result c.args.row.owner_right c.args.row.world_right

@@ -1,4 +1,4 @@
--- The objects that the tests make have a spelling.
+-- The objects that the tests of images make have a spelling.
 use Rattle.std.proofs.Common.{◌≡◌, ◌≢◌, ◌<◌, ℕ, List, [], ◌∷◌, ◌++◌, length, sym, subst, arith}
 use Rattle.std.specs.List.{All}
 use Rattle.std.specs.List.Sorted.{IsStrictlySortedBy}
@@ -10,7 +10,9 @@ use Rattle.gem_object.specs.Spelling.{IsOid, IsText, IsSegment, IsSpelled, Ascen
 use Rattle.gem_object.specs.declared.body.Body.{Body}
 use Rattle.gem_object.specs.declared.body.Body.TheVariants.{Segment, User}
 use Rattle.gem_object.specs.declared.object.Object.{Object}
-use Rattle.gem_image.proofs.Puts.{IsSpelledEntry}
+
+abbrev IsSpelledEntry : ℕ × Object → Type 0
+IsSpelledEntry entry = IsSpelled entry.1
 
 few_ascend : (texts : List Text) → length texts < 2 → Ascend texts
 unfolding IsStrictlySortedBy

@@ -1,7 +1,7 @@
 // A record and its entry, look-ups by name, and the size of an effect.
-use super::*;
 use gem_image::Image;
 use gem_object::{Body, Object};
+use gem_record::{ByName, Effect, Entry, OidList, TxnRecord};
 use gem_update::Update;
 use gem_value::{Oid, Sequence};
 use rc_counter_bag::Counter;

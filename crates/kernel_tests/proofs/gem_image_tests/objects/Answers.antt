@@ -1,5 +1,5 @@
-use Rattle.gem_image.proofs.Samples.{none_pushed, one_pushed}
-use Rattle.gem_image.proofs.tests.objects.Goals as goal
+use Rattle.kernel_tests.proofs.ImageSamples.{none_pushed, one_pushed}
+use Rattle.kernel_tests.proofs.gem_image_tests.objects.Goals as goal
 
 pub returns : goal.returns
 returns c =

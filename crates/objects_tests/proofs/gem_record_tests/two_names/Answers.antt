@@ -2,8 +2,8 @@ use Rattle.std.proofs.Common.{◌≡◌, [], ◌∷◌, refl, rules}
 use Rattle.std.specs.Ordering.{nat_cmp}
 use Rattle.std.specs.declared.cmp.Ordering.TheVariants.{Less}
 use Rattle.gem_value.specs.Oid.{oid_number}
-use Rattle.gem_record.proofs.Ascending.{two_ascend}
-use Rattle.gem_record.proofs.tests.two_names.Goals as goal
+use Rattle.objects_tests.proofs.TwoNames.{two_ascend}
+use Rattle.objects_tests.proofs.gem_record_tests.two_names.Goals as goal
 
 pub of-requires : goal.of-requires
 of-requires c =

@@ -2,7 +2,7 @@
 ghost use Rattle.std.specs.Prelude.{◌≡◌, ◌≢◌, ◌+◌, ◌^◌, ◌<◌, ◌≤◌, length, All, IfOk};
 ghost use Rattle.gem_object.specs.Spelling.{IsOid, IsText, IsSpelled};
 
-use super::*;
+use gem_image::Image;
 use gem_object::{Body, Names, Object, UserBody, Values};
 use gem_value::Oid;
 use radix_pages::Steps;

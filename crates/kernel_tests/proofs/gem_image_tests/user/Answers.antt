@@ -1,8 +1,8 @@
 use Rattle.std.proofs.Common.{All, subst, sym, length, ◌<◌, List}
 use Rattle.texts.specs.Bytes.{Bytes as Text}
 use Rattle.gem_object.specs.Spelling.{IsText}
-use Rattle.gem_image.proofs.Samples.{user_is}
-use Rattle.gem_image.proofs.tests.user.Goals as goal
+use Rattle.kernel_tests.proofs.ImageSamples.{user_is}
+use Rattle.kernel_tests.proofs.gem_image_tests.user.Goals as goal
 
 pub returns : goal.returns
 returns c = user_is c.name-3.result c.name-4.result c.name.result c.name-2.result c.in_ok-staff.field-0 c.of.result
