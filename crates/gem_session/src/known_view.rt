@@ -5,10 +5,9 @@ ghost use Rattle.running_objects.specs.Seen.{with_whole_budget};
 ghost use Rattle.st_plain.specs.Replies.{Replied};
 
 use gem_value::Oid;
-use look_up_cache::KnownObjects;
 use running_objects::{Objects, RunsChunks};
 use session_view::View;
-use st_machine::{CodeCache, SharedCode, run_text};
+use st_machine::{CodeCache, KnownObjects, SharedCode, run_text};
 use st_plain::{Reply, install_source};
 use std::alloc::{AllocError, Global};
 use std::marker::Model;

@@ -10,3 +10,5 @@ pub mod Run
 pub mod Programs
 pub mod Steps
 pub mod Laws
+pub use Rattle.gem_sound.specs.Kernel
+pub use Rattle.gem_sound.specs.Sound

@@ -3,8 +3,8 @@ use Rattle.std.specs.Prelude.{ℕ, ◌^◌, Bool, true, false, ◌&&◌, nat_lt,
 use Rattle.std.specs.List.{list_all}
 use Rattle.texts.specs.Bytes.{Bytes as Text}
 use Rattle.st_tree.specs.Trees.{Program}
-use Rattle.st_grammar.specs.Grammar.{method}
-use Rattle.st_grammar_laws.specs.TreeOf.{tree_of}
+use Rattle.gem_sound.specs.Grammar.{method}
+use Rattle.gem_sound.specs.TreeOf.{tree_of}
 use Rattle.gem_object.specs.declared.body.MethodCode.{MethodCode}
 use Rattle.gem_object.specs.declared.body.MethodCode.TheVariants.{Source, Primitive}
 use Rattle.gem_object.specs.declared.body.Method.{Method}

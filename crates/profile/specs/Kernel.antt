@@ -1,11 +1,10 @@
 -- The objects that every image has.
-use Rattle.std.specs.Prelude.{Bool, codes, List, [], ◌∷◌}
+use Rattle.std.specs.Prelude.{Bool, ℕ, codes, List, [], ◌∷◌}
 use Rattle.std.specs.List.{list_any}
 use Rattle.std.specs.Str.{bytes_eq}
-use Rattle.texts.specs.Bytes.{Bytes}
 
 -- The names of the kernel's objects, and UserGlobals.
-abbrev pub kernel_names : List Bytes
+abbrev pub kernel_names : List (List ℕ)
 kernel_names =
     codes "Object" ∷ codes "Class" ∷ codes "UndefinedObject" ∷ codes "Boolean" ∷ codes "True" ∷ codes "False"
     ∷ codes "Magnitude" ∷ codes "Character" ∷ codes "SmallInteger" ∷ codes "Block"
@@ -18,5 +17,5 @@ kernel_names =
     ∷ codes "Transcript" ∷ codes "UserGlobals" ∷ []
 
 -- whether a name is one of them
-abbrev pub is_kernel_name : Bytes → Bool
+abbrev pub is_kernel_name : List ℕ → Bool
 is_kernel_name n = list_any (bytes_eq n) kernel_names

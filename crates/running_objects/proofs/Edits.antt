@@ -19,8 +19,8 @@ use Rattle.gem_object.specs.declared.body.Body.TheVariants as body
 use Rattle.gem_image.specs.Image.{Contents}
 use Rattle.gem_world.specs.World.{Setting, World, shown}
 use Rattle.gem_world.specs.Changes.{with_body}
-use Rattle.gem_sound.specs.Kernel.{KernelBody, a_class, a_dictionary, a_segment, a_user, no_slots, kernel_body}
-use Rattle.gem_sound.specs.Sound.{names_in}
+use Rattle.object_programs.specs.Kernel.{KernelBody, a_class, a_dictionary, a_segment, a_user, no_slots, kernel_body}
+use Rattle.object_programs.specs.Sound.{names_in}
 use Rattle.object_programs.specs.Fixed.{BodyKind, PlainKind, BytesKind, DictKind, ClassKind, SegmentKind, UserKind, CounterKind, BagKind, RcDictKind, QueueKind, ClassPart, class_part, Fixed, fixed_of, fixed_by, same_body_kind, same_number, same_part, same_fixed}
 use Rattle.object_programs.specs.Guard.{Parts, parts_with, holds_of, is_known, is_segment_at, names_at, has_slots, is_transcript, accepts_by, accepts, named_fit, kernel_fits_by, kernel_fits, place_fits, fits, may_replace}
 use Rattle.object_programs.specs.Methods.{methods_fit}

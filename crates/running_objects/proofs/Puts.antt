@@ -13,7 +13,7 @@ use Rattle.gem_object.specs.declared.body.Body.TheVariants as body
 use Rattle.gem_image.specs.Image.{Contents}
 use Rattle.gem_world.specs.World.{Setting, World, shown, with_name}
 use Rattle.gem_world.specs.Changes.{with_body, put}
-use Rattle.gem_sound.specs.Sound.{names_in}
+use Rattle.object_programs.specs.Sound.{names_in}
 use Rattle.object_programs.specs.Fixed.{ClassPart, class_part, Fixed, fixed_of, fixed_by}
 use Rattle.object_programs.specs.Guard.{Parts, holds_of, is_there, is_known, asked_names, line_above, line_of_class, line_of_part, line_within, line_at, chain_limit, fits, may_change, may_replace}
 use Rattle.object_programs.specs.Atom.{Put, with_missing, touch_missing, replaced_where, edited_at, edited}

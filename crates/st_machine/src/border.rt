@@ -100,7 +100,7 @@ pub(crate) fn primitive<O: Objects>(
     ensures { Ran (rule_of number receiver.now arguments.now) (O.seen objects.old) locals.now
         result (O.seen objects.new) locals.now }
 {
-    prim_calls::call(alloc, objects, number, receiver, arguments)
+    st_plain::call_primitive(alloc, objects, number, receiver, arguments)
 }
 
 /// The value of a name that is no variable in scope.
