@@ -1,5 +1,6 @@
 //! Room: values. Takes objects and effects; gives the bytes in which they are stored, and reads
-//! them back from such bytes. Knows nothing of files, of scripts and of who runs what.
+//! them back from such bytes. Knows nothing of files, of scripts and of who runs what. Its tests
+//! stand in `objects_tests`.
 #![tactic(auto)]
 
 mod fault;

@@ -1,5 +1,6 @@
 //! Room: values. Tells how an edit or an update changes the slots and the stored bytes of a body,
-//! from the place that it changes. Knows nothing of the limits of objects.
+//! from the place that it changes. Knows nothing of the limits of objects. Its tests stand in
+//! `updates_tests`.
 #![tactic(auto)]
 
 mod change;

@@ -2,7 +2,7 @@
 //! them. Knows nothing of what stands in the files.
 //!
 //! The trait is `Disk`, with a disk in memory, which fails in the calls that one chooses and gives
-//! what a crash may leave, and a disk of two files.
+//! what a crash may leave, and a disk of two files. Its tests stand in `shelves_tests`.
 #![tactic(auto)]
 
 mod disk;

@@ -1,5 +1,5 @@
 //! Room: values. Gives images of objects, and the rights that users have in them. Knows nothing of
-//! scripts and of who runs what.
+//! scripts and of who runs what. Its tests stand in `kernel_tests`.
 #![tactic(auto)]
 
 mod image;

@@ -3,7 +3,8 @@
 //!
 //! The traits are `Source` and `Sink`, with devices in memory and over the readers and writers of
 //! std. Each device has a count of faults, which rises in a call that fails, and in no other. A
-//! device may tell its contents: what a source has left, and what a sink has taken.
+//! device may tell its contents: what a source has left, and what a sink has taken. Its tests stand
+//! in `shelves_tests`.
 #![tactic(auto)]
 
 mod device;

@@ -1,5 +1,5 @@
 //! Room: values. Gives values, bodies and objects, with their slots, sizes and what they refer to.
-//! Knows nothing of images, of scripts and of who runs what.
+//! Knows nothing of images, of scripts and of who runs what. Its tests stand in `objects_tests`.
 #![tactic(auto)]
 
 mod body;

@@ -1,5 +1,6 @@
 //! Room: values. Gives the record that a session hands over when it commits, what the history keeps
 //! of it, and the effect of a commit with its size. Knows nothing of scripts and of who runs what.
+//! Its tests stand in `objects_tests`.
 #![tactic(auto)]
 
 mod by_name;

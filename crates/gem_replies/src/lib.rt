@@ -1,5 +1,6 @@
 //! Room: sessions and server. Takes the replies and the history of a run; gives the text of its
-//! report. Knows nothing of what a chunk means, and of how replies and history came about.
+//! report. Knows nothing of what a chunk means, and of how replies and history came about. Its
+//! tests stand in `sessions_tests` and `meaning_tests`.
 #![tactic(auto)]
 
 pub mod laws;

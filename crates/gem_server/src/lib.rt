@@ -1,5 +1,5 @@
 //! Room: sessions and server. Takes the words of the command line and the bytes of a script; gives
-//! the bytes of its report.
+//! the bytes of its report. Its tests stand in `sessions_tests` and `side_by_side_tests`.
 #![tactic(auto)]
 
 mod intake;

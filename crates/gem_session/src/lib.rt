@@ -1,7 +1,8 @@
 //! Room: sessions and server. Takes a session's commands and a port of the Stone; gives its
 //! transcript.
 //!
-//! Runs one session's commands against a Stone and says what it replies.
+//! Runs one session's commands against a Stone and says what it replies. Its tests stand in
+//! `sessions_tests`.
 #![tactic(auto)]
 
 mod answer;

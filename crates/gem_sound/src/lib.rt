@@ -1,5 +1,6 @@
 //! Room: values. Gives the definition of a sound image, the table of the kernel's classes, and the
-//! names of the kernel's objects; no code. Knows nothing of scripts and of who runs what.
+//! names of the kernel's objects; no code. Knows nothing of scripts and of who runs what. Its tests
+//! stand in `kernel_tests`.
 #![tactic(auto)]
 
 pub mod laws;

@@ -3,7 +3,8 @@
 //! Knows nothing of sessions, of images and of names that are kept.
 //!
 //! The four classes whose updates are merged stand in crates of their own. `Merging` says once what
-//! their calls have in common, and `update_body` and `merge_body` join them over bodies.
+//! their calls have in common, and `update_body` and `merge_body` join them over bodies. Its tests
+//! stand in `updates_tests`.
 #![tactic(auto)]
 
 mod changes;

@@ -1,5 +1,5 @@
 //! Room: values. Gives names of objects, conflicts, and lists that are changed in place. Knows
-//! nothing of scripts and of who runs what.
+//! nothing of scripts and of who runs what. Its tests stand in `values_tests`.
 #![tactic(auto)]
 
 mod conflict;

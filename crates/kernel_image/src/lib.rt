@@ -1,5 +1,5 @@
 //! Room: values. Gives the image with which a store begins, and tells whether an image is sound.
-//! Knows nothing of scripts and of who runs what.
+//! Knows nothing of scripts and of who runs what. Its tests stand in `kernel_tests`.
 #![tactic(auto)]
 
 mod build;

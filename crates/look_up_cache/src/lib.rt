@@ -1,6 +1,6 @@
 //! Room: running. Gives objects that remember look-ups: which method answers a message is found
 //! once and then known, until something changes on which it depends. Knows nothing of how a tree is
-//! run, of the Stone and of other sessions.
+//! run, of the Stone and of other sessions. Its tests stand in `machine_tests`.
 #![tactic(auto)]
 
 mod finding;

@@ -1,5 +1,6 @@
 //! Room: running. Gives the tests of what a put or a make of objects may be, for every state that
-//! shows its objects. Knows nothing of the Stone and of other sessions.
+//! shows its objects. Knows nothing of the Stone and of other sessions. Its tests stand in
+//! `running_tests`.
 #![tactic(auto)]
 
 mod classes;

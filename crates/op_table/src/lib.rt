@@ -1,5 +1,5 @@
 //! Room: language. Takes a byte or a number; gives the row of an op code or of a primitive. Knows
-//! nothing of how an instruction is carried out.
+//! nothing of how an instruction is carried out. Its tests stand in `language_tests`.
 #![tactic(auto)]
 
 pub mod laws;

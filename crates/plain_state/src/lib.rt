@@ -1,5 +1,5 @@
 //! Room: running. Gives the plain state of a running transaction, over two images. Knows nothing of
-//! the Stone and of other sessions.
+//! the Stone and of other sessions. Its tests stand in `running_tests`.
 #![tactic(auto)]
 
 mod calls;

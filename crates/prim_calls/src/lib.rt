@@ -1,5 +1,5 @@
 //! Room: running. Gives the call of a primitive by its number. Knows nothing of trees, of the Stone
-//! and of other sessions.
+//! and of other sessions. Its tests stand in `running_tests`.
 #![tactic(auto)]
 
 ghost use Rattle.std.specs.Prelude.{◌≡◌, ◌||◌};

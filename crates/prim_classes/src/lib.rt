@@ -1,5 +1,6 @@
 //! Room: running. Gives the primitives that any receiver understands, and those of blocks, of new
-//! objects and of classes. Knows nothing of trees, of the Stone and of other sessions.
+//! objects and of classes. Knows nothing of trees, of the Stone and of other sessions. Its tests
+//! stand in `running_tests`.
 #![tactic(auto)]
 
 mod any;

@@ -1,5 +1,6 @@
 //! Room: running. Gives the primitives of Arrays, OrderedCollections, Strings, Symbols and
-//! IdentityDictionaries. Knows nothing of trees, of the Stone and of other sessions.
+//! IdentityDictionaries. Knows nothing of trees, of the Stone and of other sessions. Its tests
+//! stand in `running_tests`.
 #![tactic(auto)]
 
 mod bodies;

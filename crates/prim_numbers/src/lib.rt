@@ -1,5 +1,5 @@
 //! Room: running. Gives the primitives of integers and characters, 10 to 27, over any objects.
-//! Knows nothing of trees, of the Stone and of other sessions.
+//! Knows nothing of trees, of the Stone and of other sessions. Its tests stand in `running_tests`.
 #![tactic(auto)]
 
 mod arithmetic;

@@ -1,5 +1,6 @@
-//! Room: running. Gives what the primitives share: arguments, kinds of objects, accesses, edits
-//! and new objects. Knows nothing of trees, of the Stone and of other sessions.
+//! Room: running. Gives what the primitives share: arguments, kinds of objects, accesses, edits and
+//! new objects. Knows nothing of trees, of the Stone and of other sessions. Its tests stand in
+//! `running_tests`.
 #![tactic(auto)]
 
 mod arguments;

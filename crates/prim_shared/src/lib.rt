@@ -1,5 +1,6 @@
 //! Room: running. Gives the primitives of Segments, UserProfiles, the Transcript and
-//! reduced-conflict objects. Knows nothing of trees, of the Stone and of other sessions.
+//! reduced-conflict objects. Knows nothing of trees, of the Stone and of other sessions. Its tests
+//! stand in `running_tests`.
 #![tactic(auto)]
 
 mod answers;

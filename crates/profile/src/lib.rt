@@ -1,4 +1,5 @@
 //! Room: shelves. Gives the limits and the names of the product. Knows nothing of what uses them.
+//! Its tests stand in `shelves_tests`.
 #![tactic(auto)]
 
 mod integers;

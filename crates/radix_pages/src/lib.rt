@@ -1,5 +1,6 @@
 //! Room: shelves. Takes numbers as keys and values of any type; gives maps of which many share what
-//! they have in common, so that a changed one costs no copy. Knows nothing of objects.
+//! they have in common, so that a changed one costs no copy. Knows nothing of objects. Its tests
+//! stand in `shelves_tests`.
 #![tactic(auto)]
 
 mod digits;

@@ -3,7 +3,7 @@
 //!
 //! A session works on the object as it stood at its view, and hands over what it did as a list of
 //! updates. At the commit `merge` applies them to the object as it stands at the commit's place, so
-//! that two sessions that add don't stand in each other's way.
+//! that two sessions that add don't stand in each other's way. Its tests stand in `values_tests`.
 #![tactic(auto)]
 
 mod bag;

@@ -3,7 +3,8 @@
 //!
 //! A session works on the dictionary as it stood at its view, and hands over what it did as a list
 //! of updates. At the commit `KeyDict::merge` applies them to the dictionary as it stands at the
-//! commit's place, so that sessions that update different keys don't stand in each other's way.
+//! commit's place, so that sessions that update different keys don't stand in each other's way. Its
+//! tests stand in `values_tests`.
 #![tactic(auto)]
 
 mod dict;

@@ -1,5 +1,6 @@
 //! Room: values. Takes the rights that a segment gives, a user and the user's groups; gives the
-//! user's right. Knows nothing of what an object holds and of sessions.
+//! user's right. Knows nothing of what an object holds and of sessions. Its tests stand in
+//! `values_tests`.
 #![tactic(auto)]
 
 mod groups;

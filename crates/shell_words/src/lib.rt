@@ -1,5 +1,6 @@
 //! Room: sessions and server. Takes a text; gives its sessions, each a user and commands, or the
-//! line and the rule that it breaks first. Knows nothing of what a command does.
+//! line and the rule that it breaks first. Knows nothing of what a command does. Its tests stand in
+//! `sessions_tests`.
 #![tactic(auto)]
 
 mod fault;

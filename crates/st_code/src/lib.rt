@@ -1,5 +1,6 @@
 //! Room: language. Takes bytes, literals and blocks; gives code that keeps the rules of checked
-//! code, or the place at which one first breaks. Knows nothing of how code is carried out.
+//! code, or the place at which one first breaks. Knows nothing of how code is carried out. Its
+//! tests stand in `language_tests`.
 #![tactic(auto)]
 
 mod blocks;

@@ -1,5 +1,5 @@
 //! Room: running. Takes a tree; gives the code that does what the tree means. Knows nothing of the
-//! Stone and of other sessions.
+//! Stone and of other sessions. Its tests stand in `compiler_tests`.
 #![tactic(auto)]
 
 mod emit;

@@ -1,4 +1,5 @@
 //! Room: language. Takes a text; gives its tokens, or the first bad one. Knows nothing of trees.
+//! Its tests stand in `language_tests`.
 #![tactic(auto)]
 
 mod kinds;

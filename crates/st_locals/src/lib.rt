@@ -1,5 +1,6 @@
 //! Room: running. Gives the variables, scopes, activations and made blocks of a running chunk, and
-//! which messages are special forms. Knows nothing of objects and of how a tree is run.
+//! which messages are special forms. Knows nothing of objects and of how a tree is run. Its tests
+//! stand in `machine_tests`.
 #![tactic(auto)]
 
 mod forms;

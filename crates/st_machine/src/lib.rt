@@ -1,5 +1,6 @@
 //! Room: running. Gives the machine: runs the code of chunks and commands over objects that
 //! remember look-ups. Knows nothing of how objects are kept, of the Stone and of other sessions.
+//! Its tests stand in `machine_tests`.
 #![tactic(auto)]
 
 mod border;

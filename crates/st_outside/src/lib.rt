@@ -1,6 +1,6 @@
 //! Room: running. Gives what stands outside a tree: look-up of methods, names out of scope, new
 //! objects of literals, and methods that are put into classes. Knows nothing of how a tree is run,
-//! of the Stone and of other sessions.
+//! of the Stone and of other sessions. Its tests stand in `running_tests`.
 #![tactic(auto)]
 
 mod classes;

@@ -1,4 +1,5 @@
-//! Room: language. Takes a text; gives its tree, or where it fails. Knows nothing of meanings.
+//! Room: language. Takes a text; gives its tree, or where it fails. Knows nothing of meanings. Its
+//! tests stand in `language_tests`.
 #![tactic(auto)]
 
 mod declarations;

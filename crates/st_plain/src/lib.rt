@@ -1,5 +1,6 @@
 //! Room: running. Gives the plain evaluator: runs chunks and commands over any objects, by their
-//! trees. Knows nothing of how objects are kept, of the Stone and of other sessions.
+//! trees. Knows nothing of how objects are kept, of the Stone and of other sessions. Its tests
+//! stand in `running_tests`.
 #![tactic(auto)]
 
 mod arguments;

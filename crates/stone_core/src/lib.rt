@@ -1,5 +1,5 @@
 //! Room: Stone. Gives the Stone over objects, and what a session may ask of it. Its code knows
-//! nothing of tokens and of trees.
+//! nothing of tokens and of trees. Its tests stand in `stone_tests`.
 #![tactic(auto)]
 
 mod effect;

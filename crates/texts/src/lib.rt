@@ -1,4 +1,5 @@
-//! Room: shelves. Takes bytes; gives texts, and what is in a name. Knows nothing of Smalltalk.
+//! Room: shelves. Takes bytes; gives texts, and what is in a name. Knows nothing of Smalltalk. Its
+//! tests stand in `shelves_tests`.
 #![tactic(auto)]
 
 mod name_bytes;

@@ -1,5 +1,5 @@
 //! Room: store. Reads the records of a log and adds records to it, over a disk. Knows nothing of
-//! images and of pages.
+//! images and of pages. Its tests stand in `store_tests`.
 #![tactic(auto)]
 
 mod body;
