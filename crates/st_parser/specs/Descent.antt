@@ -1,4 +1,5 @@
--- What the functions of the parser do, told by the machine of the grammar: where the machine stands before and after what they read.
+-- What the functions of the parser do, told by the machine of the grammar: where the machine stands
+-- before and after what they read.
 use Rattle.std.specs.Prelude.{◌≡◌, ℕ, Bool, true, false, ◌&&◌, ◌||◌, ◌==◌, Result, Ok, Err, Some, List, [], ◌∷◌}
 use Rattle.texts.specs.Bytes.{Bytes}
 use Rattle.st_tree.specs.Trees.{Program, Statement, statement, Statements, no_statements, Expression, expression}
@@ -33,7 +34,8 @@ abbrev pub StopsAt : State → List Word → List Word → Stop → Type 0
 StopsAt s old new (Breaks b) = machine_run every s old ≡ Err (record { left = new; rule = rule_of b })
 StopsAt s old new Memory = Unit {0}
 
--- What is read takes the machine from the one state to the other. Where nothing is read the machine stops at the new words.
+-- What is read takes the machine from the one state to the other. Where nothing is read the machine
+-- stops at the new words.
 abbrev pub Reached : {X : Type 0} → State → List Word → (X → State) → List Word → Result X Stop → Type 0
 Reached s old to new (Ok x) = Runs s old (to x) new
 Reached s old to new (Err e) = StopsAt s old new e
@@ -152,7 +154,8 @@ abbrev pub holding : Body → Statements → Body
 holding (top selector ps ts body) new = top selector ps ts new
 holding (in_block k names ps ts body) new = in_block k names ps ts new
 
--- The machine reads the words to their end, and this is the tree. Where there is none the machine stops at the new words.
+-- The machine reads the words to their end, and this is the tree. Where there is none the machine
+-- stops at the new words.
 abbrev pub Finished : State → List Word → List Word → Result Program Stop → Type 0
 Finished s old new (Ok program) = machine_run every s old ≡ Ok program
 Finished s old new (Err e) = StopsAt s old new e

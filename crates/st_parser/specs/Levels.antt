@@ -18,7 +18,8 @@ level_seen Full = full
 -- the name before a `:=`, where the words begin so
 abbrev pub Assigned : Option (Bor Bytes) → List Word → Type 0
 Assigned None ws = assigns ws ≡ false
-Assigned (Some x) ws = (t : Bool) × (y : Bytes) × (u : Bool) × (ws ≡ word identifier x.now t ∷ (word assign y u ∷ others (others ws)))
+Assigned (Some x) ws = (t : Bool) × (y : Bytes) × (u : Bool)
+    × (ws ≡ word identifier x.now t ∷ (word assign y u ∷ others (others ws)))
 
 -- the binary selector with which the words begin, where they do
 abbrev pub Selects : Option (Bor Bytes) → List Word → Type 0
