@@ -174,6 +174,25 @@ fn filled<L: Ledger>(alloc: Global, row: Row, steps: &mut Steps<L>) -> Result<Im
     Ok(image)
 }
 
+/// Whether the user has these rights on the box, and these on its segment.
+fn has_rights(image: &Image, user: Oid, on_box: Right, on_segment: Right) -> bool {
+    image.right_on(user, name(BOX)) == on_box
+        && image.right_in(user, name(SEGMENT)) == on_box
+        && image.right_on(user, name(SEGMENT)) == on_segment
+        // On what isn't there, and in what is no segment.
+        && image.right_on(user, name(NOTHING)) == Right::None
+        && image.right_in(user, name(BOX)) == Right::None
+}
+
+/// Whether each user has the rights of the row; nobody and what is no user have none.
+fn have_rights(image: &Image, row: Row) -> bool {
+    has_rights(image, name(OWNER), row.owner, Right::Write)
+        && has_rights(image, name(MEMBER), row.member, Right::Read)
+        && has_rights(image, name(STRANGER), row.stranger, Right::Read)
+        && has_rights(image, name(NOTHING), Right::None, Right::Read)
+        && has_rights(image, name(BOX), Right::None, Right::Read)
+}
+
 fn check_rights<R: Abort, L: Ledger>(rt: &R, alloc: Global, blank: Blank) -> Result<(), Fail>
     requires name { blank.name ≡ L.name }
     requires parts { blank.parts ≡ L.parts }
@@ -181,23 +200,7 @@ fn check_rights<R: Abort, L: Ledger>(rt: &R, alloc: Global, blank: Blank) -> Res
 {
     let mut steps = Steps::<L>::start(blank);
     for row in ROWS {
-        let image = filled(alloc, row, &mut steps)?;
-        let users = [
-            (name(OWNER), row.owner, Right::Write),
-            (name(MEMBER), row.member, Right::Read),
-            (name(STRANGER), row.stranger, Right::Read),
-            // Nobody, and what is no user.
-            (name(NOTHING), Right::None, Right::Read),
-            (name(BOX), Right::None, Right::Read),
-        ];
-        for (user, on_box, on_segment) in users {
-            assert_eq!(rt; image.right_on(user, name(BOX)), on_box);
-            assert_eq!(rt; image.right_in(user, name(SEGMENT)), on_box);
-            assert_eq!(rt; image.right_on(user, name(SEGMENT)), on_segment);
-            // On what isn't there, and in what is no segment.
-            assert_eq!(rt; image.right_on(user, name(NOTHING)), Right::None);
-            assert_eq!(rt; image.right_in(user, name(BOX)), Right::None);
-        }
+        assert!(rt; have_rights(&filled(alloc, row, &mut steps)?, row));
     }
     Ok(())
 }
@@ -268,21 +271,39 @@ fn with_greatest<L: Ledger>(
     Ok(image)
 }
 
+/// The image with an object of the class 1 at the name 5.
+fn with_one<L: Ledger>(alloc: Global, steps: &mut Steps<L>) -> Result<Image, AllocError> {
+    Image::empty().with(alloc, name(5), plain(alloc, 1, SEGMENT), steps)
+}
+
+/// The image with the three objects at their two names.
+fn with_objects<L: Ledger>(
+    alloc: Global,
+    image: &Image,
+    steps: &mut Steps<L>,
+) -> Result<Image, AllocError> {
+    image.with_all(alloc, objects(alloc)?, steps)
+}
+
+/// Whether each of the images has what was put into it.
+fn hold_objects(one: &Image, two: &Image, three: &Image) -> bool {
+    has(&Image::empty(), 0, None, None, None)
+        && has(one, 1, Some(name(1)), None, None)
+        && has(two, 2, Some(name(3)), Some(name(4)), None)
+        && has(three, 3, Some(name(3)), Some(name(4)), Some(name(5)))
+}
+
 fn check_objects<R: Abort, L: Ledger>(rt: &R, alloc: Global, blank: Blank) -> Result<(), Fail>
     requires name { blank.name ≡ L.name }
     requires parts { blank.parts ≡ L.parts }
     requires some_parts { 0 < L.parts }
 {
     let mut steps = Steps::<L>::start(blank);
-    let one = Image::empty().with(alloc, name(5), plain(alloc, 1, SEGMENT), &mut steps)?;
-    let two = one.with_all(alloc, objects(alloc)?, &mut steps)?;
+    let one = with_one(alloc, &mut steps)?;
+    let two = with_objects(alloc, &one, &mut steps)?;
     let three = with_greatest(alloc, &two, &mut steps)?;
     goes_to_threads(&three);
-    let (first, second, third) = (Some(name(3)), Some(name(4)), Some(name(5)));
-    assert!(rt; has(&Image::empty(), 0, None, None, None));
-    assert!(rt; has(&one, 1, Some(name(1)), None, None));
-    assert!(rt; has(&two, 2, first, second, None));
-    assert!(rt; has(&three, 3, first, second, third));
+    assert!(rt; hold_objects(&one, &two, &three));
     assert!(rt; ascend(&three));
     Ok(())
 }

@@ -264,6 +264,27 @@ fn check_kept(
     )
 }
 
+fn check_calls(
+    alloc: Global,
+    state: &mut Known<PlainState>,
+    cache: &mut CodeCache,
+    wrong: &mut String,
+) -> Result<(), AllocError> {
+    check_parts(alloc, state, cache, wrong)?;
+    check_commands(alloc, state, cache, wrong)?;
+    check_sizes(alloc, state, cache, wrong)?;
+    check_kept(alloc, state, cache, wrong)?;
+    check_cache(alloc, state, wrong)
+}
+
+/// The calls on these objects that aren't answered as they should be.
+fn called(alloc: Global, state: &mut Known<PlainState>) -> Result<String, AllocError> {
+    let mut wrong = String::new(alloc);
+    let mut cache = CodeCache::new(alloc)?;
+    check_calls(alloc, state, &mut cache, &mut wrong)?;
+    Ok(wrong)
+}
+
 /// The calls that aren't answered as they should be.
 fn wrong_calls<L: Ledger>(alloc: Global, blank: Blank) -> Result<String, AllocError>
     requires name { blank.name ≡ L.name }
@@ -272,14 +293,7 @@ fn wrong_calls<L: Ledger>(alloc: Global, blank: Blank) -> Result<String, AllocEr
 {
     let mut steps = Steps::<L>::start(blank);
     let mut state = known::<PlainState, L>(alloc, &mut steps)?;
-    let mut cache = CodeCache::new(alloc)?;
-    let mut wrong = String::new(alloc);
-    check_parts(alloc, &mut state, &mut cache, &mut wrong)?;
-    check_commands(alloc, &mut state, &mut cache, &mut wrong)?;
-    check_sizes(alloc, &mut state, &mut cache, &mut wrong)?;
-    check_kept(alloc, &mut state, &mut cache, &mut wrong)?;
-    check_cache(alloc, &mut state, &mut wrong)?;
-    Ok(wrong)
+    called(alloc, &mut state)
 }
 
 /// `wrong_calls` with steps that no other call counts.

@@ -328,23 +328,37 @@ pub(crate) fn send_many<S: Begins>(
     Ok(())
 }
 
-/// The sends that aren't answered as they should be, where one method more than the cache keeps is
-/// sent, and then all once more.
+/// Sends one method more than the cache keeps, and then all once more.
+fn check_sends<S: Begins>(
+    alloc: Global,
+    state: &mut Known<S>,
+    cache: &mut CodeCache,
+    wrong: &mut String,
+) -> Result<(), AllocError> {
+    let class = "Object subclass: #Many instVarNames: #() inDictionary: UserGlobals";
+    reply_to(alloc, state, cache, false, class)?;
+    install_many(alloc, state)?;
+    send_many(alloc, state, cache, wrong)?;
+    send_many(alloc, state, cache, wrong)
+}
+
+/// The sends to these objects that aren't answered as they should be.
+fn sent<S: Begins>(alloc: Global, state: &mut Known<S>) -> Result<String, AllocError> {
+    let mut wrong = String::new(alloc);
+    let mut cache = CodeCache::new(alloc)?;
+    check_sends(alloc, state, &mut cache, &mut wrong)?;
+    Ok(wrong)
+}
+
+/// The sends that aren't answered as they should be.
 fn wrong_sends<S: Begins, L: Ledger>(alloc: Global, blank: Blank) -> Result<String, AllocError>
     requires name { blank.name ≡ L.name }
     requires parts { blank.parts ≡ L.parts }
     requires some_parts { 0 < L.parts }
 {
     let mut steps = Steps::<L>::start(blank);
-    let mut wrong = String::new(alloc);
-    let mut cache = CodeCache::new(alloc)?;
     let mut state = known::<S, L>(alloc, &mut steps)?;
-    let class = "Object subclass: #Many instVarNames: #() inDictionary: UserGlobals";
-    reply_to(alloc, &mut state, &mut cache, false, class)?;
-    install_many(alloc, &mut state)?;
-    send_many(alloc, &mut state, &mut cache, &mut wrong)?;
-    send_many(alloc, &mut state, &mut cache, &mut wrong)?;
-    Ok(wrong)
+    sent(alloc, &mut state)
 }
 
 fn rows_by_brand<S: Begins>(alloc: Global) -> Result<String, AllocError> {

@@ -144,6 +144,14 @@ fn check_commands(
     note_unless(wrong, chunk, chunk_replies(alloc, state, true, chunk, "7")?)
 }
 
+/// The calls on this state that aren't answered as they should be.
+fn called(alloc: Global, state: &mut PlainState) -> Result<String, AllocError> {
+    let mut wrong = String::new(alloc);
+    check_parts(alloc, state, &mut wrong)?;
+    check_commands(alloc, state, &mut wrong)?;
+    Ok(wrong)
+}
+
 /// The calls that aren't answered as they should be.
 fn wrong_calls<L: Ledger>(alloc: Global, blank: Blank) -> Result<String, AllocError>
     requires name { blank.name ≡ L.name }
@@ -152,10 +160,7 @@ fn wrong_calls<L: Ledger>(alloc: Global, blank: Blank) -> Result<String, AllocEr
 {
     let mut steps = Steps::<L>::start(blank);
     let mut state = begin::<PlainState, L>(alloc, 1, &mut steps)?;
-    let mut wrong = String::new(alloc);
-    check_parts(alloc, &mut state, &mut wrong)?;
-    check_commands(alloc, &mut state, &mut wrong)?;
-    Ok(wrong)
+    called(alloc, &mut state)
 }
 
 /// `wrong_calls` with steps that no other call counts.

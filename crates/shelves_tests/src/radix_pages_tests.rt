@@ -41,13 +41,25 @@ fn has_first(map: &Map, count: u64) -> bool
     map.count() == count
 }
 
+/// Inserts the key at this place with its value.
+fn insert_at<L: Ledger>(
+    alloc: Global,
+    map: &mut Map,
+    index: u64,
+    steps: &mut Steps<L>,
+) -> Result<(), AllocError>
+    requires { index < 100000 }
+{
+    map.insert(alloc, key_at(index), value_at(index), steps)
+}
+
 /// The map of the first of these keys.
 fn filled<L: Ledger>(alloc: Global, count: u64, steps: &mut Steps<L>) -> Result<Map, AllocError>
     requires { count ≤ 100000 }
 {
     let mut map = Map::new();
     for index in 0..count {
-        map.insert(alloc, key_at(index), value_at(index), steps)?;
+        insert_at(alloc, &mut map, index, steps)?;
     }
     Ok(map)
 }
@@ -115,10 +127,9 @@ fn insert_next<R: Abort, L: Ledger>(
 ) -> Result<(), Fail>
     requires { index < 100000 }
 {
-    let (key, value) = (key_at(index), value_at(index));
-    if map.insert(alloc, key, value, steps).is_err() {
+    if insert_at(alloc, map, index, steps).is_err() {
         assert!(rt; has_first(map, index));
-        map.insert(alloc, key, value, steps)?;
+        insert_at(alloc, map, index, steps)?;
     }
     Ok(())
 }

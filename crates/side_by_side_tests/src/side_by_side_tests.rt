@@ -128,33 +128,46 @@ fn run_last(
     run_session(alloc, stone, number, number, session)
 }
 
+// Runs the last session but one, overtaken as told, and then the last one.
+fn run_last_two(
+    alloc: Global,
+    stone: Stone,
+    script: Arc<Script>,
+    first: usize,
+    ran: Vec<Transcript>,
+    turns: Turns,
+) -> Result<RunBook, AllocError>
+    requires script { stone.opened.script ≡ script.value }
+    requires serves { CanServe stone.opened }
+    requires base { base_serial stone.opened ≡ 1 }
+    requires limit { length script.value ≤ SESSION_LIMIT }
+    requires count { first + 2 ≤ length script.value }
+    requires fresh { (session : ℕ) → first < session → events_of session stone.events ≡ [] }
+{
+    let again = script.clone()?;
+    let (mut stone, mut transcripts) = run_overtaken(alloc, stone, again, first, ran, turns)?;
+    transcripts.push(run_last(alloc, &mut stone, script.sessions())?)?;
+    Ok(RunBook {
+        first: 0,
+        base: 1,
+        transcripts: Transcripts::of(transcripts),
+        history: History::of(stone.close().history),
+    })
+}
+
 // Runs a script: its first sessions in turn, the last but one overtaken at these turns by the ones
 // before it, and then the last one.
 fn run_row(alloc: Global, script: Script, turns: Turns) -> Result<Option<RunBook>, AllocError> {
     let script = Arc::new(alloc, script)?;
-    let sessions = script.sessions();
-    let count = sessions.len();
+    let count = script.sessions().len();
     if count < 2 {
         return Ok(None);
     }
     let mut stone = opened::<Brand>(alloc, script.clone()?, Blank::new(1))?;
     let first = before_turns(count, turns);
-    let ran = run_first(alloc, &mut stone, sessions, first)?;
-    let (mut stone, mut transcripts) = run_overtaken(
-        alloc,
-        stone,
-        script.clone()?,
-        first,
-        ran,
-        turns,
-    )?;
-    transcripts.push(run_last(alloc, &mut stone, sessions)?)?;
-    Ok(Some(RunBook {
-        first: 0,
-        base: 1,
-        transcripts: Transcripts::of(transcripts),
-        history: History::of(stone.close().history),
-    }))
+    let ran = run_first(alloc, &mut stone, script.sessions(), first)?;
+    let book = run_last_two(alloc, stone, script, first, ran, turns)?;
+    Ok(Some(book))
 }
 
 // Two texts, one after the other.
@@ -164,20 +177,27 @@ fn both(alloc: Global, first: &str, second: &str) -> Result<String, AllocError> 
     Ok(text)
 }
 
+// The book of this script's run.
+fn book_of(alloc: Global, turns: Turns, script: &str) -> Result<RunBook, Fail> {
+    let text = both(alloc, MADE, script)?;
+    let Ok(read) = read_script(alloc, text.as_bytes()) else {
+        return Err(Fail::new("it is no script"));
+    };
+    Ok(run_row(alloc, read, turns)?.ok_or("it has no two sessions")?)
+}
+
+// Whether the book is reported so.
+fn is_reported(alloc: Global, book: &RunBook, report: &str) -> Result<bool, AllocError> {
+    let wanted = both(alloc, MADE_REPORT, report)?;
+    Ok(report_text(alloc, book)?.as_slice() == wanted.as_bytes())
+}
+
 #[test]
 fn two_sessions_side_by_side(rt: HostRuntime) -> Result<(), Fail> {
     let alloc = rt.alloc();
     for (turns, script, report) in ROWS {
-        let text = both(alloc, MADE, script)?;
-        let Ok(read) = read_script(alloc, text.as_bytes()) else {
-            return Err(Fail::new("it is no script"));
-        };
-        let Some(book) = run_row(alloc, read, turns)? else {
-            return Err(Fail::new("it has no two sessions"));
-        };
-        let wanted = both(alloc, MADE_REPORT, report)?;
-        let told = report_text(alloc, &book)?;
-        assert_eq!(rt; told.as_slice(), wanted.as_bytes(), "{script}");
+        let book = book_of(alloc, turns, script)?;
+        assert!(rt; is_reported(alloc, &book, report)?, "{script}");
     }
     Ok(())
 }

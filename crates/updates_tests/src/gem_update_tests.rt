@@ -6,6 +6,7 @@ use rc_counter_bag::{Bag, BagFault, BagUpdate, Counter, CounterRange};
 use rc_dict::{DictFault, DictUpdate, KeyDict};
 use rc_queue::{Queue, QueueFault, QueueUpdate};
 use std::alloc::Global;
+use std::slice;
 use std::test::Fail;
 
 const GREATEST: i64 = 1152921504606846975;
@@ -273,16 +274,10 @@ const fn counters() -> Bodies {
 }
 
 // Whether a merge of the update gives a body of so many bytes, or is refused.
-fn is_merged(
-    alloc: Global,
-    bodies: &Bodies,
-    update: &Update,
-    bytes: Option<u64>,
-) -> Result<bool, Fail> {
-    let updates = vec![in alloc; update.clone()?]?;
-    match merge_body(alloc, &bodies.0, &bodies.1, &updates) {
-        Ok(body) => Ok(bytes == Some(body.size())),
-        Err(fault) => Ok(bytes.is_none() && fault == UpdateFault::Refused),
+fn is_merged(alloc: Global, bodies: &Bodies, update: &Update, bytes: Option<u64>) -> bool {
+    match merge_body(alloc, &bodies.0, &bodies.1, slice::from_ref(update)) {
+        Ok(body) => bytes == Some(body.size()),
+        Err(fault) => bytes.is_none() && fault == UpdateFault::Refused,
     }
 }
 
@@ -301,17 +296,17 @@ fn changes(
     update: Update,
     kind: ConflictKind,
     bytes: Option<u64>,
-) -> Result<bool, Fail> {
+) -> bool {
     let is_kind = merge_kind(&bodies.1) == Some(kind);
-    let merged = is_merged(alloc, &bodies, &update, bytes)?;
-    Ok(is_kind && merged && is_updated(bodies.1, update, bytes))
+    let merged = is_merged(alloc, &bodies, &update, bytes);
+    is_kind && merged && is_updated(bodies.1, update, bytes)
 }
 
 #[test]
 fn bodies_that_take_an_update(rt: HostRuntime) -> Result<(), Fail> {
     let alloc = rt.alloc();
     let kind = ConflictKind::BagRemove;
-    assert!(rt; changes(alloc, bags(alloc)?, Update::Bag(add()), kind, Some(14))?);
+    assert!(rt; changes(alloc, bags(alloc)?, Update::Bag(add()), kind, Some(14)));
     let kind = ConflictKind::DictionaryKey;
     assert!(rt;
         changes(
@@ -320,7 +315,7 @@ fn bodies_that_take_an_update(rt: HostRuntime) -> Result<(), Fail> {
             Update::RcDict(put(b'b', 2)),
             kind,
             Some(26)
-        )?
+        )
     );
     Ok(())
 }
@@ -329,11 +324,11 @@ fn bodies_that_take_an_update(rt: HostRuntime) -> Result<(), Fail> {
 fn bodies_that_refuse_an_update(rt: HostRuntime) -> Result<(), Fail> {
     let alloc = rt.alloc();
     let kind = ConflictKind::CounterRange;
-    assert!(rt; changes(alloc, counters(), Update::Counter(1), kind, None)?);
+    assert!(rt; changes(alloc, counters(), Update::Counter(1), kind, None));
     let kind = ConflictKind::QueueRemove;
-    assert!(rt; changes(alloc, queues(alloc)?, Update::Queue(leave(1)), kind, None)?);
+    assert!(rt; changes(alloc, queues(alloc)?, Update::Queue(leave(1)), kind, None));
     // An update of another class.
     let kind = ConflictKind::BagRemove;
-    assert!(rt; changes(alloc, bags(alloc)?, Update::Counter(1), kind, None)?);
+    assert!(rt; changes(alloc, bags(alloc)?, Update::Counter(1), kind, None));
     Ok(())
 }

@@ -41,9 +41,16 @@ fn is_ascending(made: &[(Oid, Object)]) -> bool
     ascend(made)
 }
 
+// A name, and the class, segment and slots of its object.
+type Row = (u64, u64, u64, &'static [u64]);
+
+fn shape(alloc: Global, row: &Row) -> Result<(Oid, Object), Fail> {
+    let &(name, class, segment, slots) = row;
+    Ok((named(name)?, object(alloc, class, segment, slots)?))
+}
+
 fn shapes(alloc: Global) -> Result<Vec<(Oid, Object)>, Fail> {
-    // Name, class, segment, slots.
-    let rows = [
+    let rows: [Row; 8] = [
         // A cycle, from which there is a way to an object of a made class and segment.
         (1, KERNEL, KERNEL, [2, KERNEL].as_slice()),
         (2, KERNEL, KERNEL, [1, 3].as_slice()),
@@ -56,8 +63,8 @@ fn shapes(alloc: Global) -> Result<Vec<(Oid, Object)>, Fail> {
         (9, KERNEL, KERNEL, [].as_slice()),
     ];
     let mut made = Vec::new(alloc);
-    for &(name, class, segment, slots) in &rows {
-        made.push((named(name)?, object(alloc, class, segment, slots)?))?;
+    for row in &rows {
+        made.push(shape(alloc, row)?)?;
     }
     Ok(made)
 }

@@ -1,5 +1,7 @@
+ghost use Rattle.std.specs.Prelude.{◌≡◌, length, IfOk};
+
 use gem_value::{Conflict, ConflictKind, Conflicts, Oid, Sequence};
-use std::alloc::Global;
+use std::alloc::{AllocError, Global};
 use std::test::Fail;
 
 // Whether a name has this serial and counter, and this number.
@@ -58,19 +60,43 @@ fn lists(rt: HostRuntime) -> Result<(), Fail> {
     Ok(())
 }
 
+// The items 10, 20 and 30.
+fn tens(alloc: Global) -> Result<Sequence<u64>, AllocError>
+    ensures { IfOk result (λ list. length list ≡ 3) }
+{
+    Ok(Sequence::of(vec![in alloc; 10, 20, 30]?))
+}
+
 #[test]
-fn changes_of_a_list(rt: HostRuntime) -> Result<(), Fail> {
-    let alloc = rt.alloc();
-    let mut list = Sequence::of(vec![in alloc; 10, 20, 30]?);
+fn items_of_a_list_change(rt: HostRuntime) -> Result<(), Fail> {
+    let mut list = tens(rt.alloc())?;
     list.set(1, 21);
+    assert_eq!(rt; list.as_slice(), [10, 21, 30].as_slice());
+    Ok(())
+}
+
+#[test]
+fn a_list_grows(rt: HostRuntime) -> Result<(), Fail> {
+    let mut list = tens(rt.alloc())?;
+    list.insert(1, 15)?;
     list.push(40)?;
-    list.insert(0, 5)?;
-    assert_eq!(rt; list.as_slice(), [5, 10, 21, 30, 40].as_slice());
-    assert_eq!(rt; list.pop(), Some(40));
-    assert_eq!(rt; list.remove(1), 10);
-    let copy = list.try_clone()?;
+    assert_eq!(rt; list.as_slice(), [10, 15, 20, 30, 40].as_slice());
+    Ok(())
+}
+
+#[test]
+fn a_list_shrinks(rt: HostRuntime) -> Result<(), Fail> {
+    let mut list = tens(rt.alloc())?;
+    assert_eq!(rt; list.remove(1), 20);
+    assert_eq!(rt; list.pop(), Some(30));
+    assert_eq!(rt; list.as_slice(), [10].as_slice());
+    Ok(())
+}
+
+#[test]
+fn copy_of_a_list(rt: HostRuntime) -> Result<(), Fail> {
+    let copy = tens(rt.alloc())?.try_clone()?;
     assert!(rt; copy.len() == 3 && !copy.is_empty());
-    let mut left = copy.into_items();
-    assert_eq!(rt; left.pop(), Some(30));
+    assert_eq!(rt; copy.into_items().pop(), Some(30));
     Ok(())
 }

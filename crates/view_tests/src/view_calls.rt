@@ -1,7 +1,7 @@
 // Each call of a view once, with ample memory.
 ghost use Rattle.std.specs.Prelude.{◌≡◌, ◌<◌};
 
-use crate::notes::{note, note_unless};
+use crate::notes::note_unless;
 use crate::walk::is_shared;
 use gem_object::{Body, Object, Value, Values};
 use gem_record::TxnRecord;
@@ -190,6 +190,13 @@ fn check_calls(alloc: Global, view: &mut View, wrong: &mut String) -> Result<(),
     note_unless(wrong, "finish", finishes(view)?)
 }
 
+/// The calls of the view that don't answer as they should.
+fn called(alloc: Global, view: &mut View) -> Result<String, AllocError> {
+    let mut wrong = String::new(alloc);
+    check_calls(alloc, view, &mut wrong)?;
+    Ok(wrong)
+}
+
 /// The calls that don't answer as they should.
 fn wrong_calls<L: Ledger>(alloc: Global, blank: Blank) -> Result<String, AllocError>
     requires name { blank.name ≡ L.name }
@@ -197,13 +204,10 @@ fn wrong_calls<L: Ledger>(alloc: Global, blank: Blank) -> Result<String, AllocEr
     requires some_parts { 0 < L.parts }
 {
     let mut steps = Steps::<L>::start(blank);
-    let image = larger_image(alloc, 8, &mut steps)?;
-    let mut wrong = String::new(alloc);
-    match begin_over::<View>(alloc, image, 1)? {
-        Some(mut view) => check_calls(alloc, &mut view, &mut wrong)?,
-        None => note(&mut wrong, "start")?,
+    match begin_over::<View>(alloc, larger_image(alloc, 8, &mut steps)?, 1)? {
+        Some(mut view) => called(alloc, &mut view),
+        None => format!(in alloc; "start"),
     }
-    Ok(wrong)
 }
 
 /// `wrong_calls` with steps that no other call counts.

@@ -4,7 +4,7 @@ ghost use Rattle.std.specs.Prelude.{◌≡◌, ◌<◌, ℕ, true};
 ghost use Rattle.object_programs.specs.Methods.{methods_fit};
 ghost use Rattle.session_view.specs.Calls.{is_shared_at};
 
-use crate::notes::{note, note_unless};
+use crate::notes::note_unless;
 use gem_image::Image;
 use gem_object::{Body, Object, Value, Values};
 use gem_record::TxnRecord;
@@ -364,6 +364,13 @@ fn both_over(alloc: Global, image: Image) -> Result<Option<Both>, AllocError> {
     }
 }
 
+/// What is wrong after a walk over these.
+fn walked(alloc: Global, both: &mut Both) -> Result<String, AllocError> {
+    let mut wrong = String::new(alloc);
+    check_walk(alloc, both, &mut wrong)?;
+    Ok(wrong)
+}
+
 /// What is wrong after a walk.
 fn wrong_walk<L: Ledger>(alloc: Global, blank: Blank) -> Result<String, AllocError>
     requires name { blank.name ≡ L.name }
@@ -371,13 +378,10 @@ fn wrong_walk<L: Ledger>(alloc: Global, blank: Blank) -> Result<String, AllocErr
     requires some_parts { 0 < L.parts }
 {
     let mut steps = Steps::<L>::start(blank);
-    let image = larger_image(alloc, 100, &mut steps)?;
-    let mut wrong = String::new(alloc);
-    match both_over(alloc, image)? {
-        Some(mut both) => check_walk(alloc, &mut both, &mut wrong)?,
-        None => note(&mut wrong, "the image isn't sound")?,
+    match both_over(alloc, larger_image(alloc, 100, &mut steps)?)? {
+        Some(mut both) => walked(alloc, &mut both),
+        None => format!(in alloc; "the image isn't sound"),
     }
-    Ok(wrong)
 }
 
 /// `wrong_walk` with steps that no other call counts.
