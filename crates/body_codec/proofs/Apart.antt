@@ -1,12 +1,12 @@
 -- Objects and effects that are spelled in front of the same bytes are the same.
 use Rattle.std.proofs.Common.{◌≡◌, ℕ, ℤ, ◌^◌, ◌<◌, List, [], ◌∷◌, ◌++◌, Option, Some, None, length, refl, sym, ap, ap₂, ◌∙◌, arith}
 use Rattle.std.specs.Option.{IfSome}
-use Rattle.texts.specs.Bytes.{Bytes as Text}
-use Rattle.seg_rights.specs.declared.right.Right.{Right}
-use Rattle.seg_rights.specs.declared.right.Right.TheVariants as right
-use Rattle.seg_rights.specs.declared.rights.Rights.{Rights}
-use Rattle.seg_rights.specs.Right.{rank_of}
-use Rattle.rc_queue.specs.Contents.{Contents}
+use Rattle.gem_object.specs.texts.Bytes.{Bytes as Text}
+use Rattle.gem_object.specs.seg_rights.declared.right.Right.{Right}
+use Rattle.gem_object.specs.seg_rights.declared.right.Right.TheVariants as right
+use Rattle.gem_object.specs.seg_rights.declared.rights.Rights.{Rights}
+use Rattle.gem_object.specs.seg_rights.Right.{rank_of}
+use Rattle.gem_object.specs.rc_queue.Contents.{Contents}
 use Rattle.gem_object.specs.Order.{tag_of}
 use Rattle.gem_object.specs.Kinds.{kind_number}
 use Rattle.gem_object.specs.declared.kind.Kind.{Kind}
@@ -22,7 +22,7 @@ use Rattle.gem_object.specs.declared.body.UserBody.{UserBody}
 use Rattle.gem_object.specs.declared.body.Body.{Body}
 use Rattle.gem_object.specs.declared.body.Body.TheVariants.{Plain, Bytes, Dict, Class, Segment, User, Counter, Bag, RcDict, Queue}
 use Rattle.gem_object.specs.declared.object.Object.{Object}
-use Rattle.rc_counter_bag.specs.declared.counter.Counter.{Counter as CounterOf}
+use Rattle.gem_object.specs.rc_counter_bag.declared.counter.Counter.{Counter as CounterOf}
 use Rattle.gem_record.specs.declared.effect.Effect.{Effect}
 use Rattle.body_codec.specs.Spelled.{two_bytes, four_bytes, eight_bytes, spelled_text, spelled_content, spelled_value, spelled_pair, spelled_occurrences, spelled_grant, spelled_code, spelled_method, short_list, long_list, spelled_superclass, spelled_members, spelled_class, spelled_segment, spelled_user, body_tag, spelled_fields, spelled_body, spelled_object, spelled_changed, spelled_effect}
 use Rattle.body_codec.specs.Stored.{TellsApart, IsStored, IsStoredAt, IsStoredEffect}

@@ -6,7 +6,7 @@ use Rattle.std.specs.Ordering.{is_eq, ordering_reverse}
 use Rattle.std.specs.declared.cmp.Ordering.{Ordering}
 use Rattle.std.specs.declared.cmp.Ordering.TheVariants.{Less, Equal, Greater}
 use Rattle.std.proofs.Common.{refl}
-use Rattle.insertion_map.specs.Pairs.{entry_of, with_pair}
+use Rattle.gem_object.specs.insertion_map.Pairs.{entry_of, with_pair}
 use Rattle.gem_object.specs.contracts.value.ValuePartialEq.TheImpl as equality
 use Rattle.gem_object.specs.contracts.value.ValueOrd.TheImpl as order
 use Rattle.gem_object.specs.contracts.value.ValueOrd.TheImpl.Laws.{matches_eq-law, total-law}

@@ -7,7 +7,7 @@ use Rattle.std.proofs.lemmas.Nat.{from_le_bytes-to_le_bytes_2, from_le_bytes-to_
 use Rattle.std.proofs.lemmas.Int.{to_z-of_z}
 use Rattle.std.proofs.lemmas.List.Elements.{recursion_from_All}
 use Rattle.std.proofs.Math.Facts.{Fits-of_z}
-use Rattle.profile.specs.SmallInteger.{is_small_integer}
+use Rattle.gem_object.specs.texts.SmallInteger.{is_small_integer}
 use Rattle.body_codec.specs.Spelled.{two_bytes, four_bytes, eight_bytes, integer_bytes, short_list, long_list}
 use Rattle.body_codec.specs.Stored.{TellsApart}
 use Rattle.body_codec.proofs.Lengths.{two_long, four_long, eight_long}

@@ -2,9 +2,9 @@
 use Rattle.std.proofs.Common.{◌≡◌, ◌<◌, ℕ, Bool, true, false, cond, List, [], ◌∷◌, ◌++◌, Some, is_some, get_or, Fits, w8, Ok, refl, sym, ap, subst, ◌∙◌, arith}
 use Rattle.std.proofs.lemmas.Bool.{false≢true}
 use Rattle.std.proofs.lemmas.List.Elements.{recursion_from_All}
-use Rattle.rc_counter_bag.specs.Bag.{IsBag}
-use Rattle.rc_dict.specs.Dict.{IsDict}
-use Rattle.insertion_map.specs.Pairs.{entry_of, with_pair}
+use Rattle.gem_object.specs.rc_counter_bag.Bag.{IsBag}
+use Rattle.gem_object.specs.rc_dict.Dict.{IsDict}
+use Rattle.gem_object.specs.insertion_map.Pairs.{entry_of, with_pair}
 use Rattle.gem_object.specs.contracts.value.ValueOrd.TheImpl as order
 use Rattle.gem_object.specs.Order.{same_value}
 use Rattle.gem_object.specs.declared.value.Value.{Value}

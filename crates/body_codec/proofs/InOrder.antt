@@ -6,7 +6,7 @@ use Rattle.std.specs.List.Sorted.{IsStrictlySortedBy}
 use Rattle.std.specs.Ordering.{is_lt}
 use Rattle.std.specs.declared.cmp.Ordering.TheVariants.{Less, Equal, Greater}
 use Rattle.std.proofs.lemmas.Bool.{false≢true}
-use Rattle.insertion_map.specs.Pairs.{AreDistinct, entry_of}
+use Rattle.gem_object.specs.insertion_map.Pairs.{AreDistinct, entry_of}
 use Rattle.body_codec.specs.Reading.{last_of, is_above}
 use Rattle.body_codec.proofs.Lists.{AllAfter}
 

@@ -2,11 +2,11 @@
 use Rattle.std.proofs.Common.{◌≡◌, ℕ, suc, ◌+◌, List, [], ◌∷◌, ◌++◌, Option, Some, None, length, sum_by, refl, sym, ap, ap₂, ◌∙◌, length-append, arith}
 use Rattle.std.specs.List.{flat_map}
 use Rattle.std.proofs.lemmas.List.Sums.{sum_by-cons}
-use Rattle.texts.specs.Bytes.{Bytes as Text}
-use Rattle.seg_rights.specs.declared.right.Right.{Right}
-use Rattle.seg_rights.specs.declared.rights.Rights.{Rights}
-use Rattle.seg_rights.specs.Right.{rank_of}
-use Rattle.rc_queue.specs.Contents.{Contents}
+use Rattle.gem_object.specs.texts.Bytes.{Bytes as Text}
+use Rattle.gem_object.specs.seg_rights.declared.right.Right.{Right}
+use Rattle.gem_object.specs.seg_rights.declared.rights.Rights.{Rights}
+use Rattle.gem_object.specs.seg_rights.Right.{rank_of}
+use Rattle.gem_object.specs.rc_queue.Contents.{Contents}
 use Rattle.gem_object.specs.Kinds.{kind_number}
 use Rattle.gem_object.specs.Sizes.{text_size, value_size, pair_size, occurrences_size, grant_size, code_size, method_size, names_size, methods_size, class_size, user_size, fields_size, object_size}
 use Rattle.gem_object.specs.declared.value.Value.{Value}

@@ -5,8 +5,8 @@ use Rattle.std.specs.Cmp.{IsTotalOrder}
 use Rattle.std.proofs.lemmas.Cmp.{nat_list_cmp_total}
 use Rattle.std.proofs.lemmas.List.{map-id}
 use Rattle.std.proofs.lemmas.List.Elements.{All-from_recursion, recursion_from_All}
-use Rattle.texts.specs.Bytes.{Bytes as Text}
-use Rattle.seg_rights.specs.declared.right.Right.{Right}
+use Rattle.gem_object.specs.texts.Bytes.{Bytes as Text}
+use Rattle.gem_object.specs.seg_rights.declared.right.Right.{Right}
 use Rattle.gem_object.specs.Order.{value_order, same_value}
 use Rattle.gem_object.specs.Spelling.{IsText, IsStorable, AreStorable, IsDictionary, IsMethod, AreMethods, IsItems, IsKeyDictionary, Ascend}
 use Rattle.gem_object.specs.declared.value.Value.{Value}

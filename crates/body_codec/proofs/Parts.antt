@@ -3,11 +3,11 @@ use Rattle.std.proofs.Common.{◌≡◌, ◌≢◌, ℕ, suc, ◌<◌, ◌^◌, 
 use Rattle.std.specs.Option.{IfSome}
 use Rattle.std.proofs.lemmas.Bool.{eqb-true, false≢true}
 use Rattle.std.proofs.lemmas.Bool.Decides.{nat_tests}
-use Rattle.texts.specs.Bytes.{Bytes as Text}
-use Rattle.seg_rights.specs.declared.right.Right.{Right}
-use Rattle.seg_rights.specs.declared.right.Right.TheVariants as right
-use Rattle.seg_rights.specs.Right.{rank_of}
-use Rattle.insertion_map.specs.Pairs.{entry_of}
+use Rattle.gem_object.specs.texts.Bytes.{Bytes as Text}
+use Rattle.gem_object.specs.seg_rights.declared.right.Right.{Right}
+use Rattle.gem_object.specs.seg_rights.declared.right.Right.TheVariants as right
+use Rattle.gem_object.specs.seg_rights.Right.{rank_of}
+use Rattle.gem_object.specs.insertion_map.Pairs.{entry_of}
 use Rattle.gem_object.specs.Order.{tag_of, value_order, same_value}
 use Rattle.gem_object.specs.Kinds.{kind_number}
 use Rattle.gem_object.specs.declared.kind.Kind.{Kind}

@@ -4,10 +4,10 @@ use Rattle.std.specs.Ordering.{nat_cmp}
 use Rattle.std.specs.Int.{w64}
 use Rattle.std.proofs.lemmas.Cmp.{nat_cmp_total}
 use Rattle.std.proofs.lemmas.List.Elements.{All-from_recursion, recursion_from_All}
-use Rattle.texts.specs.Bytes.{Bytes as Text}
-use Rattle.seg_rights.specs.declared.right.Right.{Right}
-use Rattle.seg_rights.specs.Right.{rank_of}
-use Rattle.rc_queue.specs.Contents.{Contents}
+use Rattle.gem_object.specs.texts.Bytes.{Bytes as Text}
+use Rattle.gem_object.specs.seg_rights.declared.right.Right.{Right}
+use Rattle.gem_object.specs.seg_rights.Right.{rank_of}
+use Rattle.gem_object.specs.rc_queue.Contents.{Contents}
 use Rattle.gem_object.specs.Kinds.{kind_number}
 use Rattle.gem_object.specs.declared.kind.Kind.{Kind}
 use Rattle.gem_object.specs.Spelling.{IsOid, IsText, AreStorable, IsDictionary, AreMethods, IsClass, IsSegment, IsUser, IsItems, IsKeyDictionary, IsSpelledBody}

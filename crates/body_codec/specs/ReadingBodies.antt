@@ -4,13 +4,13 @@ use Rattle.std.specs.Ordering.{nat_cmp}
 use Rattle.std.specs.declared.cmp.Ordering.{Ordering}
 use Rattle.std.specs.Int.{w64}
 use Rattle.std.specs.Cmp.Lexicographic.{slice_cmp}
-use Rattle.texts.specs.Bytes.{Bytes as Text}
-use Rattle.seg_rights.specs.declared.right.Right.{Right}
-use Rattle.seg_rights.specs.declared.right.Right.TheVariants as right
-use Rattle.seg_rights.specs.declared.rights.Rights.{Rights}
-use Rattle.rc_counter_bag.specs.declared.counter.Counter.{Counter as CounterOf}
-use Rattle.rc_queue.specs.Contents.{Contents}
-use Rattle.insertion_map.specs.Pairs.{entry_of}
+use Rattle.gem_object.specs.texts.Bytes.{Bytes as Text}
+use Rattle.gem_object.specs.seg_rights.declared.right.Right.{Right}
+use Rattle.gem_object.specs.seg_rights.declared.right.Right.TheVariants as right
+use Rattle.gem_object.specs.seg_rights.declared.rights.Rights.{Rights}
+use Rattle.gem_object.specs.rc_counter_bag.declared.counter.Counter.{Counter as CounterOf}
+use Rattle.gem_object.specs.rc_queue.Contents.{Contents}
+use Rattle.gem_object.specs.insertion_map.Pairs.{entry_of}
 use Rattle.gem_object.specs.Order.{value_order, same_value}
 use Rattle.gem_object.specs.declared.kind.Kind.{Kind}
 use Rattle.gem_object.specs.declared.kind.Kind.TheVariants as kind

@@ -3,11 +3,11 @@
 use Rattle.std.specs.Prelude.{ℕ, ℤ, ◌%◌, ◌^◌, List, [], ◌∷◌, ◌++◌, length, Option, Some, None}
 use Rattle.std.specs.List.{flat_map}
 use Rattle.std.specs.Int.{w16, w32, w64, to_le_bytes, cast_unsigned}
-use Rattle.texts.specs.Bytes.{Bytes as Text}
-use Rattle.seg_rights.specs.declared.right.Right.{Right}
-use Rattle.seg_rights.specs.declared.rights.Rights.{Rights}
-use Rattle.seg_rights.specs.Right.{rank_of}
-use Rattle.rc_queue.specs.Contents.{Contents}
+use Rattle.gem_object.specs.texts.Bytes.{Bytes as Text}
+use Rattle.gem_object.specs.seg_rights.declared.right.Right.{Right}
+use Rattle.gem_object.specs.seg_rights.declared.rights.Rights.{Rights}
+use Rattle.gem_object.specs.seg_rights.Right.{rank_of}
+use Rattle.gem_object.specs.rc_queue.Contents.{Contents}
 use Rattle.gem_object.specs.Order.{tag_of}
 use Rattle.gem_object.specs.Kinds.{kind_number}
 use Rattle.gem_object.specs.declared.value.Value.{Value}

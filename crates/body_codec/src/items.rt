@@ -1,17 +1,13 @@
 //! What bodies hold more than one of: values, pairs, groups and methods.
 ghost use Rattle.std.specs.Prelude.{◌≡◌, ◌++◌, ◌∷◌, [], ℕ, List, OnOk};
 ghost use Rattle.std.specs.List.{flat_map};
-ghost use Rattle.seg_rights.specs.Right.{rank_of};
+ghost use Rattle.gem_object.specs.seg_rights.Right.{rank_of};
 ghost use Rattle.body_codec.specs.Spelled.{spelled_text, spelled_value, spelled_pair, spelled_occurrences, spelled_grant, spelled_code, spelled_method, spelled_changed, spelled_queue, short_list, long_list};
 
 use crate::numbers::{put_bytes, put_i64, put_text, put_u8, put_u16, put_u32, put_u64};
 use crate::write::put_object;
-use gem_object::{Dictionary, Method, MethodCode, Object, Value};
-use gem_value::Oid;
-use rc_queue::Queue;
-use seg_rights::Right;
+use gem_object::{Dictionary, Method, MethodCode, Object, Oid, Queue, Right, Text, Value};
 use std::alloc::AllocError;
-use texts::Text;
 
 // What has bytes of its own where it is stored.
 pub(crate) trait Spell {

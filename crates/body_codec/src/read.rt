@@ -5,11 +5,8 @@ ghost use Rattle.std.specs.Int.{w16, w32, w64};
 ghost use Rattle.body_codec.specs.Reading.{made, Gives, number_at, byte_at, name_at, integer_at, times_at, plain_at, text_at, bytes_at, char_at, content_at, value_at, key_at};
 
 use crate::fault::{BodyRule, ReadError, breaks};
-use gem_object::Value;
-use gem_value::Oid;
-use profile::{LARGEST_INTEGER, SMALLEST_INTEGER};
+use gem_object::{LARGEST_INTEGER, Oid, SMALLEST_INTEGER, Text, Value};
 use std::alloc::Global;
-use texts::Text;
 
 #[tactic(auto, unfolding(crate::specs::Reading::byte_at))]
 pub(crate) fn read_byte(bytes: &[u8]) -> Result<(u8, &[u8]), ReadError>

@@ -10,14 +10,11 @@ use crate::read_lists::{
     AnyText, AnyValue, Grant, GroupName, MethodInOrder, Occurrences, SortedPair, read_dictionary,
     read_kind, read_right,
 };
-use gem_object::{Body, ClassBody, UserBody, Value};
-use gem_value::{Oid, Sequence};
-use rc_counter_bag::{Bag, Counter};
-use rc_dict::KeyDict;
-use rc_queue::Queue;
-use seg_rights::{Groups, Rights};
+use gem_object::{
+    Bag, Body, ClassBody, Counter, Groups, KeyDict, Oid, Queue, Rights, Sequence, Text, UserBody,
+    Value,
+};
 use std::alloc::Global;
-use texts::Text;
 
 // The superclass of this number: none where it is 0.
 fn superclass_of(number: u64) -> Option<Oid>

@@ -1,6 +1,6 @@
 //! Items behind their number.
 ghost use Rattle.std.specs.Prelude.{◌≡◌, ℕ, List, [], Result, option_copied, is_some};
-ghost use Rattle.insertion_map.specs.Pairs.{entry_of};
+ghost use Rattle.gem_object.specs.insertion_map.Pairs.{entry_of};
 ghost use Rattle.gem_object.specs.Order.{same_value};
 ghost use Rattle.body_codec.specs.declared.fault.Flaw.{Flaw};
 ghost use Rattle.body_codec.specs.Reading.{Gives, is_above, items_after, short_at, long_at, some_at};

@@ -10,11 +10,8 @@ use crate::read::{
     read_byte, read_bytes, read_key, read_name, read_text, read_times, read_u32, read_value,
 };
 use crate::read_items::{ItemReader, is_above};
-use gem_object::{Dictionary, Kind, Method, MethodCode, Value};
-use gem_value::Oid;
-use seg_rights::Right;
+use gem_object::{Dictionary, Kind, Method, MethodCode, Oid, Right, Text, Value};
 use std::alloc::Global;
-use texts::Text;
 
 // The values of a body.
 #[derive(Drop)]

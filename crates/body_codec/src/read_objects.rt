@@ -13,9 +13,8 @@ use crate::fault::{BodyFault, BodyRule, Flaw, ReadError, breaks};
 use crate::read::{name_of, read_name};
 use crate::read_bodies::read_body;
 use crate::read_items::{ItemReader, is_above, read_some};
-use gem_object::Object;
+use gem_object::{Object, Oid};
 use gem_record::{ByName, Effect};
-use gem_value::Oid;
 use std::alloc::Global;
 
 // The objects of an effect, which the commit of this number changed.

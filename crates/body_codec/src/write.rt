@@ -4,12 +4,9 @@ ghost use Rattle.body_codec.specs.Spelled.{spelled_class, spelled_superclass, sp
 
 use crate::items::{put_dictionary, put_long, put_queue, put_right, put_short};
 use crate::numbers::{put_bytes, put_i64, put_text, put_u8, put_u64};
-use gem_object::{Body, ClassBody, Object, UserBody};
+use gem_object::{Body, ClassBody, Object, Oid, Rights, Text, UserBody};
 use gem_record::Effect;
-use gem_value::Oid;
-use seg_rights::Rights;
 use std::alloc::{AllocError, Global};
-use texts::Text;
 
 /// The bytes in which an object is stored, where it has a spelling. The number of the commit that
 /// changed it isn't among them.

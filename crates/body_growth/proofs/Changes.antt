@@ -8,7 +8,7 @@ use Rattle.std.proofs.lemmas.Bool.{false≢true}
 use Rattle.std.proofs.lemmas.List.{length-set, set_past, take_all, drop_all, append-nil, length-take, length-drop, length-append, take-append-drop}
 use Rattle.std.proofs.lemmas.Option.{slice_get_within}
 use Rattle.gem_object.specs.Slots.{slots_of}
-use Rattle.insertion_map.specs.Pairs.{without_key}
+use Rattle.gem_object.specs.insertion_map.Pairs.{without_key}
 use Rattle.gem_object.specs.Sizes.{value_size, pair_size, fields_size}
 use Rattle.gem_object.specs.Edits.{slot_at, with_slot, with_slot_more, without_slot, with_byte, value_at, with_value_at, without_value_at}
 use Rattle.gem_object.specs.Order.{value_order, same_value}

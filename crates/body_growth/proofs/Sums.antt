@@ -3,7 +3,7 @@ use Rattle.std.proofs.Common.{◌≡◌, refl, sym, ap, ℕ, ◌+◌, ◌<◌, B
 use Rattle.std.specs.List.{sum_by, slice_get}
 use Rattle.std.proofs.lemmas.Option.{slice_get_within, get_or_from_slice_get}
 use Rattle.std.proofs.lemmas.List.Sums.{sum_by-cons, sum_by-append, sum_by-set, sum_by-take-drop, sum_by-drop_more, get_or-le-sum_by}
-use Rattle.insertion_map.specs.Pairs.{entry_of, with_pair, without_key}
+use Rattle.gem_object.specs.insertion_map.Pairs.{entry_of, with_pair, without_key}
 use Rattle.gem_object.specs.Sizes.{value_size, pair_size}
 use Rattle.gem_object.specs.declared.value.Value.{Value}
 use Rattle.body_growth.specs.Changes.{Shifts}

@@ -16,17 +16,17 @@ use Rattle.gem_object.specs.contracts.value.ValueOrd.TheImpl as order
 use Rattle.gem_object.specs.declared.value.Value.{Value}
 use Rattle.gem_object.specs.declared.body.Body.{Body}
 use Rattle.gem_object.specs.declared.body.Body.TheVariants as body
-use Rattle.rc_counter_bag.specs.Bag.{one_more, one_less, with_one_more, with_one_less}
-use Rattle.rc_counter_bag.specs.declared.counter.Counter.{Counter}
-use Rattle.rc_counter_bag.specs.declared.counter.CounterRange.{CounterRange}
-use Rattle.rc_counter_bag.specs.declared.update.BagFault.TheVariants as bag_fault
-use Rattle.rc_counter_bag.proofs.Edits as bags
-use Rattle.rc_dict.specs.Dict.{entry, put, without}
-use Rattle.rc_dict.specs.declared.update.DictFault.TheVariants as dict_fault
-use Rattle.rc_dict.proofs.Edits as dicts
-use Rattle.rc_queue.specs.Contents.{Contents}
-use Rattle.rc_queue.specs.Update.{without_front, one_removal_more}
-use Rattle.rc_queue.specs.declared.update.QueueFault.TheVariants as queue_fault
+use Rattle.gem_object.specs.rc_counter_bag.Bag.{one_more, one_less, with_one_more, with_one_less}
+use Rattle.gem_object.specs.rc_counter_bag.declared.counter.Counter.{Counter}
+use Rattle.gem_object.specs.rc_counter_bag.declared.counter.CounterRange.{CounterRange}
+use Rattle.gem_object.specs.rc_counter_bag.declared.update.BagFault.TheVariants as bag_fault
+use Rattle.gem_object.proofs.rc_counter_bag_lemmas.Edits as bags
+use Rattle.gem_object.specs.rc_dict.Dict.{entry, put, without}
+use Rattle.gem_object.specs.rc_dict.declared.update.DictFault.TheVariants as dict_fault
+use Rattle.gem_object.proofs.rc_dict_lemmas.Edits as dicts
+use Rattle.gem_object.specs.rc_queue.Contents.{Contents}
+use Rattle.gem_object.specs.rc_queue.Update.{without_front, one_removal_more}
+use Rattle.gem_object.specs.rc_queue.declared.update.QueueFault.TheVariants as queue_fault
 use Rattle.body_growth.specs.declared.change.Change.{Change}
 use Rattle.body_growth.specs.Changes.{Shifts, Changes, Tells, counted}
 use Rattle.body_growth.proofs.Sums.{item_put}

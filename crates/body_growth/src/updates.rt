@@ -3,18 +3,15 @@
 ghost use Rattle.std.specs.Prelude.{◌+◌, ◌<◌, ◌≡◌, ◌≤◌};
 ghost use Rattle.gem_object.specs.Order.{value_order};
 ghost use Rattle.gem_object.specs.Sizes.{value_size};
-ghost use Rattle.rc_counter_bag.specs.Bag.{one_less, one_more, with_one_more};
-ghost use Rattle.rc_dict.specs.Dict.{put};
+ghost use Rattle.gem_object.specs.rc_counter_bag.Bag.{one_less, one_more, with_one_more};
+ghost use Rattle.gem_object.specs.rc_dict.Dict.{put};
 ghost use Rattle.gem_update.specs.Update.{updated};
 ghost use Rattle.body_growth.specs.Changes.{Changes, Tells, counted};
 
 use crate::change::Change;
 use crate::edits::pair_bytes;
-use gem_object::{Body, Value};
+use gem_object::{Bag, BagUpdate, Body, Counter, DictUpdate, KeyDict, Queue, QueueUpdate, Value};
 use gem_update::Update;
-use rc_counter_bag::{Bag, BagUpdate, Counter};
-use rc_dict::{DictUpdate, KeyDict};
-use rc_queue::{Queue, QueueUpdate};
 use sorted_pairs::place;
 
 /// How the update changes the body, before it is made; None where the body's class refuses the

@@ -1,6 +1,6 @@
 //! Replies in words, and lines that are noted.
 
-use st_plain::Reply;
+use st_commands::Reply;
 use std::alloc::{AllocError, Global};
 
 /// The reply in the words of a report.

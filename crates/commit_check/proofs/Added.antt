@@ -1,7 +1,7 @@
 -- What the entries at one name add.
 use Rattle.std.proofs.Common.{◌≡◌, ℕ, List, ◌++◌, Option, option_to_list, ap, ◌∙◌, append_assoc}
 use Rattle.gem_object.specs.declared.object.Object.{Object}
-use Rattle.gem_value.specs.declared.conflict.Conflict.{Conflict}
+use Rattle.gem_object.specs.gem_value.declared.conflict.Conflict.{Conflict}
 use Rattle.commit_check.specs.Conflicts.{conflict_in, object_in}
 use Rattle.commit_check.specs.declared.merging.Outcome.{Outcome}
 

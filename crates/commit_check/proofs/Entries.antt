@@ -6,9 +6,9 @@ use Rattle.std.specs.Ordering.{ordering_then}
 use Rattle.std.specs.Cmp.{nat_cmp_is, tied_itself}
 use Rattle.std.specs.FinMap.{get}
 use Rattle.std.proofs.lemmas.Cmp.{nat_cmp_total}
-use Rattle.gem_value.specs.Conflict.{kind_number}
-use Rattle.gem_value.specs.declared.conflict.Conflict.{Conflict}
-use Rattle.gem_value.specs.declared.conflict.ConflictKind.{ConflictKind}
+use Rattle.gem_object.specs.gem_value.Conflict.{kind_number}
+use Rattle.gem_object.specs.gem_value.declared.conflict.Conflict.{Conflict}
+use Rattle.gem_object.specs.gem_value.declared.conflict.ConflictKind.{ConflictKind}
 use Rattle.gem_object.specs.declared.body.Body.{Body}
 use Rattle.gem_object.specs.declared.body.Body.TheVariants as body
 use Rattle.gem_object.specs.declared.object.Object.{Object}

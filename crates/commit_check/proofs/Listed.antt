@@ -1,9 +1,9 @@
 -- What stands is listed.
 use Rattle.std.proofs.Common.{◌≡◌, ℕ, ◌<◌, Bool, true, false, ◌||◌, nat_lt, ◌⊎◌, inl, ⊎_elim, ◌++◌, Option, Some, is_some, option_to_list, flat_map, Contains, refl, sym, ap, ◌∙◌, subst}
 use Rattle.std.proofs.lemmas.Bool.{lt-ltb}
-use Rattle.gem_value.specs.declared.conflict.Conflict.{Conflict}
-use Rattle.gem_value.specs.declared.conflict.ConflictKind.{ConflictKind}
-use Rattle.gem_value.specs.declared.conflict.ConflictKind.TheVariants.{WriteWrite, ReadWrite}
+use Rattle.gem_object.specs.gem_value.declared.conflict.Conflict.{Conflict}
+use Rattle.gem_object.specs.gem_value.declared.conflict.ConflictKind.{ConflictKind}
+use Rattle.gem_object.specs.gem_value.declared.conflict.ConflictKind.TheVariants.{WriteWrite, ReadWrite}
 use Rattle.gem_image.specs.Image.{Image}
 use Rattle.gem_record.specs.declared.record.TxnRecord.{TxnRecord}
 use Rattle.lock_table.specs.Locks.{IsLowestHolder}

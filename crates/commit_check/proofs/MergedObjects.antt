@@ -1,7 +1,7 @@
 -- The merged objects are those whose merge isn't refused.
 use Rattle.std.proofs.Common.{◌≡◌, ℕ, inl, inr, List, Option, Some, None, is_some, flat_map, Contains, refl, sym, ap, ◌∙◌, subst}
 use Rattle.std.specs.FinMap.{get}
-use Rattle.gem_value.specs.declared.conflict.ConflictKind.{ConflictKind}
+use Rattle.gem_object.specs.gem_value.declared.conflict.ConflictKind.{ConflictKind}
 use Rattle.gem_object.specs.declared.body.Body.{Body}
 use Rattle.gem_object.specs.declared.object.Object.{Object}
 use Rattle.gem_image.specs.Image.{Image}

@@ -2,8 +2,8 @@
 use Rattle.std.proofs.Common.{◌≡◌, ℕ, List, flat_map, Less, nat_cmp, ap}
 use Rattle.std.specs.Ordering.{ordering_then}
 use Rattle.std.specs.List.Sorted.{IsStrictlySortedBy}
-use Rattle.gem_value.specs.Conflict.{kind_number}
-use Rattle.gem_value.specs.declared.conflict.Conflict.{Conflict}
+use Rattle.gem_object.specs.gem_value.Conflict.{kind_number}
+use Rattle.gem_object.specs.gem_value.declared.conflict.Conflict.{Conflict}
 use Rattle.gem_image.specs.Image.{Image}
 use Rattle.gem_record.specs.Names.{Ascend, AscendByName}
 use Rattle.gem_record.specs.declared.record.TxnRecord.{TxnRecord}

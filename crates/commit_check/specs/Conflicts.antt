@@ -4,9 +4,9 @@ use Rattle.std.specs.Option.{option_to_list}
 use Rattle.std.specs.Ordering.{nat_cmp, eq_by_cmp}
 use Rattle.std.specs.List.{flat_map, list_any}
 use Rattle.std.specs.FinMap.{get}
-use Rattle.gem_value.specs.declared.conflict.Conflict.{Conflict}
-use Rattle.gem_value.specs.declared.conflict.ConflictKind.{ConflictKind}
-use Rattle.gem_value.specs.declared.conflict.ConflictKind.TheVariants.{WriteWrite, ReadWrite, WriteReadLock, WriteWriteLock}
+use Rattle.gem_object.specs.gem_value.declared.conflict.Conflict.{Conflict}
+use Rattle.gem_object.specs.gem_value.declared.conflict.ConflictKind.{ConflictKind}
+use Rattle.gem_object.specs.gem_value.declared.conflict.ConflictKind.TheVariants.{WriteWrite, ReadWrite, WriteReadLock, WriteWriteLock}
 use Rattle.gem_object.specs.declared.body.Body.{Body}
 use Rattle.gem_object.specs.declared.object.Object.{Object}
 use Rattle.gem_image.specs.Image.{Image}

@@ -4,10 +4,10 @@ use Rattle.std.specs.Ordering.{nat_cmp, ordering_then}
 use Rattle.std.specs.declared.cmp.Ordering.{Ordering}
 use Rattle.std.specs.List.{Contains}
 use Rattle.std.specs.FinMap.{get}
-use Rattle.gem_value.specs.Conflict.{kind_number}
-use Rattle.gem_value.specs.declared.conflict.Conflict.{Conflict}
-use Rattle.gem_value.specs.declared.conflict.ConflictKind.{ConflictKind}
-use Rattle.gem_value.specs.declared.conflict.ConflictKind.TheVariants.{WriteWrite, ReadWrite, WriteReadLock, WriteWriteLock}
+use Rattle.gem_object.specs.gem_value.Conflict.{kind_number}
+use Rattle.gem_object.specs.gem_value.declared.conflict.Conflict.{Conflict}
+use Rattle.gem_object.specs.gem_value.declared.conflict.ConflictKind.{ConflictKind}
+use Rattle.gem_object.specs.gem_value.declared.conflict.ConflictKind.TheVariants.{WriteWrite, ReadWrite, WriteReadLock, WriteWriteLock}
 use Rattle.gem_object.specs.declared.body.Body.{Body}
 use Rattle.gem_object.specs.declared.object.Object.{Object}
 use Rattle.gem_image.specs.Image.{Image}

@@ -8,9 +8,8 @@ ghost use Rattle.commit_check.specs.Conflicts.{is_touched, change_kind, lock_kin
 use crate::merging::{Outcome, merge};
 use crate::names::names_used;
 use gem_image::Image;
-use gem_object::Object;
+use gem_object::{Conflict, ConflictKind, Conflicts, Object, Oid, Sequence};
 use gem_record::{ByName, TxnRecord};
-use gem_value::{Conflict, ConflictKind, Conflicts, Oid, Sequence};
 use lock_table::{LockKind, Locks};
 use std::alloc::{AllocError, Global};
 

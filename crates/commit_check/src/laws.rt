@@ -5,7 +5,7 @@ ghost use Rattle.std.specs.List.{Contains};
 ghost use Rattle.std.specs.List.Sorted.{IsStrictlySortedBy};
 ghost use Rattle.gem_record.specs.Names.{AscendByName};
 ghost use Rattle.gem_record.specs.declared.record.TxnRecord.{TxnRecord};
-ghost use Rattle.gem_value.specs.declared.conflict.Conflict.{Conflict};
+ghost use Rattle.gem_object.specs.gem_value.declared.conflict.Conflict.{Conflict};
 ghost use Rattle.gem_object.specs.declared.object.Object.{Object};
 ghost use Rattle.gem_image.specs.Image.{Image};
 ghost use Rattle.commit_check.specs.Conflicts.{Place, conflicts_of, merged_objects};

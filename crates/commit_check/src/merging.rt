@@ -4,10 +4,9 @@ ghost use Rattle.gem_update.specs.Update.{merge_kind};
 ghost use Rattle.commit_check.specs.Conflicts.{merge_at, made_or_refused, refused};
 
 use gem_image::Image;
-use gem_object::Object;
+use gem_object::{Conflict, Object, Oid};
 use gem_record::TxnRecord;
 use gem_update::{UpdateFault, merge_body, merge_kind};
-use gem_value::{Conflict, Oid};
 use std::alloc::{AllocError, Global};
 
 /// What comes of the updates of an object.

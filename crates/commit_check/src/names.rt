@@ -4,8 +4,8 @@ ghost use Rattle.gem_record.specs.Names.{Ascend, AscendByName};
 ghost use Rattle.commit_check.specs.Conflicts.{names_of, names_used};
 ghost use Rattle.commit_check.specs.Union.{union};
 
+use gem_object::Oid;
 use gem_record::TxnRecord;
-use gem_value::Oid;
 use std::alloc::{AllocError, Global};
 use std::cmp::Ordering;
 

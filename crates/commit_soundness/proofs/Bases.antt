@@ -5,11 +5,11 @@ use Rattle.std.specs.Option.{option_or}
 use Rattle.std.specs.Ordering.{nat_cmp}
 use Rattle.std.proofs.lemmas.Bool.{false≢true, and_from}
 use Rattle.std.proofs.lemmas.Option.{same_Some}
-use Rattle.gem_object.specs.Kinds.{is_shared}
-use Rattle.gem_image.specs.Image.{Contents, objects_in}
-use Rattle.gem_world.specs.World.{Setting, World, untouched, as_of, before_changes, is_drawn, is_made}
-use Rattle.object_programs.specs.Fixed.{fixed_of, fixed_by}
-use Rattle.object_programs.specs.Laws.{Stays, KeepsParts, IsInReach}
+use Rattle.commit_check.specs.gem_object.Kinds.{is_shared}
+use Rattle.commit_check.specs.gem_image.Image.{Contents, objects_in}
+use Rattle.commit_check.specs.gem_world.World.{Setting, World, untouched, as_of, before_changes, is_drawn, is_made}
+use Rattle.gem_meaning.specs.object_programs.Fixed.{fixed_of, fixed_by}
+use Rattle.gem_meaning.specs.object_programs.Laws.{Stays, KeepsParts, IsInReach}
 use Rattle.commit_soundness.proofs.Seen.{IsSeen}
 
 chosen_part : (shared : Bool) (viewed object : Contents) → fixed_of object ≡ fixed_of viewed

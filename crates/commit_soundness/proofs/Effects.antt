@@ -6,12 +6,12 @@ use Rattle.std.specs.FinMap.{find, get}
 use Rattle.std.proofs.lemmas.Bool.{false≢true}
 use Rattle.std.proofs.lemmas.List.Elements.{recursion_from_All, All-contains, All-contains_itself, All-weaker}
 use Rattle.std.proofs.lemmas.Option.{same_Some}
-use Rattle.gem_object.specs.declared.object.Object.{Object}
-use Rattle.gem_image.specs.Image.{Image, Contents, contents_of, objects_in, with_objects}
-use Rattle.gem_sound.specs.Sound.{names_in}
-use Rattle.gem_world.specs.World.{Setting, World}
-use Rattle.gem_record.specs.declared.record.Entry.{Entry}
-use Rattle.kept_set.specs.Kept.{IsKept}
+use Rattle.commit_check.specs.gem_object.declared.object.Object.{Object}
+use Rattle.commit_check.specs.gem_image.Image.{Image, Contents, contents_of, objects_in, with_objects}
+use Rattle.gem_meaning.specs.gem_sound.Sound.{names_in}
+use Rattle.commit_check.specs.gem_world.World.{Setting, World}
+use Rattle.commit_check.specs.gem_record.declared.record.Entry.{Entry}
+use Rattle.gem_meaning.specs.kept_set.Kept.{IsKept}
 use Rattle.commit_check.specs.Conflicts.{merged_objects}
 use Rattle.commit_check.specs.Table.{IsMerged}
 use Rattle.gem_meaning.specs.Effect.{changed_objects, stamped, effect_at}
@@ -19,9 +19,9 @@ use Rattle.commit_soundness.proofs.Lists.{all_weaker, all_both, all_mapped, all_
 use Rattle.commit_soundness.proofs.Entries.{found_left, found_right, found_mapped, named_all, named_found, put_which, put_stays, put_there}
 use Rattle.commit_soundness.proofs.Records.{done, Stands, written_is, roots, kept, Leads, written_lead, kept_is, kept_found}
 use Rattle.commit_soundness.proofs.Seen.{mapped_some}
-use Rattle.gem_object.specs.References.{references_of}
-use Rattle.gem_world.specs.Changes.{was_written}
-use Rattle.gem_world.specs.World.{is_made}
+use Rattle.commit_check.specs.gem_object.References.{references_of}
+use Rattle.commit_check.specs.gem_world.Changes.{was_written}
+use Rattle.commit_check.specs.gem_world.World.{is_made}
 
 module _ (entry : Entry) (setting : Setting) (world : World) where
   -- An object that was written, or a made one that is kept: it stands as it is seen, and all to which

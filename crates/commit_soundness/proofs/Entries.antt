@@ -11,9 +11,9 @@ use Rattle.std.proofs.lemmas.Bool.{false≢true, cases_eq}
 use Rattle.std.proofs.lemmas.Cmp.{nat_cmp_total}
 use Rattle.std.proofs.lemmas.Map.Lookups.{exact_unsigned}
 use Rattle.std.proofs.lemmas.Option.{same_Some}
-use Rattle.radix_pages.proofs.Tables.{get-insert_same, get-insert_other}
-use Rattle.gem_object.specs.declared.object.Object.{Object}
-use Rattle.gem_image.specs.Image.{Image, with_objects}
+use Rattle.commit_check.proofs.radix_pages_lemmas.Tables.{get-insert_same, get-insert_other}
+use Rattle.commit_check.specs.gem_object.declared.object.Object.{Object}
+use Rattle.commit_check.specs.gem_image.Image.{Image, with_objects}
 use Rattle.commit_soundness.proofs.Lists.{all_weaker, all_two}
 
 -- ---- lists

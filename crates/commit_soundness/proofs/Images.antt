@@ -3,22 +3,22 @@
 use Rattle.std.proofs.Common.{◌≡◌, ◌∙◌, ◌⊎◌, inl, inr, refl, sym, ap, subst, ℕ, true, List, Option, Some, None, is_some, option_map}
 use Rattle.std.specs.List.{All, AllByRecursion, Contains}
 use Rattle.std.proofs.lemmas.Bool.{false≢true}
-use Rattle.gem_object.specs.declared.object.Object.{Object}
+use Rattle.commit_check.specs.gem_object.declared.object.Object.{Object}
 use Rattle.gem_update.specs.References.{values_in_update, names_in_update}
 use Rattle.gem_update.specs.Spelling.{IsStorableUpdate}
 use Rattle.gem_update.specs.declared.update.Update.{Update}
-use Rattle.gem_image.specs.Image.{Image, Contents, contents_of, objects_in}
-use Rattle.gem_sound.specs.Sound.{names_in}
-use Rattle.gem_world.specs.World.{Setting, World, untouched}
-use Rattle.gem_world.specs.Changes.{with_body}
-use Rattle.gem_record.specs.Names.{under}
-use Rattle.gem_record.specs.declared.record.Entry.{Entry}
+use Rattle.commit_check.specs.gem_image.Image.{Image, Contents, contents_of, objects_in}
+use Rattle.gem_meaning.specs.gem_sound.Sound.{names_in}
+use Rattle.commit_check.specs.gem_world.World.{Setting, World, untouched}
+use Rattle.commit_check.specs.gem_world.Changes.{with_body}
+use Rattle.commit_check.specs.gem_record.Names.{under}
+use Rattle.commit_check.specs.gem_record.declared.record.Entry.{Entry}
 use Rattle.commit_check.specs.Conflicts.{merged_objects}
 use Rattle.commit_check.specs.Table.{IsMerged}
-use Rattle.object_programs.specs.Fixed.{fixed_of, fixed_by}
-use Rattle.object_programs.specs.Laws.{begun_at, Stays, KeepsParts, IsInReach, AreSound}
-use Rattle.object_programs.proofs.Admits.{shown_first}
-use Rattle.object_programs.proofs.Worlds.{changed_shown}
+use Rattle.gem_meaning.specs.object_programs.Fixed.{fixed_of, fixed_by}
+use Rattle.gem_meaning.specs.object_programs.Laws.{begun_at, Stays, KeepsParts, IsInReach, AreSound}
+use Rattle.gem_meaning.proofs.object_programs_lemmas.Admits.{shown_first}
+use Rattle.gem_meaning.proofs.object_programs_lemmas.Worlds.{changed_shown}
 use Rattle.commit_soundness.proofs.Lists.{all_weaker, all_two}
 use Rattle.commit_soundness.proofs.Values.{Brought, IsLike, merge_like, merge_keeps}
 use Rattle.commit_soundness.proofs.References.{Refers, names_each, body_each, body_all}

@@ -3,20 +3,20 @@
 use Rattle.std.proofs.Common.{◌≡◌, ◌∙◌, refl, sym, ap, ap₂, ℕ, true, false, ◌&&◌, ◌||◌, Option, Some, None, []}
 use Rattle.std.specs.List.{list_all}
 use Rattle.std.proofs.lemmas.Bool.{false≢true, and_parts, and_from}
-use Rattle.gem_object.specs.Kinds as kinds
-use Rattle.gem_object.specs.Kinds.{is_shared}
-use Rattle.gem_object.specs.declared.kind.Kind.{Kind}
-use Rattle.gem_object.specs.declared.kind.Kind.TheVariants as kind
-use Rattle.gem_object.specs.declared.body.Body.{Body}
-use Rattle.gem_object.specs.declared.body.Body.TheVariants as body
-use Rattle.gem_image.specs.Image.{Contents}
-use Rattle.gem_world.specs.Changes.{with_body}
-use Rattle.gem_sound.specs.Kernel.{KernelBody, a_class, a_dictionary, a_segment, a_user, no_slots, kernel_body, has_kind}
-use Rattle.gem_sound.specs.Sound.{names_in}
-use Rattle.object_programs.specs.Fixed.{BodyKind, body_kind, ClassPart, class_part, Fixed, fixed_of}
-use Rattle.object_programs.specs.Guard.{Parts, holds_of, is_known, names_at, has_slots, accepts_by, named_fit, kernel_fits_by, place_fits, fits}
-use Rattle.object_programs.specs.Methods.{methods_fit}
-use Rattle.object_programs.specs.Spelled.{is_spelled}
+use Rattle.commit_check.specs.gem_object.Kinds as kinds
+use Rattle.commit_check.specs.gem_object.Kinds.{is_shared}
+use Rattle.commit_check.specs.gem_object.declared.kind.Kind.{Kind}
+use Rattle.commit_check.specs.gem_object.declared.kind.Kind.TheVariants as kind
+use Rattle.commit_check.specs.gem_object.declared.body.Body.{Body}
+use Rattle.commit_check.specs.gem_object.declared.body.Body.TheVariants as body
+use Rattle.commit_check.specs.gem_image.Image.{Contents}
+use Rattle.commit_check.specs.gem_world.Changes.{with_body}
+use Rattle.gem_meaning.specs.gem_sound.Kernel.{KernelBody, a_class, a_dictionary, a_segment, a_user, no_slots, kernel_body, has_kind}
+use Rattle.gem_meaning.specs.gem_sound.Sound.{names_in}
+use Rattle.gem_meaning.specs.object_programs.Fixed.{BodyKind, body_kind, ClassPart, class_part, Fixed, fixed_of}
+use Rattle.gem_meaning.specs.object_programs.Guard.{Parts, holds_of, is_known, names_at, has_slots, accepts_by, named_fit, kernel_fits_by, place_fits, fits}
+use Rattle.gem_meaning.specs.object_programs.Methods.{methods_fit}
+use Rattle.gem_meaning.specs.object_programs.Spelled.{is_spelled}
 use Rattle.commit_soundness.proofs.Values.{IsLike, counters, bags_both, dicts_both, queues_both}
 
 -- both are reduced-conflict bodies

@@ -5,15 +5,15 @@ use Rattle.std.specs.List.{AllByRecursion}
 use Rattle.std.specs.Option.{option_to_list}
 use Rattle.std.proofs.lemmas.Bool.{false≢true, eqb-true}
 use Rattle.std.proofs.lemmas.Option.{none-some, same_Some}
-use Rattle.gem_object.specs.References.{names_in_body}
-use Rattle.gem_object.specs.declared.body.Body.{Body}
-use Rattle.gem_object.specs.declared.body.Body.TheVariants as body
-use Rattle.gem_image.specs.Image.{Contents, Objects}
-use Rattle.gem_sound.specs.Sound.{names_in}
-use Rattle.gem_world.specs.World.{is_among}
-use Rattle.object_programs.specs.Fixed.{ClassPart, class_part, Fixed, fixed_of}
-use Rattle.object_programs.specs.Guard.{Parts, chain_limit, fits, line_above, line_of_class, line_of_part, line_within, line_at, asked_names}
-use Rattle.object_programs.proofs.Guards.{SameOn, fits_same}
+use Rattle.commit_check.specs.gem_object.References.{names_in_body}
+use Rattle.commit_check.specs.gem_object.declared.body.Body.{Body}
+use Rattle.commit_check.specs.gem_object.declared.body.Body.TheVariants as body
+use Rattle.commit_check.specs.gem_image.Image.{Contents, Objects}
+use Rattle.gem_meaning.specs.gem_sound.Sound.{names_in}
+use Rattle.commit_check.specs.gem_world.World.{is_among}
+use Rattle.gem_meaning.specs.object_programs.Fixed.{ClassPart, class_part, Fixed, fixed_of}
+use Rattle.gem_meaning.specs.object_programs.Guard.{Parts, chain_limit, fits, line_above, line_of_class, line_of_part, line_within, line_at, asked_names}
+use Rattle.gem_meaning.proofs.object_programs_lemmas.Guards.{SameOn, fits_same}
 use Rattle.commit_soundness.proofs.Lists.{all_both}
 
 module _ (P : ℕ → Type 0) where

@@ -10,20 +10,20 @@ use Rattle.std.proofs.lemmas.Bool.{false≢true, and_parts, cond_both}
 use Rattle.std.proofs.lemmas.List.Elements.{All-weaker, All-contains_itself, recursion_from_All}
 use Rattle.std.proofs.lemmas.Map.Lookups.{exact_unsigned}
 use Rattle.std.proofs.lemmas.Option.{none-some, same_Some}
-use Rattle.gem_object.specs.References.{references_of}
-use Rattle.gem_object.specs.declared.object.Object.{Object}
+use Rattle.commit_check.specs.gem_object.References.{references_of}
+use Rattle.commit_check.specs.gem_object.declared.object.Object.{Object}
 use Rattle.gem_update.specs.References.{names_in_update}
 use Rattle.gem_update.specs.declared.update.Update.{Update}
-use Rattle.gem_image.specs.Image.{Contents, contents_of}
-use Rattle.gem_world.specs.World.{Setting, World, is_made}
-use Rattle.gem_world.specs.Changes.{was_made, was_written, made_objects, written_objects, update_on, updates_on}
-use Rattle.gem_record.specs.Names.{under}
-use Rattle.gem_record.specs.declared.record.Entry.{Entry}
-use Rattle.gem_record.specs.declared.record.TxnRecord.{TxnRecord}
-use Rattle.kept_set.specs.Kept.{object_of, roots_of, IsKept, root, reached, dropped, kept_of}
-use Rattle.kept_set.proofs.Leads.{kept_names}
-use Rattle.run_records.specs.Names.{ascending}
-use Rattle.run_records.specs.Record.{uncommitted, record_of}
+use Rattle.commit_check.specs.gem_image.Image.{Contents, contents_of}
+use Rattle.commit_check.specs.gem_world.World.{Setting, World, is_made}
+use Rattle.commit_check.specs.gem_world.Changes.{was_made, was_written, made_objects, written_objects, update_on, updates_on}
+use Rattle.commit_check.specs.gem_record.Names.{under}
+use Rattle.commit_check.specs.gem_record.declared.record.Entry.{Entry}
+use Rattle.commit_check.specs.gem_record.declared.record.TxnRecord.{TxnRecord}
+use Rattle.gem_meaning.specs.kept_set.Kept.{object_of, roots_of, IsKept, root, reached, dropped, kept_of}
+use Rattle.gem_meaning.proofs.kept_set_lemmas.Leads.{kept_names}
+use Rattle.commit_check.specs.gem_record.RunNames.{ascending}
+use Rattle.commit_check.specs.gem_record.Record.{uncommitted, record_of}
 use Rattle.commit_soundness.proofs.Lists.{from_each, all_weaker, all_of, all_two, all_left, all_right, all_mapped, all_passed, each_given}
 use Rattle.commit_soundness.proofs.Entries.{entries_found, listed_found, find_mapped}
 

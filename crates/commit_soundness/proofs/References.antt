@@ -5,17 +5,17 @@ use Rattle.std.specs.Option.{IfSome}
 use Rattle.std.proofs.lemmas.Bool.{false≢true}
 use Rattle.std.proofs.lemmas.List.Elements.{All-from_recursion, recursion_from_All}
 use Rattle.std.proofs.lemmas.Option.{none-some, same_Some}
-use Rattle.gem_object.specs.Kinds.{is_shared}
-use Rattle.gem_object.specs.Order.{value_order}
-use Rattle.gem_object.specs.References.{reference_of, names_in, names_in_body}
-use Rattle.gem_object.specs.Spelling.{IsStorable, IsStorablePair, is_key, IsSpelledBody}
-use Rattle.gem_object.specs.declared.value.Value.{Value}
-use Rattle.gem_object.specs.declared.body.Body.{Body}
-use Rattle.gem_object.specs.declared.body.Body.TheVariants as body
-use Rattle.rc_dict.specs.Dict as dicts
-use Rattle.rc_dict.specs.declared.update.DictUpdate.{DictUpdate}
-use Rattle.rc_dict.specs.declared.update.DictUpdate.TheVariants as dict
-use Rattle.rc_dict.specs.declared.update.DictFault.TheVariants as dict_fault
+use Rattle.commit_check.specs.gem_object.Kinds.{is_shared}
+use Rattle.commit_check.specs.gem_object.Order.{value_order}
+use Rattle.commit_check.specs.gem_object.References.{reference_of, names_in, names_in_body}
+use Rattle.commit_check.specs.gem_object.Spelling.{IsStorable, IsStorablePair, is_key, IsSpelledBody}
+use Rattle.commit_check.specs.gem_object.declared.value.Value.{Value}
+use Rattle.commit_check.specs.gem_object.declared.body.Body.{Body}
+use Rattle.commit_check.specs.gem_object.declared.body.Body.TheVariants as body
+use Rattle.commit_check.specs.rc_dict.Dict as dicts
+use Rattle.commit_check.specs.rc_dict.declared.update.DictUpdate.{DictUpdate}
+use Rattle.commit_check.specs.rc_dict.declared.update.DictUpdate.TheVariants as dict
+use Rattle.commit_check.specs.rc_dict.declared.update.DictFault.TheVariants as dict_fault
 use Rattle.gem_update.specs.References.{values_in_update, names_in_update}
 use Rattle.gem_update.specs.Spelling.{HasKey, IsStorableUpdate}
 use Rattle.gem_update.specs.Update.{updated}

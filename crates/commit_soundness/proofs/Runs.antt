@@ -5,18 +5,18 @@ use Rattle.std.specs.FinMap.{get}
 use Rattle.std.proofs.lemmas.Bool.{false≢true, and_parts, leb-true, ltb-true}
 use Rattle.std.proofs.lemmas.List.Elements.{All-from_recursion, All-contains}
 use Rattle.std.proofs.lemmas.Option.{none-some}
-use Rattle.gem_object.specs.declared.object.Object.{Object}
-use Rattle.gem_image.specs.Image.{Image, contents_of, objects_in}
-use Rattle.gem_world.specs.World.{Setting, World, untouched, name_of, is_drawn, is_made}
-use Rattle.gem_record.specs.declared.record.TxnRecord.{TxnRecord}
+use Rattle.commit_check.specs.gem_object.declared.object.Object.{Object}
+use Rattle.commit_check.specs.gem_image.Image.{Image, contents_of, objects_in}
+use Rattle.commit_check.specs.gem_world.World.{Setting, World, untouched, name_of, is_drawn, is_made}
+use Rattle.commit_check.specs.gem_record.declared.record.TxnRecord.{TxnRecord}
 use Rattle.commit_check.specs.Conflicts.{merged_objects}
 use Rattle.commit_check.specs.Table.{IsMerged}
-use Rattle.object_programs.specs.Laws.{Stays, IsInReach, AreSound, begun_at}
-use Rattle.object_programs.proofs.Admits.{admits_image}
-use Rattle.object_programs.proofs.AtPlace.{sound_at}
-use Rattle.object_programs.proofs.Objects.{StaysFixed, StaysSound, parts_stay, soundness_stays}
-use Rattle.object_programs.proofs.Reach.{StaysInReach, reach_stays}
-use Rattle.gem_language.proofs.Lists.{listed}
+use Rattle.gem_meaning.specs.object_programs.Laws.{Stays, IsInReach, AreSound, begun_at}
+use Rattle.gem_meaning.proofs.object_programs_lemmas.Admits.{admits_image}
+use Rattle.gem_meaning.proofs.object_programs_lemmas.AtPlace.{sound_at}
+use Rattle.gem_meaning.proofs.object_programs_lemmas.Objects.{StaysFixed, StaysSound, parts_stay, soundness_stays}
+use Rattle.gem_meaning.proofs.object_programs_lemmas.Reach.{StaysInReach, reach_stays}
+use Rattle.gem_meaning.proofs.gem_language_lemmas.Lists.{listed}
 use Rattle.commit_soundness.specs.Placing.{Placing, setting_of, left_by, record_placed, effect_placed, image_made, CanRun, IsDrawnIn}
 use Rattle.commit_soundness.proofs.Bases.{changed_from, begun_in_reach}
 use Rattle.commit_soundness.proofs.Updates.{brought}

@@ -3,13 +3,13 @@ use Rattle.std.proofs.Common.{◌≡◌, ◌∙◌, refl, sym, ap, ℕ, true, Op
 use Rattle.std.specs.List.{AllByRecursion}
 use Rattle.std.proofs.lemmas.Bool.{false≢true}
 use Rattle.std.proofs.lemmas.List.Elements.{recursion_from_All}
-use Rattle.gem_object.specs.Spelling.{IsSpelledBody}
-use Rattle.gem_image.specs.Image.{Contents}
-use Rattle.gem_world.specs.World.{Setting, World, shown, shown_objects}
-use Rattle.gem_sound.specs.Sound.{names_in}
-use Rattle.object_programs.specs.Fixed.{fixed_of, fixed_by}
-use Rattle.object_programs.specs.Laws.{KeepsParts, AreSound}
-use Rattle.object_programs.proofs.Rules.{fits_here, keeps_references, keeps_spelling}
+use Rattle.commit_check.specs.gem_object.Spelling.{IsSpelledBody}
+use Rattle.commit_check.specs.gem_image.Image.{Contents}
+use Rattle.commit_check.specs.gem_world.World.{Setting, World, shown, shown_objects}
+use Rattle.gem_meaning.specs.gem_sound.Sound.{names_in}
+use Rattle.gem_meaning.specs.object_programs.Fixed.{fixed_of, fixed_by}
+use Rattle.gem_meaning.specs.object_programs.Laws.{KeepsParts, AreSound}
+use Rattle.gem_meaning.proofs.object_programs_lemmas.Rules.{fits_here, keeps_references, keeps_spelling}
 
 pub mapped_some : {X Y : Type 0} (f : X → Y) (found : Option X) → is_some (option_map f found) ≡ is_some found
 mapped_some f None = refl

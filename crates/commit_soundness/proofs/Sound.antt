@@ -5,25 +5,25 @@ use Rattle.std.specs.FinMap.{get}
 use Rattle.std.proofs.Math.Path.{fun_ext}
 use Rattle.std.proofs.lemmas.Bool.{false≢true, and_from}
 use Rattle.std.proofs.lemmas.List.Elements.{All-from_recursion}
-use Rattle.gem_object.specs.Spelling.{IsSpelledBody, IsSpelled}
-use Rattle.gem_object.specs.declared.body.Body.{Body}
-use Rattle.gem_object.specs.declared.object.Object.{Object}
+use Rattle.commit_check.specs.gem_object.Spelling.{IsSpelledBody, IsSpelled}
+use Rattle.commit_check.specs.gem_object.declared.body.Body.{Body}
+use Rattle.commit_check.specs.gem_object.declared.object.Object.{Object}
 use Rattle.gem_update.specs.Spelling.{IsStorableUpdate, entries_of}
 use Rattle.gem_update.specs.Update.{merged}
 use Rattle.gem_update.specs.declared.update.Update.{Update}
-use Rattle.gem_image.specs.Image.{Image, IsImage, Contents, contents_of, objects_in}
-use Rattle.gem_sound.specs.Kernel.{kernel_body}
-use Rattle.gem_sound.specs.Sound.{IsSoundFor, names_in}
-use Rattle.gem_world.specs.World.{Setting, World, untouched, name_of, shown}
-use Rattle.gem_record.specs.declared.record.Entry.{Entry}
-use Rattle.object_programs.specs.Fixed.{Fixed, fixed_of, fixed_by}
-use Rattle.object_programs.specs.Guard.{holds_of, is_there, is_user, is_known, fits}
-use Rattle.object_programs.specs.Laws.{begun_at, KeepsParts, AreSound}
-use Rattle.object_programs.proofs.Admits.{shown_first}
-use Rattle.object_programs.proofs.Guards.{fits_more, known_more}
-use Rattle.object_programs.proofs.Rules.{fits_here, keeps_spelling, sound_for}
-use Rattle.object_programs.proofs.Spells.{tells_spelled}
-use Rattle.object_programs.proofs.Worlds.{changed_shown}
+use Rattle.commit_check.specs.gem_image.Image.{Image, IsImage, Contents, contents_of, objects_in}
+use Rattle.gem_meaning.specs.gem_sound.Kernel.{kernel_body}
+use Rattle.gem_meaning.specs.gem_sound.Sound.{IsSoundFor, names_in}
+use Rattle.commit_check.specs.gem_world.World.{Setting, World, untouched, name_of, shown}
+use Rattle.commit_check.specs.gem_record.declared.record.Entry.{Entry}
+use Rattle.gem_meaning.specs.object_programs.Fixed.{Fixed, fixed_of, fixed_by}
+use Rattle.gem_meaning.specs.object_programs.Guard.{holds_of, is_there, is_user, is_known, fits}
+use Rattle.gem_meaning.specs.object_programs.Laws.{begun_at, KeepsParts, AreSound}
+use Rattle.gem_meaning.proofs.object_programs_lemmas.Admits.{shown_first}
+use Rattle.gem_meaning.proofs.object_programs_lemmas.Guards.{fits_more, known_more}
+use Rattle.gem_meaning.proofs.object_programs_lemmas.Rules.{fits_here, keeps_spelling, sound_for}
+use Rattle.gem_meaning.proofs.object_programs_lemmas.Spells.{tells_spelled}
+use Rattle.gem_meaning.proofs.object_programs_lemmas.Worlds.{changed_shown}
 use Rattle.commit_soundness.proofs.Lists.{all_weaker}
 use Rattle.commit_soundness.proofs.Likes.{likes_fit}
 use Rattle.commit_soundness.proofs.Seen.{mapped_some}

@@ -4,30 +4,30 @@ use Rattle.std.proofs.Common.{◌≡◌, ◌∙◌, ◌⊎◌, inl, inr, refl, s
 use Rattle.std.specs.List.{AllByRecursion}
 use Rattle.std.specs.FinMap.{get}
 use Rattle.std.proofs.lemmas.Bool.{cond_both}
-use Rattle.texts.specs.Bytes.{Bytes as Text}
-use Rattle.gem_object.specs.Kinds.{is_shared}
-use Rattle.gem_object.specs.declared.body.Body.{Body}
+use Rattle.commit_check.specs.texts.Bytes.{Bytes as Text}
+use Rattle.commit_check.specs.gem_object.Kinds.{is_shared}
+use Rattle.commit_check.specs.gem_object.declared.body.Body.{Body}
 use Rattle.gem_update.specs.References.{names_in_update}
 use Rattle.gem_update.specs.Spelling.{IsStorableUpdate}
 use Rattle.gem_update.specs.Update.{updated}
 use Rattle.gem_update.specs.declared.update.Update.{Update}
-use Rattle.gem_image.specs.Image.{Contents}
-use Rattle.gem_sound.specs.Sound.{names_in}
-use Rattle.gem_world.specs.World.{Setting, World, name_of, shown, is_made, touch}
-use Rattle.gem_world.specs.Changes.{with_body, in_segment, put, make, note}
-use Rattle.gem_world.specs.Access.{Access, a_read, a_write, is_allowed, touches_of, with_touches, after_allowed, accessed}
-use Rattle.object_programs.specs.Budget.{Budget, bytes_cost, may_write}
-use Rattle.object_programs.specs.declared.limits.TheConstants.{COUNTER_LIMIT}
-use Rattle.object_programs.specs.Fixed.{fixed_by}
-use Rattle.object_programs.specs.Guard.{Parts, may_change, may_replace, may_make}
-use Rattle.object_programs.specs.Atom.{Atom, Ask, Own, Kind, Made, Who, Put, Move, Note, Names, Make, Tick, Room, Show, done, MakeCheck, too_large, no_name, no_space, no_fault, make_check, with_new, made_where, made_by, named_where, ticked, spent_where, shown_where, touch_missing, replaced_where, edited_at, edited, updated_by, updated_at, updated_where, after_update}
-use Rattle.object_programs.specs.Laws.{KeepsParts, AreSound}
-use Rattle.object_programs.proofs.Kept.{Kept}
-use Rattle.object_programs.proofs.Objects.{parts_stay, soundness_stays}
-use Rattle.object_programs.proofs.Worlds.{put_here, shown_asked}
-use Rattle.gem_language.specs.Commands.{Command}
-use Rattle.gem_language.specs.Transaction.{transaction}
-use Rattle.gem_language.proofs.Lists.{listed}
+use Rattle.commit_check.specs.gem_image.Image.{Contents}
+use Rattle.gem_meaning.specs.gem_sound.Sound.{names_in}
+use Rattle.commit_check.specs.gem_world.World.{Setting, World, name_of, shown, is_made, touch}
+use Rattle.commit_check.specs.gem_world.Changes.{with_body, in_segment, put, make, note}
+use Rattle.commit_check.specs.gem_world.Access.{Access, a_read, a_write, is_allowed, touches_of, with_touches, after_allowed, accessed}
+use Rattle.gem_meaning.specs.object_programs.Budget.{Budget, bytes_cost, may_write}
+use Rattle.gem_meaning.specs.object_programs.declared.limits.TheConstants.{COUNTER_LIMIT}
+use Rattle.gem_meaning.specs.object_programs.Fixed.{fixed_by}
+use Rattle.gem_meaning.specs.object_programs.Guard.{Parts, may_change, may_replace, may_make}
+use Rattle.gem_meaning.specs.object_programs.Atom.{Atom, Ask, Own, Kind, Made, Who, Put, Move, Note, Names, Make, Tick, Room, Show, done, MakeCheck, too_large, no_name, no_space, no_fault, make_check, with_new, made_where, made_by, named_where, ticked, spent_where, shown_where, touch_missing, replaced_where, edited_at, edited, updated_by, updated_at, updated_where, after_update}
+use Rattle.gem_meaning.specs.object_programs.Laws.{KeepsParts, AreSound}
+use Rattle.gem_meaning.proofs.object_programs_lemmas.Kept.{Kept}
+use Rattle.gem_meaning.proofs.object_programs_lemmas.Objects.{parts_stay, soundness_stays}
+use Rattle.gem_meaning.proofs.object_programs_lemmas.Worlds.{put_here, shown_asked}
+use Rattle.gem_meaning.specs.gem_language.Commands.{Command}
+use Rattle.gem_meaning.specs.gem_language.Transaction.{transaction}
+use Rattle.gem_meaning.proofs.gem_language_lemmas.Lists.{listed}
 use Rattle.commit_soundness.proofs.Lists.{all_weaker, all_both}
 use Rattle.commit_soundness.proofs.References.{update_refers, storable_update}
 use Rattle.commit_soundness.proofs.Seen.{IsSeen, seen_more, refers_to_seen, is_spelled}

@@ -8,26 +8,26 @@ use Rattle.std.specs.Result.{result_ok}
 use Rattle.std.specs.declared.cmp.Ordering.TheVariants.{Less, Equal, Greater}
 use Rattle.std.proofs.lemmas.Bool.{false≢true}
 use Rattle.std.proofs.lemmas.Option.{none-some, same_Some}
-use Rattle.gem_object.specs.Order.{value_order}
-use Rattle.gem_object.specs.declared.value.Value.{Value}
-use Rattle.gem_object.specs.declared.body.Body.{Body}
-use Rattle.gem_object.specs.declared.body.Body.TheVariants as body
-use Rattle.gem_object.proofs.Ties.{ties}
-use Rattle.rc_counter_bag.specs.Bag as bags
-use Rattle.rc_counter_bag.specs.declared.counter.Counter.{Counter}
-use Rattle.rc_counter_bag.specs.declared.counter.CounterRange.{CounterRange}
-use Rattle.rc_counter_bag.specs.declared.update.BagUpdate.{BagUpdate}
-use Rattle.rc_counter_bag.specs.declared.update.BagUpdate.TheVariants as bag
-use Rattle.rc_counter_bag.specs.declared.update.BagFault.TheVariants as bag_fault
-use Rattle.rc_dict.specs.Dict as dicts
-use Rattle.rc_dict.specs.declared.update.DictUpdate.{DictUpdate}
-use Rattle.rc_dict.specs.declared.update.DictUpdate.TheVariants as dict
-use Rattle.rc_dict.specs.declared.update.DictFault.TheVariants as dict_fault
-use Rattle.rc_queue.specs.Contents.{Contents as Line}
-use Rattle.rc_queue.specs.Update as queues
-use Rattle.rc_queue.specs.declared.update.QueueUpdate.{QueueUpdate}
-use Rattle.rc_queue.specs.declared.update.QueueUpdate.TheVariants as queue
-use Rattle.rc_queue.specs.declared.update.QueueFault.TheVariants as queue_fault
+use Rattle.commit_check.specs.gem_object.Order.{value_order}
+use Rattle.commit_check.specs.gem_object.declared.value.Value.{Value}
+use Rattle.commit_check.specs.gem_object.declared.body.Body.{Body}
+use Rattle.commit_check.specs.gem_object.declared.body.Body.TheVariants as body
+use Rattle.commit_check.proofs.gem_object_lemmas.Ties.{ties}
+use Rattle.commit_check.specs.rc_counter_bag.Bag as bags
+use Rattle.commit_check.specs.rc_counter_bag.declared.counter.Counter.{Counter}
+use Rattle.commit_check.specs.rc_counter_bag.declared.counter.CounterRange.{CounterRange}
+use Rattle.commit_check.specs.rc_counter_bag.declared.update.BagUpdate.{BagUpdate}
+use Rattle.commit_check.specs.rc_counter_bag.declared.update.BagUpdate.TheVariants as bag
+use Rattle.commit_check.specs.rc_counter_bag.declared.update.BagFault.TheVariants as bag_fault
+use Rattle.commit_check.specs.rc_dict.Dict as dicts
+use Rattle.commit_check.specs.rc_dict.declared.update.DictUpdate.{DictUpdate}
+use Rattle.commit_check.specs.rc_dict.declared.update.DictUpdate.TheVariants as dict
+use Rattle.commit_check.specs.rc_dict.declared.update.DictFault.TheVariants as dict_fault
+use Rattle.commit_check.specs.rc_queue.Contents.{Contents as Line}
+use Rattle.commit_check.specs.rc_queue.Update as queues
+use Rattle.commit_check.specs.rc_queue.declared.update.QueueUpdate.{QueueUpdate}
+use Rattle.commit_check.specs.rc_queue.declared.update.QueueUpdate.TheVariants as queue
+use Rattle.commit_check.specs.rc_queue.declared.update.QueueFault.TheVariants as queue_fault
 use Rattle.gem_update.specs.Outcomes.{by_fault, counter_merged}
 use Rattle.gem_update.specs.References.{values_in_update}
 use Rattle.gem_update.specs.Update.{updated, merged, all_changes, counter_change, bag_change, dict_change, queue_change}

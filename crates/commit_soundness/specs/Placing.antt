@@ -1,16 +1,16 @@
 -- A transaction that runs at its place, and what its commit makes there.
 use Rattle.std.specs.Prelude.{◌≡◌, ◌≤◌, ◌<◌, ℕ, List}
-use Rattle.gem_value.specs.Oid.{oid_number}
-use Rattle.gem_object.specs.declared.object.Object.{Object}
-use Rattle.gem_image.specs.Image.{Image, IsImage, objects_in, with_objects}
-use Rattle.gem_record.specs.declared.record.Entry.{Entry}
-use Rattle.gem_record.specs.declared.record.TxnRecord.{TxnRecord}
-use Rattle.gem_sound.specs.Sound.{IsSoundFor}
-use Rattle.gem_world.specs.World.{Setting, World, untouched}
-use Rattle.object_programs.specs.Laws.{Stays, begun_at}
-use Rattle.gem_language.specs.Commands.{Command}
-use Rattle.gem_language.specs.Transaction.{transaction}
-use Rattle.run_records.specs.Record.{record_of}
+use Rattle.commit_check.specs.gem_value.Oid.{oid_number}
+use Rattle.commit_check.specs.gem_object.declared.object.Object.{Object}
+use Rattle.commit_check.specs.gem_image.Image.{Image, IsImage, objects_in, with_objects}
+use Rattle.commit_check.specs.gem_record.declared.record.Entry.{Entry}
+use Rattle.commit_check.specs.gem_record.declared.record.TxnRecord.{TxnRecord}
+use Rattle.gem_meaning.specs.gem_sound.Sound.{IsSoundFor}
+use Rattle.commit_check.specs.gem_world.World.{Setting, World, untouched}
+use Rattle.gem_meaning.specs.object_programs.Laws.{Stays, begun_at}
+use Rattle.gem_meaning.specs.gem_language.Commands.{Command}
+use Rattle.gem_meaning.specs.gem_language.Transaction.{transaction}
+use Rattle.commit_check.specs.gem_record.Record.{record_of}
 use Rattle.gem_meaning.specs.Effect.{effect_at}
 
 -- Commands that are run at a place, and the number of the commit there.

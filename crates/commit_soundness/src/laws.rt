@@ -2,10 +2,10 @@
 ghost use Rattle.std.specs.Prelude.{◌≡◌, ℕ, None};
 ghost use Rattle.std.specs.List.{Contains};
 ghost use Rattle.std.specs.FinMap.{get};
-ghost use Rattle.gem_object.specs.declared.object.Object.{Object};
-ghost use Rattle.gem_image.specs.Image.{IsImage, objects_in};
-ghost use Rattle.gem_sound.specs.Sound.{IsSoundFor, IsSoundImage};
-ghost use Rattle.object_programs.specs.Laws.{Stays};
+ghost use Rattle.commit_check.specs.gem_object.declared.object.Object.{Object};
+ghost use Rattle.commit_check.specs.gem_image.Image.{IsImage, objects_in};
+ghost use Rattle.gem_meaning.specs.gem_sound.Sound.{IsSoundFor, IsSoundImage};
+ghost use Rattle.gem_meaning.specs.object_programs.Laws.{Stays};
 ghost use Rattle.gem_meaning.specs.Effect.{MergesFit};
 ghost use Rattle.commit_soundness.specs.Placing.{Placing, left_by, record_placed, effect_placed, image_made, CanRun, IsDrawnIn};
 

@@ -1,21 +1,19 @@
 // What stands against commits over images and records made by hand, and what their merges leave:
 // changes and locks by one table, and merges by another.
 ghost use Rattle.std.specs.Prelude.{◌≡◌, ◌<◌, ◌^◌, IfOk};
-ghost use Rattle.gem_value.specs.Oid.{oid_number};
+ghost use Rattle.gem_object.specs.gem_value.Oid.{oid_number};
 ghost use Rattle.gem_object.specs.Spelling.{IsOid, IsStorable, IsItems, IsKeyDictionary, IsSpelled, IsSpelledBody};
 
 use commit_check::{Judgement, conflicts};
 use gem_image::Image;
-use gem_object::{Body, Object, Value, Values};
+use gem_object::{
+    Bag, BagUpdate, Body, Conflict, ConflictKind, Counter, DictUpdate, KeyDict, LARGEST_INTEGER,
+    Object, Oid, Queue, QueueUpdate, SMALLEST_INTEGER, Sequence, Value, Values,
+};
 use gem_record::{ByName, OidList, TxnRecord};
 use gem_update::Update;
-use gem_value::{Conflict, ConflictKind, Oid, Sequence};
 use lock_table::{LockKind, Locks};
-use profile::{LARGEST_INTEGER, SMALLEST_INTEGER};
 use radix_pages::Steps;
-use rc_counter_bag::{Bag, BagUpdate, Counter};
-use rc_dict::{DictUpdate, KeyDict};
-use rc_queue::{Queue, QueueUpdate};
 use sorted_pairs::ascend;
 use std::alloc::{AllocError, Global};
 use std::marker::Brand;

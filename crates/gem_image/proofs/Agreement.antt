@@ -2,7 +2,7 @@
 use Rattle.std.proofs.Common.{◌≡◌, ◌↔◌, ℕ, Option, Some, None, refl, sym, ap, ap₂, ◌∙◌}
 use Rattle.std.specs.Option.{option_map, option_and_then}
 use Rattle.std.specs.FinMap.{get}
-use Rattle.seg_rights.specs.declared.right.Right.TheVariants as right
+use Rattle.gem_object.specs.seg_rights.declared.right.Right.TheVariants as right
 use Rattle.gem_object.specs.declared.body.Body.{Body}
 use Rattle.gem_object.specs.declared.body.Body.TheVariants.{Segment}
 use Rattle.gem_object.specs.declared.object.Object.{Object}

@@ -1,12 +1,12 @@
 -- The rights that are given.
 use Rattle.std.proofs.Common.{◌≡◌, ◌≢◌, ℕ, List, Option, Some, None, cond, refl, sym, ap, ap₂, subst, ◌∙◌, eq-eqb}
 use Rattle.std.proofs.lemmas.Bool.{ne_eqb}
-use Rattle.texts.specs.Bytes.{Bytes as Text}
-use Rattle.seg_rights.specs.Right.{IsAtMost}
-use Rattle.seg_rights.specs.Rights.{IsGreatestRight, as_anybody}
-use Rattle.seg_rights.specs.declared.right.Right.TheVariants as right
-use Rattle.seg_rights.specs.declared.rights.Rights.{Rights}
-use Rattle.seg_rights.proofs.Greatest.{greatest_right-is}
+use Rattle.gem_object.specs.texts.Bytes.{Bytes as Text}
+use Rattle.gem_object.specs.seg_rights.Right.{IsAtMost}
+use Rattle.gem_object.specs.seg_rights.Rights.{IsGreatestRight, as_anybody}
+use Rattle.gem_object.specs.seg_rights.declared.right.Right.TheVariants as right
+use Rattle.gem_object.specs.seg_rights.declared.rights.Rights.{Rights}
+use Rattle.gem_object.proofs.seg_rights_lemmas.Greatest.{greatest_right-is}
 use Rattle.gem_object.specs.declared.body.Body.{Body}
 use Rattle.gem_object.specs.declared.body.Body.TheVariants.{Segment}
 use Rattle.gem_image.specs.Image.{Contents, Objects}

@@ -1,11 +1,11 @@
 -- The rights that a user has in an image.
 use Rattle.std.specs.Prelude.{◌==◌, ℕ, Bool, List, Option, None, Some, if◌then◌else◌, nat_eq, option_and_then}
 use Rattle.std.specs.Cmp.Lexicographic.{pointwise}
-use Rattle.texts.specs.Bytes.{Bytes as Text}
-use Rattle.seg_rights.specs.Rights.{greatest_right}
-use Rattle.seg_rights.specs.declared.right.Right.{Right}
-use Rattle.seg_rights.specs.declared.right.Right.TheVariants as right
-use Rattle.seg_rights.specs.declared.rights.Rights.{Rights}
+use Rattle.gem_object.specs.texts.Bytes.{Bytes as Text}
+use Rattle.gem_object.specs.seg_rights.Rights.{greatest_right}
+use Rattle.gem_object.specs.seg_rights.declared.right.Right.{Right}
+use Rattle.gem_object.specs.seg_rights.declared.right.Right.TheVariants as right
+use Rattle.gem_object.specs.seg_rights.declared.rights.Rights.{Rights}
 use Rattle.gem_object.specs.declared.body.Body.{Body}
 use Rattle.gem_object.specs.declared.body.Body.TheVariants.{Segment, User}
 use Rattle.gem_image.specs.Image.{Contents, Objects}

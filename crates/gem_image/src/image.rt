@@ -5,8 +5,7 @@ ghost use Rattle.radix_pages.specs.Next.{IsNext, entry_copied};
 ghost use Rattle.gem_object.specs.Spelling.{IsSpelled};
 ghost use Rattle.gem_image.specs.Image.{AreSpelled, AreNamed, with_objects};
 
-use gem_object::Object;
-use gem_value::Oid;
+use gem_object::{Object, Oid};
 use radix_pages::{Pages, Steps};
 use std::alloc::{AllocError, Global};
 use std::marker::Model;

@@ -2,17 +2,16 @@
 //! nothing.
 ghost use Rattle.std.specs.Prelude.{◌≡◌, ◌≢◌, ◌↔◌, ◌++◌, ◌∷◌, ℕ, List, Some, None, All};
 ghost use Rattle.std.specs.FinMap as map;
-ghost use Rattle.texts.specs.Bytes.{Bytes as Text};
-ghost use Rattle.seg_rights.specs.Right.{IsAtMost};
-ghost use Rattle.seg_rights.specs.Rights.{IsGreatestRight};
-ghost use Rattle.seg_rights.specs.declared.rights.Rights.{Rights};
+ghost use Rattle.gem_object.specs.texts.Bytes.{Bytes as Text};
+ghost use Rattle.gem_object.specs.seg_rights.Right.{IsAtMost};
+ghost use Rattle.gem_object.specs.seg_rights.Rights.{IsGreatestRight};
+ghost use Rattle.gem_object.specs.seg_rights.declared.rights.Rights.{Rights};
 ghost use Rattle.gem_object.specs.declared.object.Object.{Object};
 ghost use Rattle.gem_image.specs.Image.{Image, Contents, Objects, Agree, with_objects};
 ghost use Rattle.gem_image.specs.Rights.{same_group, rights_of, rights_at, groups_at};
 ghost use Rattle.gem_image.specs.Rights.{right_in, right_on};
 
-use gem_object::Body;
-use seg_rights::Right;
+use gem_object::{Body, Right};
 
 /// Objects that are put leave what stands at every other name. At a name stands the last of those
 /// that were put there. They may be put in two parts.

@@ -4,10 +4,7 @@ ghost use Rattle.gem_image.specs.Image.{objects_in};
 ghost use Rattle.gem_image.specs.Rights.{rights_of, groups_of, rights_at, groups_at, right_in, right_on, right_on_segment};
 
 use crate::image::Image;
-use gem_object::Body;
-use gem_value::Oid;
-use seg_rights::{Right, Rights};
-use texts::Text;
+use gem_object::{Body, Oid, Right, Rights, Text};
 
 impl Image {
     /// The right that the user has on the object of this name. On a segment it is Write for its

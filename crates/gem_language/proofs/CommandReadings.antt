@@ -1,21 +1,21 @@
 -- Commands come to what the relations say.
 use Rattle.std.proofs.Common.{arith, ◌≡◌, ◌∙◌, refl, ap, ℕ, Bool, true, false, ◌<◌, nat_le, length, Option, Some, None, is_some, option_map, Result, Ok, Err, cond}
 use Rattle.std.proofs.lemmas.Bool.{leb-true, le-leb}
-use Rattle.texts.specs.Bytes.{Bytes as Text}
-use Rattle.profile.specs.declared.limits.TheConstants.{SYMBOL_LIMIT}
-use Rattle.st_tree.specs.Trees.{Program}
-use Rattle.st_grammar.specs.Grammar.{chunk, method as a_method}
-use Rattle.st_grammar_laws.specs.TreeOf.{TextFault, tree_of}
+use Rattle.gem_object.specs.texts.Bytes.{Bytes as Text}
+use Rattle.gem_object.specs.texts.declared.limits.TheConstants.{SYMBOL_LIMIT}
+use Rattle.object_programs.specs.st_tree.Trees.{Program}
+use Rattle.object_programs.specs.st_grammar.Grammar.{chunk, method as a_method}
+use Rattle.object_programs.specs.st_grammar_laws.TreeOf.{TextFault, tree_of}
 use Rattle.gem_object.specs.declared.value.Value.{Value}
 use Rattle.gem_object.specs.declared.value.Value.TheVariants as value
 use Rattle.gem_object.specs.declared.body.MethodCode.TheVariants.{Source}
 use Rattle.gem_object.specs.declared.body.ClassBody.{ClassBody}
 use Rattle.gem_object.specs.declared.body.Body.{Body}
 use Rattle.gem_object.specs.declared.body.Body.TheVariants as body
-use Rattle.gem_image.specs.Image.{Contents}
-use Rattle.gem_sound.specs.Parts.{class_of}
-use Rattle.gem_world.specs.World.{Setting, World, shown, with_name}
-use Rattle.gem_world.specs.Access.{Access, a_read, a_write, is_allowed, accessed}
+use Rattle.object_programs.specs.gem_image.Image.{Contents}
+use Rattle.object_programs.specs.gem_sound.Parts.{class_of}
+use Rattle.object_programs.specs.gem_world.World.{Setting, World, shown, with_name}
+use Rattle.object_programs.specs.gem_world.Access.{Access, a_read, a_write, is_allowed, accessed}
 use Rattle.object_programs.specs.Budget.{bytes_cost}
 use Rattle.object_programs.specs.Fixed.{Fixed, class_part, fixed_of, fixed_by}
 use Rattle.object_programs.specs.Atom.{Ask, access_fault, access_answer, touch_missing}

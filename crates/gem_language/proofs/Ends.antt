@@ -1,9 +1,9 @@
 -- What is told of the parts of a program by what the whole answers.
 use Rattle.std.proofs.Common.{◌≡◌, ◌∙◌, refl, sym, ap, ℕ, Bool, true, false, cond, Option, Some, None}
 use Rattle.gem_object.specs.declared.value.Value.{Value}
-use Rattle.gem_image.specs.Image.{Contents}
-use Rattle.gem_world.specs.World.{Setting, World, shown, touch}
-use Rattle.gem_world.specs.Access.{a_read, is_allowed, touches_of, with_touches, after_allowed, accessed}
+use Rattle.object_programs.specs.gem_image.Image.{Contents}
+use Rattle.object_programs.specs.gem_world.World.{Setting, World, shown, touch}
+use Rattle.object_programs.specs.gem_world.Access.{a_read, is_allowed, touches_of, with_touches, after_allowed, accessed}
 use Rattle.object_programs.specs.declared.fault.Fault.{Fault}
 use Rattle.object_programs.specs.Atom.{access_answer}
 use Rattle.object_programs.specs.Run.{Run, and_then, Ending, gives, returns, fails, State, Outcome, end_of, onward, perform}

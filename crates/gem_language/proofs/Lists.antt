@@ -1,7 +1,7 @@
 -- What holds of all programs holds of lists of commands.
 use Rattle.std.proofs.Common.{arith, ◌≡◌, ◌∙◌, refl, ap, List, [], ◌∷◌, ◌++◌, ◌≤◌, ◌+◌, ◌*◌, length}
-use Rattle.gem_image.specs.Image.{Image}
-use Rattle.gem_world.specs.World.{Setting, World}
+use Rattle.object_programs.specs.gem_image.Image.{Image}
+use Rattle.object_programs.specs.gem_world.World.{Setting, World}
 use Rattle.object_programs.specs.declared.limits.TheConstants.{SPACE_LIMIT}
 use Rattle.object_programs.specs.Budget.{whole_budget}
 use Rattle.object_programs.specs.Laws.{rebased, Stays, AgreeOnTouched, Falls}

@@ -1,12 +1,12 @@
 -- Literals make what the relation says.
 use Rattle.std.proofs.Common.{arith, ◌≡◌, ◌∙◌, refl, ap, ℕ, Bool, true, false, ◌&&◌, ◌<◌, nat_le, length, Option, Some, None, List, [], ◌∷◌}
 use Rattle.std.proofs.lemmas.Bool.{leb-true}
-use Rattle.profile.specs.declared.limits.TheConstants.{SYMBOL_LIMIT}
-use Rattle.st_tree.specs.Trees.{Constant, int, char, str, sym as symbol, nothing, yes, no, array, Constants, no_constants, a_constant}
+use Rattle.gem_object.specs.texts.declared.limits.TheConstants.{SYMBOL_LIMIT}
+use Rattle.object_programs.specs.st_tree.Trees.{Constant, int, char, str, sym as symbol, nothing, yes, no, array, Constants, no_constants, a_constant}
 use Rattle.gem_object.specs.declared.value.Value.{Value}
 use Rattle.gem_object.specs.declared.value.Value.TheVariants as value
 use Rattle.gem_object.specs.declared.body.Body.TheVariants as body
-use Rattle.gem_world.specs.World.{Setting}
+use Rattle.object_programs.specs.gem_world.World.{Setting}
 use Rattle.object_programs.specs.declared.fault.Fault.TheVariants as fault
 use Rattle.object_programs.specs.Run.{give, and_then, gives, fails, State, Outcome, perform}
 use Rattle.object_programs.specs.Programs.{check}
@@ -18,7 +18,7 @@ use Rattle.gem_language.specs.Comes.{Comes}
 use Rattle.gem_language.specs.ReadingLiterals.{HasLiteral, plain, a_string, an_array, HaveLiterals, no_elements, an_element, HasLongSymbol, long, within, HaveLongSymbol, in_first, in_rest}
 use Rattle.gem_language.proofs.Ends.{fails_gives, both, then_comes}
 use Rattle.gem_language.proofs.NameReadings.{given}
-use Rattle.gem_sound.specs.declared.names.TheConstants.{ARRAY_CLASS}
+use Rattle.object_programs.specs.gem_sound.declared.names.TheConstants.{ARRAY_CLASS}
 
 module _ (setting : Setting) where
   given_plain : (tree : Constant) (one : Value) (state : State MadeBlock) (answer : Value) (after : State MadeBlock)

@@ -1,16 +1,16 @@
 -- A look-up finds what the relation says.
 use Rattle.std.proofs.Common.{◌≡◌, ◌∙◌, refl, sym, ap, subst, ℕ, zero, suc, Bool, true, false, Option, Some, None, option_and_then, option_map}
-use Rattle.texts.specs.Bytes.{Bytes as Text}
+use Rattle.gem_object.specs.texts.Bytes.{Bytes as Text}
 use Rattle.gem_object.specs.declared.value.Value.{Value}
 use Rattle.gem_object.specs.declared.value.Value.TheVariants as value
 use Rattle.gem_object.specs.declared.body.MethodCode.{MethodCode}
 use Rattle.gem_object.specs.declared.body.ClassBody.{ClassBody}
 use Rattle.gem_object.specs.declared.body.Body.{Body}
 use Rattle.gem_object.specs.declared.body.Body.TheVariants as body
-use Rattle.gem_image.specs.Image.{Contents, Objects}
-use Rattle.gem_sound.specs.Kernel.{class_class}
-use Rattle.gem_sound.specs.Parts.{class_of, class_at}
-use Rattle.gem_world.specs.World.{Setting, shown_objects}
+use Rattle.object_programs.specs.gem_image.Image.{Contents, Objects}
+use Rattle.object_programs.specs.gem_sound.Kernel.{class_class}
+use Rattle.object_programs.specs.gem_sound.Parts.{class_of, class_at}
+use Rattle.object_programs.specs.gem_world.World.{Setting, shown_objects}
 use Rattle.object_programs.specs.Fixed.{fixed_of}
 use Rattle.object_programs.specs.Guard.{chain_limit}
 use Rattle.object_programs.specs.Atom.{touch_missing}

@@ -1,16 +1,16 @@
 -- Names that are no variables in scope stand for what the relations say.
 use Rattle.std.proofs.Common.{◌≡◌, ◌∙◌, refl, sym, ap, subst, ℕ, zero, suc, Bool, true, false, not, nat_lt, Option, Some, None, List, [], ◌++◌}
-use Rattle.texts.specs.Bytes.{Bytes as Text}
+use Rattle.gem_object.specs.texts.Bytes.{Bytes as Text}
 use Rattle.gem_object.specs.Edits.{plain_slots, slot_at, with_slot}
 use Rattle.gem_object.specs.References.{reference_of}
 use Rattle.gem_object.specs.declared.value.Value.{Value}
 use Rattle.gem_object.specs.declared.value.Value.TheVariants as value
 use Rattle.gem_object.specs.declared.value.BlockRef.{BlockRef}
 use Rattle.gem_object.specs.declared.body.ClassBody.{ClassBody}
-use Rattle.gem_image.specs.Image.{Contents}
-use Rattle.gem_sound.specs.Parts.{class_of}
-use Rattle.gem_world.specs.World.{Setting, shown}
-use Rattle.gem_world.specs.Access.{Access, a_read, a_write, is_allowed, accessed}
+use Rattle.object_programs.specs.gem_image.Image.{Contents}
+use Rattle.object_programs.specs.gem_sound.Parts.{class_of}
+use Rattle.object_programs.specs.gem_world.World.{Setting, shown}
+use Rattle.object_programs.specs.gem_world.Access.{Access, a_read, a_write, is_allowed, accessed}
 use Rattle.object_programs.specs.declared.fault.Fault.{Fault}
 use Rattle.object_programs.specs.declared.fault.Fault.TheVariants as fault
 use Rattle.object_programs.specs.Guard.{chain_limit}

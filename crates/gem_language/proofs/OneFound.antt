@@ -1,13 +1,13 @@
 -- A look-up finds at most one thing.
 use Rattle.std.proofs.Common.{◌≡◌, refl, sym, subst, ℕ, Bool, true, false, Option, Some, None}
-use Rattle.texts.specs.Bytes.{Bytes as Text}
+use Rattle.gem_object.specs.texts.Bytes.{Bytes as Text}
 use Rattle.gem_object.specs.declared.value.Value.{Value}
 use Rattle.gem_object.specs.declared.value.Value.TheVariants as value
 use Rattle.gem_object.specs.declared.body.MethodCode.{MethodCode}
 use Rattle.gem_object.specs.declared.body.ClassBody.{ClassBody}
-use Rattle.gem_image.specs.Image.{Contents, Objects}
-use Rattle.gem_sound.specs.Kernel.{class_class}
-use Rattle.gem_sound.specs.Parts.{class_at}
+use Rattle.object_programs.specs.gem_image.Image.{Contents, Objects}
+use Rattle.object_programs.specs.gem_sound.Kernel.{class_class}
+use Rattle.object_programs.specs.gem_sound.Parts.{class_at}
 use Rattle.tree_meaning.specs.Place.{Frame}
 use Rattle.prim_rules.specs.Parts.{class_of_plain}
 use Rattle.gem_language.specs.declared.found.Found.{Found}

@@ -2,10 +2,10 @@
 use Rattle.std.proofs.Common.{◌≡◌, ◌∙◌, sym, ap, ℕ, Bool, List, [], Option, None, reverse}
 use Rattle.std.proofs.Math.Path.{fun_ext}
 use Rattle.std.proofs.lemmas.List.{reverse-reverse}
-use Rattle.texts.specs.Bytes.{Bytes as Text}
-use Rattle.st_tree.specs.Trees.{name, constant, Constant, Expressions, send}
+use Rattle.gem_object.specs.texts.Bytes.{Bytes as Text}
+use Rattle.object_programs.specs.st_tree.Trees.{name, constant, Constant, Expressions, send}
 use Rattle.gem_object.specs.declared.value.Value.{Value}
-use Rattle.gem_world.specs.World.{Setting}
+use Rattle.object_programs.specs.gem_world.World.{Setting}
 use Rattle.object_programs.specs.Run.{State, perform}
 use Rattle.tree_meaning.specs.Place.{Place, Frame, MadeBlock}
 use Rattle.tree_meaning.specs.Names.{where_is}

@@ -1,19 +1,19 @@
 -- Where objects are sound, no walk up the superclasses is too long.
 use Rattle.std.proofs.Common.{◌≡◌, ◌∙◌, refl, sym, ap, subst, ℕ, zero, suc, Bool, true, false, ◌&&◌, nat_lt, Option, Some, None, option_map, List, [], ◌∷◌, ◌++◌, fold}
 use Rattle.std.proofs.lemmas.Bool.{false≢true, and_parts}
-use Rattle.texts.specs.Bytes.{Bytes as Text}
+use Rattle.gem_object.specs.texts.Bytes.{Bytes as Text}
 use Rattle.gem_object.specs.declared.value.Value.{Value}
 use Rattle.gem_object.specs.declared.value.Value.TheVariants as value
 use Rattle.gem_object.specs.declared.body.MethodCode.{MethodCode}
 use Rattle.gem_object.specs.declared.body.ClassBody.{ClassBody}
 use Rattle.gem_object.specs.declared.body.Body.{Body}
 use Rattle.gem_object.specs.declared.body.Body.TheVariants as body
-use Rattle.gem_image.specs.Image.{Contents}
-use Rattle.gem_sound.specs.Kernel.{class_class}
-use Rattle.gem_sound.specs.Parts.{class_of}
-use Rattle.gem_sound.specs.Sound.{names_in}
-use Rattle.gem_world.specs.World.{Setting, World, shown}
-use Rattle.gem_world.specs.Access.{a_read, is_allowed, with_touches, accessed}
+use Rattle.object_programs.specs.gem_image.Image.{Contents}
+use Rattle.object_programs.specs.gem_sound.Kernel.{class_class}
+use Rattle.object_programs.specs.gem_sound.Parts.{class_of}
+use Rattle.object_programs.specs.gem_sound.Sound.{names_in}
+use Rattle.object_programs.specs.gem_world.World.{Setting, World, shown}
+use Rattle.object_programs.specs.gem_world.Access.{a_read, is_allowed, with_touches, accessed}
 use Rattle.object_programs.specs.declared.fault.Fault.TheVariants as fault
 use Rattle.object_programs.specs.Fixed.{Fixed, ClassPart, class_part, fixed_of, fixed_by}
 use Rattle.object_programs.specs.Guard.{Parts, chain_limit, names_above, names_of_class, names_of_part, names_within, names_at, holds_of, are_few, is_known, is_segment_at, accepts, named_fit, kernel_fits, place_fits, fits}

@@ -1,6 +1,6 @@
 -- How programs end, as relations of states.
 use Rattle.std.specs.Prelude.{◌≡◌, ℕ, List}
-use Rattle.gem_world.specs.World.{Setting}
+use Rattle.object_programs.specs.gem_world.World.{Setting}
 use Rattle.object_programs.specs.Run.{Run, Ending, gives, fails, State, perform}
 use Rattle.object_programs.specs.declared.fault.Fault.TheVariants as fault
 use Rattle.tree_meaning.specs.Place.{MadeBlock}

@@ -1,9 +1,9 @@
 -- A session's commands on objects, and what each of them comes to.
 use Rattle.std.specs.Prelude.{Bool, true, false, Option, None, Some, [], Result, Ok, Err}
-use Rattle.texts.specs.Bytes.{Bytes as Text}
-use Rattle.st_tree.specs.Trees.{Program}
-use Rattle.st_grammar.specs.Grammar.{chunk, method}
-use Rattle.st_grammar_laws.specs.TreeOf.{TextFault, tree_of}
+use Rattle.gem_object.specs.texts.Bytes.{Bytes as Text}
+use Rattle.object_programs.specs.st_tree.Trees.{Program}
+use Rattle.object_programs.specs.st_grammar.Grammar.{chunk, method}
+use Rattle.object_programs.specs.st_grammar_laws.TreeOf.{TextFault, tree_of}
 use Rattle.object_programs.specs.Run.{Run, give, and_then, Ending, gives, returns, fails}
 use Rattle.object_programs.specs.declared.fault.Fault.{Fault}
 use Rattle.object_programs.specs.declared.fault.Fault.TheVariants as fault

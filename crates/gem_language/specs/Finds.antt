@@ -1,13 +1,13 @@
 -- What a look-up finds, as relations over the objects that are seen.
 use Rattle.std.specs.Prelude.{◌≡◌, ℕ, Bool, true, false, Option, None, Some, option_and_then}
-use Rattle.texts.specs.Bytes.{Bytes as Text}
+use Rattle.gem_object.specs.texts.Bytes.{Bytes as Text}
 use Rattle.gem_object.specs.declared.value.Value.{Value}
 use Rattle.gem_object.specs.declared.value.Value.TheVariants.{Ref}
 use Rattle.gem_object.specs.declared.body.MethodCode.{MethodCode}
 use Rattle.gem_object.specs.declared.body.ClassBody.{ClassBody}
-use Rattle.gem_image.specs.Image.{Contents, Objects}
-use Rattle.gem_sound.specs.Kernel.{class_class}
-use Rattle.gem_sound.specs.Parts.{class_at}
+use Rattle.object_programs.specs.gem_image.Image.{Contents, Objects}
+use Rattle.object_programs.specs.gem_sound.Kernel.{class_class}
+use Rattle.object_programs.specs.gem_sound.Parts.{class_at}
 use Rattle.tree_meaning.specs.Place.{Frame}
 use Rattle.prim_rules.specs.Parts.{class_of_plain}
 use Rattle.gem_language.specs.LookUp.{methods_on, code_of}

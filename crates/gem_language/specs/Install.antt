@@ -2,8 +2,8 @@
 use Rattle.std.specs.Prelude.{ℕ, Bool, true, false, nat_le, length, List, [], ◌∷◌, is_some}
 use Rattle.std.specs.Ordering.{nat_cmp, match_ordering}
 use Rattle.std.specs.Cmp.Lexicographic.{slice_cmp}
-use Rattle.texts.specs.Bytes.{Bytes as Text}
-use Rattle.profile.specs.declared.limits.TheConstants.{SYMBOL_LIMIT}
+use Rattle.gem_object.specs.texts.Bytes.{Bytes as Text}
+use Rattle.gem_object.specs.texts.declared.limits.TheConstants.{SYMBOL_LIMIT}
 use Rattle.gem_object.specs.References.{reference_of}
 use Rattle.gem_object.specs.declared.value.Value.{Value}
 use Rattle.gem_object.specs.declared.body.MethodCode.TheVariants.{Source}
@@ -15,7 +15,7 @@ use Rattle.object_programs.specs.Run.{Run, give, and_then}
 use Rattle.object_programs.specs.Programs.{need, check, read, write, known, replace_body}
 use Rattle.object_programs.specs.declared.fault.Fault.TheVariants as fault
 use Rattle.tree_meaning.specs.Place.{MadeBlock}
-use Rattle.gem_sound.specs.Parts.{class_of}
+use Rattle.object_programs.specs.gem_sound.Parts.{class_of}
 use Rattle.gem_language.specs.OutOfScope.{global_value}
 
 -- The methods of a class, which ascend by selector, with this one: it takes the place of one with

@@ -1,8 +1,8 @@
 -- Literals: a string or an array that is written out in the text is a new object in each
 -- evaluation.
 use Rattle.std.specs.Prelude.{Bool, true, ◌&&◌, nat_le, length, List, [], ◌∷◌}
-use Rattle.profile.specs.declared.limits.TheConstants.{SYMBOL_LIMIT}
-use Rattle.st_tree.specs.Trees.{Constant, int, char, str, sym, nothing, yes, no, array, Constants, no_constants, a_constant}
+use Rattle.gem_object.specs.texts.declared.limits.TheConstants.{SYMBOL_LIMIT}
+use Rattle.object_programs.specs.st_tree.Trees.{Constant, int, char, str, sym, nothing, yes, no, array, Constants, no_constants, a_constant}
 use Rattle.gem_object.specs.declared.value.Value.{Value}
 use Rattle.gem_object.specs.declared.value.Value.TheVariants as value
 use Rattle.gem_object.specs.declared.body.Body.TheVariants as body
@@ -12,7 +12,7 @@ use Rattle.object_programs.specs.declared.fault.Fault.TheVariants as fault
 use Rattle.tree_meaning.specs.Place.{MadeBlock}
 use Rattle.tree_meaning.specs.Operands.{ValueRun}
 use Rattle.prim_rules.specs.Parts.{new_object}
-use Rattle.gem_sound.specs.declared.names.TheConstants.{ARRAY_CLASS, STRING_CLASS}
+use Rattle.object_programs.specs.gem_sound.declared.names.TheConstants.{ARRAY_CLASS, STRING_CLASS}
 
 -- Whether each symbol in a literal has at most 1,000 bytes, at any depth. In an array identifiers
 -- and keywords stand for symbols, and may be longer; a symbol that is written with `#` is not.

@@ -1,7 +1,7 @@
 -- Look-up: which method answers a message. It goes up the superclasses, and each class that it
 -- consults is read.
 use Rattle.std.specs.Prelude.{ℕ, zero, suc, Bool, true, false, cond, List, [], ◌∷◌, Option, None, Some, option_and_then, bytes_eq}
-use Rattle.texts.specs.Bytes.{Bytes as Text}
+use Rattle.gem_object.specs.texts.Bytes.{Bytes as Text}
 use Rattle.gem_object.specs.declared.value.Value.{Value}
 use Rattle.gem_object.specs.declared.value.Value.TheVariants.{Ref}
 use Rattle.gem_object.specs.declared.body.MethodCode.{MethodCode}
@@ -9,7 +9,7 @@ use Rattle.gem_object.specs.declared.body.Method.{Method}
 use Rattle.gem_object.specs.declared.body.ClassBody.{ClassBody}
 use Rattle.gem_object.specs.declared.body.Body.{Body}
 use Rattle.gem_object.specs.declared.body.Body.TheVariants as body
-use Rattle.gem_sound.specs.Kernel.{class_class}
+use Rattle.object_programs.specs.gem_sound.Kernel.{class_class}
 use Rattle.object_programs.specs.Fixed.{Fixed}
 use Rattle.object_programs.specs.Guard.{chain_limit}
 use Rattle.object_programs.specs.Atom.{Kind}
@@ -17,7 +17,7 @@ use Rattle.object_programs.specs.Run.{Run, give, fail, atom, and_then}
 use Rattle.object_programs.specs.Programs.{read, part_of}
 use Rattle.object_programs.specs.declared.fault.Fault.TheVariants as fault
 use Rattle.tree_meaning.specs.Place.{Frame, MadeBlock}
-use Rattle.gem_sound.specs.Parts.{class_of}
+use Rattle.object_programs.specs.gem_sound.Parts.{class_of}
 use Rattle.prim_rules.specs.Parts.{class_of_plain}
 use Rattle.gem_language.specs.declared.found.Found.{Found}
 

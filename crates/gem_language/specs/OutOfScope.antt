@@ -1,12 +1,12 @@
 -- Names that are no variables in scope: instance variables and globals.
 use Rattle.std.specs.Prelude.{ℕ, zero, suc, Bool, true, false, not, nat_lt, List, [], ◌++◌, Option, None, Some, option_and_then, option_map}
-use Rattle.texts.specs.Bytes.{Bytes as Text}
+use Rattle.gem_object.specs.texts.Bytes.{Bytes as Text}
 use Rattle.gem_object.specs.Edits.{plain_slots, slot_at, with_slot, value_at}
 use Rattle.gem_object.specs.References.{reference_of}
 use Rattle.gem_object.specs.declared.value.Value.{Value}
 use Rattle.gem_object.specs.declared.value.Value.TheVariants.{Sym}
 use Rattle.gem_object.specs.declared.body.ClassBody.{ClassBody}
-use Rattle.gem_image.specs.Image.{Contents}
+use Rattle.object_programs.specs.gem_image.Image.{Contents}
 use Rattle.object_programs.specs.Guard.{chain_limit}
 use Rattle.object_programs.specs.Atom.{Own}
 use Rattle.object_programs.specs.Run.{Run, give, fail, atom, and_then}
@@ -15,7 +15,7 @@ use Rattle.object_programs.specs.declared.fault.Fault.TheVariants as fault
 use Rattle.tree_meaning.specs.Place.{Frame, MadeBlock}
 use Rattle.tree_meaning.specs.Names.{index_of}
 use Rattle.tree_meaning.specs.Operands.{ValueRun}
-use Rattle.gem_sound.specs.Parts.{class_of, user_of}
+use Rattle.object_programs.specs.gem_sound.Parts.{class_of, user_of}
 use Rattle.prim_rules.specs.Parts.{is_block}
 use Rattle.gem_language.specs.KernelNames.{globals}
 

@@ -1,14 +1,14 @@
 -- What a send and what a block come to, by cases: for whoever wants to know what the language means
 -- without reading programs.
 use Rattle.std.specs.Prelude.{◌≡◌, ℕ, suc, Bool, true, false, nat_eq, length, List, reverse, slice_get, Option, None, Some, Ok, Err}
-use Rattle.texts.specs.Bytes.{Bytes as Text}
-use Rattle.st_tree.specs.Trees.{Program}
-use Rattle.st_grammar.specs.Grammar.{method}
-use Rattle.st_grammar_laws.specs.TreeOf.{TextFault, tree_of}
+use Rattle.gem_object.specs.texts.Bytes.{Bytes as Text}
+use Rattle.object_programs.specs.st_tree.Trees.{Program}
+use Rattle.object_programs.specs.st_grammar.Grammar.{method}
+use Rattle.object_programs.specs.st_grammar_laws.TreeOf.{TextFault, tree_of}
 use Rattle.gem_object.specs.declared.value.Value.{Value}
 use Rattle.gem_object.specs.declared.value.BlockRef.{BlockRef}
 use Rattle.gem_object.specs.declared.body.MethodCode.TheVariants.{Source, Primitive}
-use Rattle.gem_world.specs.World.{Setting}
+use Rattle.object_programs.specs.gem_world.World.{Setting}
 use Rattle.object_programs.specs.Run.{Ending, gives, returns, fails, State}
 use Rattle.object_programs.specs.declared.fault.Fault.TheVariants as fault
 use Rattle.tree_meaning.specs.Place.{Frame, MadeBlock}

@@ -1,17 +1,17 @@
 -- What a literal makes, by cases.
 use Rattle.std.specs.Prelude.{◌≡◌, ◌<◌, length, List, [], ◌∷◌, Some}
-use Rattle.texts.specs.Bytes.{Bytes as Text}
-use Rattle.profile.specs.declared.limits.TheConstants.{SYMBOL_LIMIT}
-use Rattle.st_tree.specs.Trees.{Constant, str, sym, array, Constants, no_constants, a_constant}
+use Rattle.gem_object.specs.texts.Bytes.{Bytes as Text}
+use Rattle.gem_object.specs.texts.declared.limits.TheConstants.{SYMBOL_LIMIT}
+use Rattle.object_programs.specs.st_tree.Trees.{Constant, str, sym, array, Constants, no_constants, a_constant}
 use Rattle.gem_object.specs.declared.value.Value.{Value}
 use Rattle.gem_object.specs.declared.body.Body.TheVariants as body
-use Rattle.gem_world.specs.World.{Setting}
+use Rattle.object_programs.specs.gem_world.World.{Setting}
 use Rattle.object_programs.specs.Run.{State, gives}
 use Rattle.tree_meaning.specs.Place.{MadeBlock}
 use Rattle.tree_meaning.specs.Meaning.{plain_constant}
 use Rattle.prim_rules.specs.Parts.{new_object}
 use Rattle.gem_language.specs.Comes.{Comes}
-use Rattle.gem_sound.specs.declared.names.TheConstants.{ARRAY_CLASS, STRING_CLASS}
+use Rattle.object_programs.specs.gem_sound.declared.names.TheConstants.{ARRAY_CLASS, STRING_CLASS}
 
 mutual
   -- A literal has this value.

@@ -1,14 +1,14 @@
 -- What a name that is no variable in scope stands for, by cases.
 use Rattle.std.specs.Prelude.{◌≡◌, ℕ, true, false, List, [], ◌++◌, Option, None, Some}
-use Rattle.texts.specs.Bytes.{Bytes as Text}
+use Rattle.gem_object.specs.texts.Bytes.{Bytes as Text}
 use Rattle.gem_object.specs.Edits.{slot_at, with_slot}
 use Rattle.gem_object.specs.declared.value.Value.{Value}
 use Rattle.gem_object.specs.declared.value.Value.TheVariants.{Ref}
 use Rattle.gem_object.specs.declared.body.ClassBody.{ClassBody}
-use Rattle.gem_image.specs.Image.{Contents}
-use Rattle.gem_sound.specs.Parts.{class_of}
-use Rattle.gem_world.specs.World.{Setting, shown, touch}
-use Rattle.gem_world.specs.Access.{Access, a_read, a_write, is_allowed, accessed}
+use Rattle.object_programs.specs.gem_image.Image.{Contents}
+use Rattle.object_programs.specs.gem_sound.Parts.{class_of}
+use Rattle.object_programs.specs.gem_world.World.{Setting, shown, touch}
+use Rattle.object_programs.specs.gem_world.Access.{Access, a_read, a_write, is_allowed, accessed}
 use Rattle.object_programs.specs.Run.{State, gives}
 use Rattle.object_programs.specs.Programs.{replace_body}
 use Rattle.tree_meaning.specs.Place.{Frame, MadeBlock}

@@ -1,9 +1,9 @@
 -- Sends, and with them all that stands outside a tree: what the whole language means.
 use Rattle.std.specs.Prelude.{ℕ, zero, suc, Bool, false, List, [], length, reverse, Option, None, Some, Result, Ok, Err, ◌-◌}
-use Rattle.texts.specs.Bytes.{Bytes as Text}
-use Rattle.st_tree.specs.Trees.{Program}
-use Rattle.st_grammar.specs.Grammar.{method}
-use Rattle.st_grammar_laws.specs.TreeOf.{TextFault, tree_of}
+use Rattle.gem_object.specs.texts.Bytes.{Bytes as Text}
+use Rattle.object_programs.specs.st_tree.Trees.{Program}
+use Rattle.object_programs.specs.st_grammar.Grammar.{method}
+use Rattle.object_programs.specs.st_grammar_laws.TreeOf.{TextFault, tree_of}
 use Rattle.gem_object.specs.declared.value.Value.{Value}
 use Rattle.gem_object.specs.declared.value.Value.TheVariants.{Nil}
 use Rattle.gem_object.specs.declared.body.MethodCode.{MethodCode}
@@ -24,7 +24,7 @@ use Rattle.gem_language.specs.OutOfScope.{read_out_of_scope, write_out_of_scope}
 use Rattle.gem_language.specs.Literals.{literal_value}
 use Rattle.prim_rules.specs.Rules.{rule_of}
 use Rattle.gem_language.specs.declared.found.Found.{Found}
-use Rattle.gem_sound.specs.declared.names.TheConstants.{UNDEFINED_OBJECT_CLASS}
+use Rattle.object_programs.specs.gem_sound.declared.names.TheConstants.{UNDEFINED_OBJECT_CLASS}
 
 -- What a send may come to beside a primitive: a method with a tree, by the class that holds it and
 -- the side on which it stands there; and a made block. Arguments stand here the first one first.

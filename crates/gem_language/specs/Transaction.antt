@@ -1,8 +1,8 @@
 -- What a list of commands does in a transaction: each begins with a whole budget and with nothing
 -- local, on the objects that those before it left.
 use Rattle.std.specs.Prelude.{List, [], ◌∷◌, ◌++◌}
-use Rattle.texts.specs.Bytes.{Bytes as Text}
-use Rattle.gem_world.specs.World.{Setting, World}
+use Rattle.gem_object.specs.texts.Bytes.{Bytes as Text}
+use Rattle.object_programs.specs.gem_world.World.{Setting, World}
 use Rattle.object_programs.specs.Budget.{whole_budget}
 use Rattle.object_programs.specs.Local.{nothing}
 use Rattle.object_programs.specs.Run.{State, Outcome, perform}

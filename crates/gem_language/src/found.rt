@@ -1,7 +1,6 @@
 //! What a look-up finds.
 
-use gem_object::MethodCode;
-use gem_value::Oid;
+use gem_object::{MethodCode, Oid};
 
 /// A method that a look-up found.
 #[derive(Debug, Drop)]

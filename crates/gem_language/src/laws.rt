@@ -1,16 +1,16 @@
 //! What follows from the definitions alone. Each law is the contract of a function that does
 //! nothing.
 ghost use Rattle.std.specs.Prelude.{◌≡◌, ◌≤◌, ◌+◌, ◌*◌, ◌++◌, [], ℕ, Bool, List, length, Option, Some, None, true, false, map, bytes_eq};
-ghost use Rattle.texts.specs.Bytes.{Bytes as Text};
-ghost use Rattle.st_tree.specs.Trees.{Constant, Program};
+ghost use Rattle.gem_object.specs.texts.Bytes.{Bytes as Text};
+ghost use Rattle.object_programs.specs.st_tree.Trees.{Constant, Program};
 ghost use Rattle.gem_object.specs.declared.value.Value.{Value};
 ghost use Rattle.gem_object.specs.declared.value.Value.TheVariants.{Nil, Ref, Block};
 ghost use Rattle.gem_object.specs.declared.value.BlockRef.{BlockRef};
 ghost use Rattle.gem_object.specs.declared.body.Method.{Method};
 ghost use Rattle.object_programs.specs.Spelled.{texts_ascend};
-ghost use Rattle.gem_image.specs.Image.{Image, Contents, Objects};
-ghost use Rattle.gem_world.specs.World.{Setting, World, shown_objects};
-ghost use Rattle.gem_world.specs.Access.{IsTouched};
+ghost use Rattle.object_programs.specs.gem_image.Image.{Image, Contents, Objects};
+ghost use Rattle.object_programs.specs.gem_world.World.{Setting, World, shown_objects};
+ghost use Rattle.object_programs.specs.gem_world.Access.{IsTouched};
 ghost use Rattle.object_programs.specs.Budget.{whole_budget};
 ghost use Rattle.object_programs.specs.Fixed.{fixed_by};
 ghost use Rattle.object_programs.specs.Laws.{rebased, Stays, AgreeOnTouched, Falls, KeepsParts, AreFree, IsInReach, UpdatesTell, AreSound};

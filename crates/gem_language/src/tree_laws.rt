@@ -1,11 +1,11 @@
 //! What trees mean with all that stands outside them in the language. Each law is the contract of a
 //! function that does nothing.
 ghost use Rattle.std.specs.Prelude.{◌≡◌, ◌++◌, ◌∷◌, [], ℕ, length, reverse, Bool, true, false, List, Some, None};
-ghost use Rattle.texts.specs.Bytes.{Bytes as Text};
-ghost use Rattle.st_tree.specs.Trees.{Head, name, constant, block, Constant, Closure, Expression, expression, Expressions, Send, send, Sends, no_sends, a_send, statement};
+ghost use Rattle.gem_object.specs.texts.Bytes.{Bytes as Text};
+ghost use Rattle.object_programs.specs.st_tree.Trees.{Head, name, constant, block, Constant, Closure, Expression, expression, Expressions, Send, send, Sends, no_sends, a_send, statement};
 ghost use Rattle.gem_object.specs.declared.value.Value.{Value};
 ghost use Rattle.gem_object.specs.declared.value.Value.TheVariants as value;
-ghost use Rattle.gem_world.specs.World.{Setting};
+ghost use Rattle.object_programs.specs.gem_world.World.{Setting};
 ghost use Rattle.object_programs.specs.Run.{State};
 ghost use Rattle.object_programs.specs.declared.fault.Fault.TheVariants as fault;
 ghost use Rattle.tree_meaning.specs.Place.{Place, Frame, MadeBlock};

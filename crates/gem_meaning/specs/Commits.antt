@@ -1,6 +1,6 @@
 -- What a session says to commits and aborts.
 use Rattle.std.specs.Prelude.{◌≡◌, ◌≢◌, ℕ, ◌+◌, true, false, List, [], ◌∷◌, ◌++◌}
-use Rattle.gem_value.specs.declared.conflict.Conflict.{Conflict}
+use Rattle.gem_object.specs.gem_value.declared.conflict.Conflict.{Conflict}
 use Rattle.gem_replies.specs.declared.reply.Line.{Line}
 use Rattle.gem_replies.specs.declared.reply.Line.TheVariants.{NoMemory, Spoiled, Unchanged, Refused, Committed, Aborted}
 use Rattle.gem_meaning.specs.declared.event.What.TheVariants.{Placed}

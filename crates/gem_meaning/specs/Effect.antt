@@ -3,8 +3,8 @@ use Rattle.std.specs.Prelude.{◌≡◌, ◌<◌, ◌^◌, ℕ, List, [], ◌++�
 use Rattle.std.specs.Ordering.{nat_cmp}
 use Rattle.std.specs.FinMap.{entries, from_entries}
 use Rattle.gem_object.specs.declared.object.Object.{Object}
-use Rattle.gem_image.specs.Image.{Image}
-use Rattle.gem_update.specs.Spelling.{entries_of}
+use Rattle.gem_record.specs.gem_image.Image.{Image}
+use Rattle.gem_record.specs.gem_update.Spelling.{entries_of}
 use Rattle.gem_record.specs.declared.record.TxnRecord.{TxnRecord}
 use Rattle.kept_set.specs.Kept.{kept_of, roots_of}
 use Rattle.commit_check.specs.Conflicts.{merged_objects}

@@ -4,17 +4,17 @@ use Rattle.std.specs.List.{fold, filter, filter_map}
 use Rattle.std.specs.Ordering.{nat_cmp}
 use Rattle.std.specs.FinMap.{FinMap, get, insert, empty}
 use Rattle.std.specs.Option.{unwrap_or}
-use Rattle.gem_value.specs.Oid.{oid_number}
+use Rattle.gem_object.specs.gem_value.Oid.{oid_number}
 use Rattle.gem_object.specs.declared.object.Object.{Object}
-use Rattle.gem_image.specs.Image.{Image, with_objects}
-use Rattle.gem_value.specs.declared.conflict.Conflict.{Conflict}
+use Rattle.gem_record.specs.gem_image.Image.{Image, with_objects}
+use Rattle.gem_object.specs.gem_value.declared.conflict.Conflict.{Conflict}
 use Rattle.gem_record.specs.declared.record.Entry.{Entry}
 use Rattle.gem_record.specs.declared.record.TxnRecord.{TxnRecord}
 use Rattle.lock_table.specs.Locks.{LockSet, after_held, after_dropped, after_left}
 use Rattle.commit_check.specs.Conflicts.{conflicts_of}
-use Rattle.object_programs.specs.declared.limits.TheConstants.{COUNTER_LIMIT}
+use Rattle.gem_language.specs.object_programs.declared.limits.TheConstants.{COUNTER_LIMIT}
 use Rattle.gem_language.specs.Transaction.{Transaction}
-use Rattle.run_records.specs.Record.{record_of}
+use Rattle.gem_record.specs.Record.{record_of}
 use Rattle.gem_meaning.specs.declared.event.What.{What}
 use Rattle.gem_meaning.specs.declared.event.What.TheVariants.{Placed, Held, Dropped, Left}
 use Rattle.gem_meaning.specs.Opened.{Opened, session_serial, entry_setting, run_at, record_on}

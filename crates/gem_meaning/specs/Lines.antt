@@ -1,10 +1,10 @@
 -- The lines that a chunk or a method replies.
 use Rattle.std.specs.Prelude.{List, [], ◌∷◌, ◌++◌}
-use Rattle.texts.specs.Bytes.{Bytes as Text}
-use Rattle.st_grammar.specs.Fails.{rule_number}
-use Rattle.st_grammar_laws.specs.TreeOf.{TextFault}
-use Rattle.object_programs.specs.Fault.{fault_number, fault_text}
-use Rattle.object_programs.specs.declared.fault.Fault.{Fault}
+use Rattle.gem_object.specs.texts.Bytes.{Bytes as Text}
+use Rattle.gem_language.specs.st_grammar.Fails.{rule_number}
+use Rattle.gem_language.specs.st_grammar_laws.TreeOf.{TextFault}
+use Rattle.gem_language.specs.object_programs.Fault.{fault_number, fault_text}
+use Rattle.gem_language.specs.object_programs.declared.fault.Fault.{Fault}
 use Rattle.gem_language.specs.Commands.{Reply, not_read, failed, ran, printed, installed}
 use Rattle.gem_language.specs.Transaction.{Said}
 use Rattle.gem_replies.specs.declared.reply.Line.{Line}

@@ -1,9 +1,9 @@
 -- What a session says to locks, unlocks and its logout.
 use Rattle.std.specs.Prelude.{◌≡◌, ◌↔◌, ℕ, Bool, true, false, if◌then◌else◌, IsTrue, nat_le, List, [], ◌∷◌, ◌++◌, Some, None, is_some}
-use Rattle.texts.specs.Bytes.{Bytes as Text}
+use Rattle.gem_object.specs.texts.Bytes.{Bytes as Text}
 use Rattle.gem_object.specs.declared.value.Value.TheVariants.{Ref}
-use Rattle.gem_world.specs.World.{Setting, World, is_made}
-use Rattle.gem_world.specs.Access.{Access, a_read, a_write, is_allowed}
+use Rattle.gem_record.specs.gem_world.World.{Setting, World, is_made}
+use Rattle.gem_record.specs.gem_world.Access.{Access, a_read, a_write, is_allowed}
 use Rattle.commit_check.specs.Conflicts.{last_change}
 use Rattle.lock_table.specs.LockKind.{kind_granted}
 use Rattle.lock_table.specs.Locks.{kind_held, denied_for}

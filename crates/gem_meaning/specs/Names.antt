@@ -1,14 +1,14 @@
 -- Users, and what names refer to where locks are asked for.
 use Rattle.std.specs.Prelude.{ℕ, if◌then◌else◌, Option, Some, None, is_some, option_and_then}
-use Rattle.seg_rights.specs.Right.{allows_read}
-use Rattle.texts.specs.Bytes.{Bytes as Text}
+use Rattle.gem_object.specs.seg_rights.Right.{allows_read}
+use Rattle.gem_object.specs.texts.Bytes.{Bytes as Text}
 use Rattle.gem_object.specs.References.{reference_of}
 use Rattle.gem_object.specs.declared.value.Value.{Value}
-use Rattle.gem_image.specs.Image.{Image, Contents, Objects, objects_in}
-use Rattle.gem_world.specs.World.{Setting, World, shown}
-use Rattle.gem_world.specs.Access.{right_at}
-use Rattle.gem_sound.specs.Parts.{user_at}
-use Rattle.gem_sound.specs.declared.names.TheConstants.{ALL_USERS}
+use Rattle.gem_record.specs.gem_image.Image.{Image, Contents, Objects, objects_in}
+use Rattle.gem_record.specs.gem_world.World.{Setting, World, shown}
+use Rattle.gem_record.specs.gem_world.Access.{right_at}
+use Rattle.gem_language.specs.gem_sound.Parts.{user_at}
+use Rattle.gem_language.specs.gem_sound.declared.names.TheConstants.{ALL_USERS}
 use Rattle.gem_language.specs.KernelNames.{globals}
 use Rattle.gem_language.specs.OutOfScope.{global_in, own_globals}
 

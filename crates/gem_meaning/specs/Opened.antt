@@ -2,14 +2,14 @@
 use Rattle.std.specs.Prelude.{ℕ, ◌+◌, ◌-◌, max, List, [], take, drop, Option, Some, None}
 use Rattle.std.specs.List.{fold, slice_get}
 use Rattle.std.specs.FinMap.{entries}
-use Rattle.gem_value.specs.Oid.{serial_of}
-use Rattle.gem_image.specs.Image.{Image}
+use Rattle.gem_object.specs.gem_value.Oid.{serial_of}
+use Rattle.gem_record.specs.gem_image.Image.{Image}
 use Rattle.gem_record.specs.declared.record.Entry.{Entry}
 use Rattle.gem_record.specs.declared.record.TxnRecord.{TxnRecord}
-use Rattle.gem_world.specs.World.{Setting, untouched}
-use Rattle.object_programs.specs.Laws.{begun_at}
+use Rattle.gem_record.specs.gem_world.World.{Setting, untouched}
+use Rattle.gem_language.specs.object_programs.Laws.{begun_at}
 use Rattle.gem_language.specs.Transaction.{Transaction, transaction}
-use Rattle.run_records.specs.Record.{record_of}
+use Rattle.gem_record.specs.Record.{record_of}
 use Rattle.shell_words.specs.Script.{SessionCommands}
 use Rattle.shell_words.specs.declared.script.Command.{Command}
 use Rattle.gem_meaning.specs.Commands.{object_commands}

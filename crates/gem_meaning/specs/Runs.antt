@@ -1,7 +1,7 @@
 -- What a session says to chunks and methods, and the objects that its transaction sees.
 use Rattle.std.specs.Prelude.{◌≡◌, ◌⊎◌, ℕ, ◌+◌, ◌≤◌, true, false, List, [], ◌∷◌, Option, Some, None}
-use Rattle.gem_world.specs.World.{Setting, World}
-use Rattle.object_programs.specs.declared.limits.TheConstants.{SPACE_LIMIT, COUNTER_LIMIT}
+use Rattle.gem_record.specs.gem_world.World.{Setting, World}
+use Rattle.gem_language.specs.object_programs.declared.limits.TheConstants.{SPACE_LIMIT, COUNTER_LIMIT}
 use Rattle.gem_language.specs.Commands.{Command as ObjectCommand}
 use Rattle.gem_language.specs.Transaction.{command_outcome, said_of}
 use Rattle.gem_replies.specs.declared.reply.Line.{Line}

@@ -3,15 +3,15 @@
 use Rattle.std.specs.Prelude.{◌≡◌, ℕ, ◌-◌, ◌≤◌, ◌<◌, ◌^◌, ◌⊎◌, ◌+◌, List, [], ◌∷◌, ◌++◌, length, Option, Some, None, IsSome}
 use Rattle.std.specs.List.{AllByRecursion, slice_get}
 use Rattle.std.specs.FinMap.{get}
-use Rattle.gem_image.specs.Image.{IsImage, objects_in}
+use Rattle.gem_record.specs.gem_image.Image.{IsImage, objects_in}
 use Rattle.gem_record.specs.declared.record.Entry.{Entry}
 use Rattle.gem_record.specs.declared.record.TxnRecord.{TxnRecord}
 use Rattle.gem_record.specs.History.{entry_of}
-use Rattle.gem_sound.specs.Parts.{user_at}
-use Rattle.gem_sound.specs.Sound.{IsSoundImage}
+use Rattle.gem_language.specs.gem_sound.Parts.{user_at}
+use Rattle.gem_language.specs.gem_sound.Sound.{IsSoundImage}
 use Rattle.lock_table.specs.Locks.{kind_held, denied_for}
 use Rattle.commit_check.specs.Conflicts.{last_change}
-use Rattle.object_programs.specs.declared.limits.TheConstants.{COUNTER_LIMIT}
+use Rattle.gem_language.specs.object_programs.declared.limits.TheConstants.{COUNTER_LIMIT}
 use Rattle.shell_words.specs.Script.{SessionCommands}
 use Rattle.shell_words.specs.declared.script.Command.{Command}
 use Rattle.shell_words.specs.declared.script.Command.TheVariants.{Commit, Abort, Logout}

@@ -1,6 +1,6 @@
 //! What happens to the Stone.
+use gem_object::Oid;
 use gem_record::Entry;
-use gem_value::Oid;
 use lock_table::LockKind;
 
 /// What happened to the Stone. Each event has the number of the session that made it beside it.

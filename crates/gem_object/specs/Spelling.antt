@@ -5,7 +5,7 @@ use Rattle.std.specs.Ordering.{nat_cmp}
 use Rattle.std.specs.Cmp.Lexicographic.{slice_cmp}
 use Rattle.std.specs.List.Sorted.{IsStrictlySortedBy}
 use Rattle.texts.specs.Bytes.{Bytes as Text}
-use Rattle.profile.specs.SmallInteger.{is_small_integer}
+use Rattle.texts.specs.SmallInteger.{is_small_integer}
 use Rattle.seg_rights.specs.declared.right.Right.TheVariants.{None as NoRight}
 use Rattle.seg_rights.specs.declared.rights.Rights.{Rights}
 use Rattle.insertion_map.specs.Pairs.{AreDistinct}

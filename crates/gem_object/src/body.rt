@@ -183,6 +183,26 @@ impl Body {
         }
     }
 
+    /// How many slots a Plain body has, and none of another kind. It takes no memory.
+    pub fn plain_slots(&self) -> usize
+        ensures { result ≡ plain_slots self.now }
+    {
+        match self {
+            Body::Plain(values) => values.len(),
+            _ => 0,
+        }
+    }
+
+    /// How many bytes a Bytes body has, and none of another kind. It takes no memory.
+    pub fn byte_count(&self) -> usize
+        ensures { result ≡ body_bytes self.now }
+    {
+        match self {
+            Body::Bytes(bytes) => bytes.len(),
+            _ => 0,
+        }
+    }
+
     /// Puts a value in a slot of a Plain body, and changes nothing else. It takes no memory.
     pub fn set_slot(&mut self, at: usize, value: Value)
         requires { at < plain_slots self.old }

@@ -1,6 +1,7 @@
 //! Values.
 ghost use Rattle.std.specs.Prelude.{◌≡◌};
 ghost use Rattle.gem_object.specs.References.{reference_of};
+ghost use Rattle.gem_object.specs.Spelling.{is_key};
 
 use gem_value::Oid;
 use std::alloc::AllocError;
@@ -43,6 +44,18 @@ impl Value {
         match self {
             Value::Ref(oid) => Some(*oid),
             _ => None,
+        }
+    }
+
+    /// Whether the value may be a key of a reduced-conflict dictionary: it is neither nil, a
+    /// reference nor a block. It takes no memory.
+    pub fn is_key(&self) -> bool
+        ensures { result ≡ is_key self.now }
+    {
+        match self {
+            Value::False | Value::True => true,
+            Value::Int(_) | Value::Char(_) | Value::Sym(_) => true,
+            Value::Nil | Value::Ref(_) | Value::Block(_) => false,
         }
     }
 }

@@ -3,7 +3,7 @@ use Rattle.std.specs.Prelude.{ℕ, List, Option}
 use Rattle.std.specs.Ordering.{nat_cmp}
 use Rattle.std.specs.List.Sorted.{IsStrictlySortedBy}
 use Rattle.sorted_pairs.specs.Place.{Ascends}
-use Rattle.rc_dict.specs.Dict as dicts
+use Rattle.gem_object.specs.rc_dict.Dict as dicts
 
 -- each name is below those after it, so no name stands twice
 abbrev pub Ascend : List ℕ → Type 0

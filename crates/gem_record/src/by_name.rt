@@ -2,7 +2,7 @@
 ghost use Rattle.std.specs.Prelude.{◌≡◌, is_some, option_copied};
 ghost use Rattle.gem_record.specs.Names.{AscendByName, under};
 
-use gem_value::Oid;
+use gem_object::Oid;
 use sorted_pairs::place;
 use std::marker::Model;
 

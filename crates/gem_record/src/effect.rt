@@ -3,8 +3,7 @@ ghost use Rattle.std.specs.Prelude.{◌≡◌, ◌^◌, ◌-◌, min, sum_by};
 ghost use Rattle.gem_record.specs.Effects.{changed_size, effect_size, log_record_size};
 
 use crate::by_name::ByName;
-use gem_object::Object;
-use gem_value::Oid;
+use gem_object::{Object, Oid};
 
 /// What a commit changes in the image: the objects that are new or changed, as they are after it.
 #[derive(Debug, Drop)]

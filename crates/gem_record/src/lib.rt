@@ -1,10 +1,11 @@
 //! Room: values. Gives the record that a session hands over when it commits, what the history keeps
-//! of it, and the effect of a commit with its size. Knows nothing of scripts and of who runs what.
-//! Its tests stand in `objects_tests`.
+//! of it, the effect of a commit with its size, and what record a run leaves. Knows nothing of
+//! scripts and of who runs what. Its tests stand in `objects_tests`.
 #![tactic(auto)]
 
 mod by_name;
 mod effect;
+pub mod laws;
 mod oid_list;
 mod record;
 

@@ -2,7 +2,7 @@
 ghost use Rattle.std.specs.Prelude.{◌≡◌, ◌↔◌, IsTrue, Contains};
 ghost use Rattle.gem_record.specs.Names.{Ascend};
 
-use gem_value::Oid;
+use gem_object::Oid;
 use std::marker::Model;
 
 /// Names of objects in ascending order, each once. A contract sees the list of their numbers.

@@ -5,9 +5,8 @@ ghost use Rattle.gem_record.specs.History.{entry_of};
 use crate::by_name::ByName;
 use crate::oid_list::OidList;
 use gem_image::Image;
-use gem_object::Object;
+use gem_object::{Object, Oid, Sequence};
 use gem_update::Update;
-use gem_value::{Oid, Sequence};
 
 /// What a session asks to commit: who ran which commands, on which view, and what they did there.
 /// That its fields are those of one such run is for whoever makes it to say.

@@ -2,8 +2,8 @@
 use Rattle.std.proofs.Common.{◌≡◌, ℕ, Bool, true, false, ◌==◌, ◌||◌, ◌&&◌, nat_lt, if◌then◌else◌, [], ◌∷◌, ◌++◌, refl, sym, ap₂, codes, true≢false, arith}
 use Rattle.std.proofs.lemmas.Bool.Decides.{nat_tests}
 use Rattle.std.specs.List.{list_all}
-use Rattle.texts.specs.Bytes.{Bytes}
-use Rattle.texts.specs.NameBytes.{is_name_byte}
+use Rattle.gem_object.specs.texts.Bytes.{Bytes}
+use Rattle.gem_object.specs.texts.NameBytes.{is_name_byte}
 use Rattle.gem_replies.specs.Escapes.{two_digits, escape, escaped}
 
 -- the tests that `escape` makes fail for a name's byte

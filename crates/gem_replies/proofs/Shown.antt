@@ -3,7 +3,7 @@ use Rattle.std.proofs.Common.{◌≡◌, ◌≢◌, ℕ, ◌+◌, ◌-◌, ◌*�
 use Rattle.std.proofs.lemmas.Bool.Decides.{nat_tests}
 use Rattle.std.specs.List.{AllByRecursion}
 use Rattle.std.specs.Fmt.{digit_glyph}
-use Rattle.texts.specs.Bytes.{Bytes}
+use Rattle.gem_object.specs.texts.Bytes.{Bytes}
 use Rattle.gem_replies.specs.Escapes.{two_digits, escape, escaped, IsShown}
 
 -- the tests that `escape` makes

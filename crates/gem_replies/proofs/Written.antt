@@ -4,9 +4,9 @@ use Rattle.std.proofs.Math.Seq.{take-length}
 use Rattle.std.proofs.lemmas.Grind.{flat_map-append}
 use Rattle.std.proofs.lemmas.List.{take_more, flat_map_more}
 use Rattle.std.specs.List.{flat_map}
-use Rattle.texts.specs.Bytes.{Bytes}
+use Rattle.gem_object.specs.texts.Bytes.{Bytes}
 use Rattle.gem_record.specs.declared.record.Entry.{Entry}
-use Rattle.texts.specs.Lines.{text_of_lines}
+use Rattle.gem_object.specs.texts.Lines.{text_of_lines}
 use Rattle.gem_replies.specs.Report.{entry_text, history_lines}
 
 -- one item more is written

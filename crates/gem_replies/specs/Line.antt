@@ -1,9 +1,9 @@
 -- What a reply says after its number.
 use Rattle.std.specs.Prelude.{Bool, true, false, codes, List, [], ◌++◌, length}
 use Rattle.std.specs.Fmt.{decimal}
-use Rattle.texts.specs.Bytes.{Bytes}
-use Rattle.gem_value.specs.Oid.{oid_text}
-use Rattle.gem_value.specs.declared.conflict.Conflict.{Conflict}
+use Rattle.gem_object.specs.texts.Bytes.{Bytes}
+use Rattle.gem_object.specs.gem_value.Oid.{oid_text}
+use Rattle.gem_object.specs.gem_value.declared.conflict.Conflict.{Conflict}
 use Rattle.lock_table.specs.declared.lock.LockKind.{LockKind}
 use Rattle.lock_table.specs.declared.lock.LockKind.TheVariants.{Read, Write}
 use Rattle.gem_replies.specs.Escapes.{escaped}

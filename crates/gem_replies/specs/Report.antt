@@ -2,13 +2,13 @@
 use Rattle.std.specs.Prelude.{ℕ, ◌+◌, codes, List, [], ◌∷◌, ◌++◌, length, map}
 use Rattle.std.specs.List.{flat_map}
 use Rattle.std.specs.Fmt.{decimal}
-use Rattle.texts.specs.Bytes.{Bytes}
-use Rattle.texts.specs.Lines.{text_of_lines}
-use Rattle.gem_value.specs.Oid.{oid_text}
-use Rattle.gem_value.specs.Conflict.{kind_number}
-use Rattle.gem_value.specs.declared.conflict.Conflict.{Conflict}
-use Rattle.gem_value.specs.declared.conflict.ConflictKind.{ConflictKind}
-use Rattle.gem_value.specs.declared.conflict.ConflictKind.TheVariants.{WriteReadLock, WriteWriteLock}
+use Rattle.gem_object.specs.texts.Bytes.{Bytes}
+use Rattle.gem_object.specs.texts.Lines.{text_of_lines}
+use Rattle.gem_object.specs.gem_value.Oid.{oid_text}
+use Rattle.gem_object.specs.gem_value.Conflict.{kind_number}
+use Rattle.gem_object.specs.gem_value.declared.conflict.Conflict.{Conflict}
+use Rattle.gem_object.specs.gem_value.declared.conflict.ConflictKind.{ConflictKind}
+use Rattle.gem_object.specs.gem_value.declared.conflict.ConflictKind.TheVariants.{WriteReadLock, WriteWriteLock}
 use Rattle.gem_record.specs.declared.record.Entry.{Entry}
 use Rattle.gem_replies.specs.Line.{reply_text, conflicts_of}
 use Rattle.gem_replies.specs.declared.reply.Reply.{Reply}

@@ -2,8 +2,8 @@
 //! nothing.
 ghost use Rattle.std.specs.Prelude.{◌≡◌, true};
 ghost use Rattle.std.specs.List.{AllByRecursion, list_all};
-ghost use Rattle.texts.specs.Bytes.{Bytes};
-ghost use Rattle.texts.specs.NameBytes.{is_name_byte};
+ghost use Rattle.gem_object.specs.texts.Bytes.{Bytes};
+ghost use Rattle.gem_object.specs.texts.NameBytes.{is_name_byte};
 ghost use Rattle.gem_replies.specs.Escapes.{IsShown, escaped};
 
 /// A text from the image stays within its line: no byte below 32 and no 127 is shown of it.

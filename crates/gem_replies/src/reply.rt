@@ -1,8 +1,7 @@
 //! What sessions reply, and the book that a run leaves.
+use gem_object::{Conflicts, Oid, Sequence, Text};
 use gem_record::Entry;
-use gem_value::{Conflicts, Oid, Sequence};
 use lock_table::LockKind;
-use texts::Text;
 
 /// A reply to a command. Its line in the report stands beside it.
 #[derive(Debug, Drop)]

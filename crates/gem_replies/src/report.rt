@@ -4,12 +4,12 @@ ghost use Rattle.std.specs.Fmt.{digit_glyph};
 ghost use Rattle.gem_replies.specs.Escapes.{escape, escaped};
 ghost use Rattle.gem_replies.specs.Line.{kind_name, state_name, reply_words, reply_ending, conflicts_of};
 ghost use Rattle.gem_replies.specs.declared.reply.Line as Line;
-ghost use Rattle.texts.specs.Lines.{text_of_lines};
+ghost use Rattle.gem_object.specs.texts.Lines.{text_of_lines};
 ghost use Rattle.gem_replies.specs.Report.{shown_name, conflict_text, reply_lines, transcript_lines, entry_text, history_lines, commit_lines, report_of};
 
 use crate::reply::{Line, Reply, RunBook, Transcript};
+use gem_object::{Conflict, ConflictKind, Oid};
 use gem_record::Entry;
-use gem_value::{Conflict, ConflictKind, Oid};
 use lock_table::LockKind;
 use std::alloc::{AllocError, Global};
 

@@ -1,7 +1,7 @@
 -- What keeps a script from its report.
 use Rattle.std.proofs.Common.{◌≡◌, ◌⊎◌, ◌↔◌, ℕ, Option, Some, None, List, ◌++◌, length, refl, ap, subst, ◌∙◌, inl, inr, arith, append-nil, length-append, IfSome}
 use Rattle.std.specs.Io.KnownBytes.{Consumes}
-use Rattle.texts.specs.Bytes.{Bytes}
+use Rattle.gem_object.specs.texts.Bytes.{Bytes}
 use Rattle.shell_words.specs.Script.{SessionCommands}
 use Rattle.shell_words.specs.ScriptGrammar.{ReadsScript, BreaksRule}
 use Rattle.shell_words.proofs.OneAnswer.{never_both}

@@ -3,7 +3,7 @@ use Rattle.std.proofs.Common.{◌≡◌, ℕ, ◌+◌, ◌≤◌, [], ◌++◌, 
 use Rattle.std.specs.Io.KnownBytes.{Appends, Consumes, Keeps}
 use Rattle.std.proofs.Math.Seq.{take-add}
 use Rattle.std.proofs.lemmas.List.{drop-drop, take-append-drop}
-use Rattle.texts.specs.Bytes.{Bytes}
+use Rattle.gem_object.specs.texts.Bytes.{Bytes}
 use Rattle.gem_io.specs.Faults.{HasRisen}
 
 appends_more : (a b c : Option Bytes) (x y : Bytes) → Appends a b x → Appends b c y → Appends a c (x ++ y)

@@ -2,16 +2,16 @@
 use Rattle.std.proofs.Common.{◌≡◌, ℕ, ◌≤◌, List, length, Option, Some, None, IfSome, is_some, sym, ap, subst, ◌∙◌, arith}
 use Rattle.std.specs.Ordering.{nat_cmp}
 use Rattle.std.specs.FinMap.{find, get, entries, get-entries}
-use Rattle.profile.specs.declared.limits.TheConstants.{SESSION_LIMIT}
-use Rattle.gem_value.specs.Oid.{serial_of}
+use Rattle.shell_words.specs.declared.limits.TheConstants.{SESSION_LIMIT}
+use Rattle.gem_object.specs.gem_value.Oid.{serial_of}
 use Rattle.gem_object.specs.declared.object.Object.{Object}
 use Rattle.gem_image.specs.Image.{Image, IsImage}
-use Rattle.gem_sound.specs.Sound.{IsSoundImage}
+use Rattle.gem_meaning.specs.gem_sound.Sound.{IsSoundImage}
 use Rattle.kernel_image.specs.Objects.{kernel_image, kernel_objects}
 use Rattle.kernel_image.proofs.Named.{kernel_has}
 use Rattle.kernel_image.proofs.KernelSound.{kernel_is_sound, kernel_numbers}
 use Rattle.kernel_image.proofs.Unchanged.{IsUnchanged, kernel_unchanged}
-use Rattle.commit_check.specs.Conflicts.{changed_of, last_change}
+use Rattle.gem_meaning.specs.commit_check.Conflicts.{changed_of, last_change}
 use Rattle.shell_words.specs.Script.{SessionCommands}
 use Rattle.gem_meaning.specs.Opened.{largest_serial, base_serial}
 use Rattle.gem_meaning.specs.Serial.{CanServe}

@@ -1,6 +1,6 @@
 -- Which status tells which rule of a script.
 use Rattle.std.proofs.Common.{◌≡◌, ◌∙◌, ◌↔◌, ℕ, List, sym, ap, subst}
-use Rattle.texts.specs.Bytes.{Bytes}
+use Rattle.gem_object.specs.texts.Bytes.{Bytes}
 use Rattle.shell_words.specs.Script.{SessionCommands}
 use Rattle.shell_words.specs.ScriptGrammar.{ReadsScript, BreaksRule}
 use Rattle.shell_words.proofs.OneAnswer.{one_rule, never_both}

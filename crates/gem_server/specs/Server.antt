@@ -1,8 +1,8 @@
 -- What the end of a call of the server says.
 use Rattle.std.specs.Prelude.{◌≡◌, ℕ, ◌<◌, ◌⊎◌, codes, List, [], ◌∷◌, length, Option}
 use Rattle.std.specs.Io.KnownBytes.{Consumes, Appends, IsAtEnd}
-use Rattle.texts.specs.Bytes.{Bytes}
-use Rattle.profile.specs.declared.limits.TheConstants.{SCRIPT_LIMIT}
+use Rattle.gem_object.specs.texts.Bytes.{Bytes}
+use Rattle.shell_words.specs.declared.limits.TheConstants.{SCRIPT_LIMIT}
 use Rattle.shell_words.specs.Script.{SessionCommands}
 use Rattle.shell_words.specs.ScriptGrammar.{ReadsScript, BreaksRule}
 use Rattle.shell_words.specs.Rules.{script_rule_number}

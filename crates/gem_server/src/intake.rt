@@ -5,7 +5,7 @@ ghost use Rattle.gem_io.specs.Faults.{HasRisen};
 ghost use Rattle.gem_server.specs.declared.intake.IntakeError.TheVariants.{Failed as SourceFailed, NoMemory};
 
 use gem_io::{Failed, Source};
-use profile::SCRIPT_LIMIT;
+use shell_words::SCRIPT_LIMIT;
 use std::alloc::{AllocError, Global};
 
 /// Why a script wasn't read.

@@ -3,8 +3,8 @@ ghost use Rattle.gem_server.specs.Server.{IsBlank, status_of};
 ghost use Rattle.std.specs.Prelude.{◌≡◌};
 
 use gem_meaning::What;
+use gem_object::Sequence;
 use gem_replies::RunBook;
-use gem_value::Sequence;
 use shell_words::ScriptFault;
 use std::alloc::Global;
 

@@ -2,12 +2,12 @@
 use Rattle.std.proofs.Common.{◌≡◌, ◌∙◌, refl, sym, ap, subst, ℕ, ◌+◌, ◌-◌, ◌≤◌, ◌<◌, ◌^◌, false, None, IsSome, option_map, List, length, arith, inr}
 use Rattle.std.specs.List.{AllByRecursion, slice_get}
 use Rattle.std.specs.FinMap.{get}
-use Rattle.gem_value.specs.Oid.{oid_number}
+use Rattle.gem_object.specs.gem_value.Oid.{oid_number}
 use Rattle.gem_image.specs.Image.{Image, contents_of, objects_in}
 use Rattle.gem_world.specs.World.{World}
 use Rattle.gem_sound.specs.Parts.{user_at}
 use Rattle.gem_sound.specs.Sound.{IsSoundFor}
-use Rattle.object_programs.specs.Laws.{begun_at}
+use Rattle.running_objects.specs.object_programs.Laws.{begun_at}
 use Rattle.plain_state.specs.State.{begun}
 use Rattle.running_objects.specs.Seen.{Seen, IsSoundState}
 use Rattle.gem_meaning.specs.Opened.{Opened, session_serial, commands_of}

@@ -5,9 +5,9 @@ use Rattle.std.proofs.lemmas.List.{drop-append-le, drop_all, length-take, take_m
 use Rattle.std.proofs.lemmas.List.Elements.{filter_map-append}
 use Rattle.std.proofs.lemmas.Option.{get_or_from_slice_get, slice_get_within}
 use Rattle.gem_world.specs.World.{Setting, World, untouched}
-use Rattle.gem_language.specs.Commands.{Command as ObjectCommand}
-use Rattle.gem_language.specs.Transaction.{Transaction, command_outcome, transaction}
-use Rattle.gem_language.proofs.Lists.{goes_on}
+use Rattle.gem_meaning.specs.gem_language.Commands.{Command as ObjectCommand}
+use Rattle.gem_meaning.specs.gem_language.Transaction.{Transaction, command_outcome, transaction}
+use Rattle.gem_meaning.proofs.gem_language_lemmas.Lists.{goes_on}
 use Rattle.shell_words.specs.declared.script.Command.{Command}
 use Rattle.gem_meaning.specs.Commands.{object_command, object_commands}
 use Rattle.gem_meaning.specs.Opened.{Opened, commands_of, entry_commands}

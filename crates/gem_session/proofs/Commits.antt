@@ -4,12 +4,12 @@ use Rattle.std.specs.List.{AllByRecursion, slice_get}
 use Rattle.gem_image.specs.Image.{objects_in}
 use Rattle.gem_sound.specs.Parts.{user_at}
 use Rattle.gem_world.specs.World.{World}
-use Rattle.gem_value.specs.declared.conflict.Conflict.{Conflict}
+use Rattle.gem_object.specs.gem_value.declared.conflict.Conflict.{Conflict}
 use Rattle.gem_record.specs.declared.record.TxnRecord.{TxnRecord}
 use Rattle.gem_record.specs.History.{entry_of}
 use Rattle.gem_replies.specs.declared.reply.Line.TheVariants.{NoMemory, Spoiled, Unchanged, Refused, Committed, Aborted}
-use Rattle.gem_language.specs.Transaction.{Transaction}
-use Rattle.run_records.specs.Record.{record_of}
+use Rattle.gem_meaning.specs.gem_language.Transaction.{Transaction}
+use Rattle.gem_record.specs.Record.{record_of}
 use Rattle.shell_words.specs.declared.script.Command.TheVariants.{Commit, Abort}
 use Rattle.gem_meaning.specs.declared.event.What.TheVariants.{Placed}
 use Rattle.gem_meaning.specs.Effect.{IsUnchanged}

@@ -5,9 +5,9 @@ use Rattle.std.specs.FinMap.{get-empty}
 use Rattle.std.specs.Option.{unwrap_or}
 use Rattle.std.specs.List.{fold}
 use Rattle.std.proofs.lemmas.Bool.{eq-eqb}
-use Rattle.radix_pages.proofs.Tables.{get-insert_same, get-insert_other}
+use Rattle.gem_image.proofs.radix_pages_lemmas.Tables.{get-insert_same, get-insert_other}
 use Rattle.gem_record.specs.declared.record.Entry.{Entry}
-use Rattle.gem_language.specs.Transaction.{Transaction}
+use Rattle.gem_meaning.specs.gem_language.Transaction.{Transaction}
 use Rattle.gem_meaning.specs.declared.event.What.TheVariants.{Placed, Held, Dropped, Left}
 use Rattle.gem_meaning.specs.Opened.{Opened}
 use Rattle.gem_meaning.specs.Events.{Event, Standing, next_counter, run_at_place, run_on_view, after_event, before_events, after_events, events_of}

@@ -1,6 +1,6 @@
 -- That what a view shows stays, as history_laws says it.
 use Rattle.std.proofs.Common.{◌≤◌, ℕ}
-use Rattle.object_programs.specs.Laws.{Stays}
+use Rattle.running_objects.specs.object_programs.Laws.{Stays}
 use Rattle.gem_meaning.specs.Events.{Told, image_at, standing}
 use Rattle.gem_meaning.specs.Serial.{CanServe, IsSerial}
 

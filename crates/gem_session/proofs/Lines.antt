@@ -1,16 +1,16 @@
 -- The lines of what the evaluator replied.
 use Rattle.std.proofs.Common.{◌≡◌, ◌∙◌, refl, sym, ap, List, [], ◌∷◌, ◌++◌, Option, Some, None, Ok, ℕ, append-nil, append_assoc}
-use Rattle.texts.specs.Bytes.{Bytes as Text}
+use Rattle.gem_object.specs.texts.Bytes.{Bytes as Text}
 use Rattle.gem_replies.specs.declared.reply.Line.{Line}
 use Rattle.gem_replies.specs.declared.reply.Line.TheVariants.{Show}
 use Rattle.gem_replies.specs.declared.reply.Reply.{Reply as LineReply}
 use Rattle.gem_meaning.specs.Session.{reply_with, replies_with}
-use Rattle.gem_language.specs.Commands.{Command as ObjectCommand, Reply, not_read, failed, ran, printed, installed, reply_of}
-use Rattle.gem_language.specs.Transaction.{command_outcome}
-use Rattle.object_programs.specs.Budget.{Budget}
+use Rattle.gem_meaning.specs.gem_language.Commands.{Command as ObjectCommand, Reply, not_read, failed, ran, printed, installed, reply_of}
+use Rattle.gem_meaning.specs.gem_language.Transaction.{command_outcome}
+use Rattle.running_objects.specs.object_programs.Budget.{Budget}
 use Rattle.running_objects.specs.Seen.{Seen, with_whole_budget}
-use Rattle.st_plain.specs.declared.reply.Reply.{Reply as PlainReply}
-use Rattle.st_plain.specs.Replies.{shown, Replied}
+use Rattle.st_commands.specs.declared.reply.Reply.{Reply as PlainReply}
+use Rattle.st_commands.specs.Replies.{shown, Replied}
 use Rattle.gem_meaning.specs.Lines.{reply_line, show_lines}
 use Rattle.gem_session.specs.Answer.{shown_line, evaluated_line, Meant}
 

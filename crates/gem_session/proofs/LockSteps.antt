@@ -3,15 +3,15 @@ use Rattle.std.proofs.Common.{◌≡◌, ◌∙◌, refl, sym, ap, subst, ℕ, �
 use Rattle.std.proofs.lemmas.Bool.{false≢true}
 use Rattle.std.specs.List.{slice_get}
 use Rattle.std.specs.FinMap.{get}
-use Rattle.texts.specs.Bytes.{Bytes as Text}
+use Rattle.gem_object.specs.texts.Bytes.{Bytes as Text}
 use Rattle.gem_image.specs.Image.{Image, Contents, objects_in}
 use Rattle.gem_world.specs.World.{Setting, World, before_changes}
 use Rattle.gem_replies.specs.declared.reply.Line.{Line}
 use Rattle.gem_replies.specs.declared.reply.Line.TheVariants.{NoName}
 use Rattle.lock_table.specs.declared.lock.LockKind.{LockKind}
 use Rattle.lock_table.specs.Locks.{kind_held, denied_for}
-use Rattle.object_programs.specs.Fixed.{fixed_of}
-use Rattle.object_programs.proofs.Bases.{some_there}
+use Rattle.running_objects.specs.object_programs.Fixed.{fixed_of}
+use Rattle.running_objects.proofs.object_programs_lemmas.Bases.{some_there}
 use Rattle.shell_words.specs.declared.script.Command.TheVariants.{Lock, Unlock}
 use Rattle.gem_meaning.specs.declared.event.What.TheVariants.{Held, Dropped}
 use Rattle.gem_meaning.specs.Opened.{Opened, commands_of}
@@ -34,7 +34,7 @@ use Rattle.gem_session.proofs.Lookups.{some_as_of, some_contents}
 use Rattle.gem_session.proofs.Steps.{stands_kept}
 use Rattle.gem_session.proofs.Images.{ImagesStay}
 use Rattle.gem_session.proofs.LockTargets.{reach_so_far, asked_stood, lacking_all, nothing_to_lock}
-use Rattle.object_programs.specs.Laws.{IsInReach}
+use Rattle.running_objects.specs.object_programs.Laws.{IsInReach}
 use Rattle.gem_meaning.specs.State.{run_so_far}
 
 abbrev At : Opened → List Event → Told

@@ -4,8 +4,8 @@ use Rattle.std.specs.Ordering.{nat_cmp}
 use Rattle.std.specs.FinMap.{FinMap, get, insert, empty}
 use Rattle.std.specs.Option.{option_or}
 use Rattle.std.proofs.lemmas.Bool.{false≢true, cases_eq}
-use Rattle.radix_pages.proofs.Tables.{get-insert_same, get-insert_other}
-use Rattle.texts.specs.Bytes.{Bytes as Text}
+use Rattle.gem_image.proofs.radix_pages_lemmas.Tables.{get-insert_same, get-insert_other}
+use Rattle.gem_object.specs.texts.Bytes.{Bytes as Text}
 use Rattle.gem_object.specs.declared.body.Body.TheVariants.{Plain}
 use Rattle.gem_image.specs.Image.{Contents, Objects}
 use Rattle.gem_image.specs.Rights.{right_on_object}
@@ -13,11 +13,11 @@ use Rattle.gem_world.specs.World.{Setting, World, untouched, shown, shown_object
 use Rattle.gem_world.specs.Access.{Access, a_read, a_write, allows, right_at, is_allowed}
 use Rattle.gem_replies.specs.declared.reply.Line.TheVariants.{NoName, NotCommitted, NoRight}
 use Rattle.lock_table.specs.declared.lock.LockKind.{LockKind}
-use Rattle.object_programs.specs.Laws.{IsInReach}
-use Rattle.object_programs.proofs.Reach.{StaysInReach, reach_stays}
-use Rattle.gem_language.specs.KernelNames.{globals}
-use Rattle.gem_language.specs.OutOfScope.{own_globals}
-use Rattle.gem_language.proofs.Lists.{listed}
+use Rattle.running_objects.specs.object_programs.Laws.{IsInReach}
+use Rattle.running_objects.proofs.object_programs_lemmas.Reach.{StaysInReach, reach_stays}
+use Rattle.gem_meaning.specs.gem_language.KernelNames.{globals}
+use Rattle.gem_meaning.specs.gem_language.OutOfScope.{own_globals}
+use Rattle.gem_meaning.proofs.gem_language_lemmas.Lists.{listed}
 use Rattle.gem_meaning.specs.Commands.{object_commands}
 use Rattle.gem_meaning.specs.Events.{Event, run_on_view}
 use Rattle.gem_meaning.specs.Opened.{Opened}

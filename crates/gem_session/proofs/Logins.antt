@@ -4,9 +4,9 @@ use Rattle.std.proofs.lemmas.Bool.{false≢true}
 use Rattle.std.specs.List.{slice_get}
 use Rattle.std.specs.Option.{option_and_then, unwrap_or}
 use Rattle.gem_object.specs.References.{reference_of}
-use Rattle.gem_language.specs.OutOfScope.{global_in}
+use Rattle.gem_meaning.specs.gem_language.OutOfScope.{global_in}
 use Rattle.gem_sound.specs.declared.names.TheConstants.{ALL_USERS}
-use Rattle.texts.specs.Bytes.{Bytes as Text}
+use Rattle.gem_object.specs.texts.Bytes.{Bytes as Text}
 use Rattle.gem_image.specs.Image.{Image, objects_in}
 use Rattle.gem_sound.specs.Parts.{user_at}
 use Rattle.gem_sound.specs.Sound.{IsSoundFor}

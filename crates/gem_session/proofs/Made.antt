@@ -4,15 +4,15 @@ use Rattle.std.specs.Ordering.{nat_cmp}
 use Rattle.std.specs.Option.{option_or}
 use Rattle.std.specs.FinMap.{get, get-empty}
 use Rattle.std.proofs.lemmas.Bool.{false≢true, and_parts, leb-true, ltb-true}
-use Rattle.gem_value.specs.Oid.{oid_number}
+use Rattle.gem_object.specs.gem_value.Oid.{oid_number}
 use Rattle.gem_image.specs.Image.{Contents}
 use Rattle.gem_world.specs.World.{Setting, World, untouched, name_of, shown, before_changes, is_drawn, is_made}
-use Rattle.gem_language.specs.Commands.{Command}
-use Rattle.gem_language.specs.Transaction.{transaction}
-use Rattle.gem_language.proofs.Lists.{listed}
-use Rattle.object_programs.specs.Laws.{AreSound, IsInReach}
-use Rattle.object_programs.proofs.Objects.{StaysSound, soundness_stays}
-use Rattle.object_programs.proofs.Reach.{StaysInReach, reach_stays}
+use Rattle.gem_meaning.specs.gem_language.Commands.{Command}
+use Rattle.gem_meaning.specs.gem_language.Transaction.{transaction}
+use Rattle.gem_meaning.proofs.gem_language_lemmas.Lists.{listed}
+use Rattle.running_objects.specs.object_programs.Laws.{AreSound, IsInReach}
+use Rattle.running_objects.proofs.object_programs_lemmas.Objects.{StaysSound, soundness_stays}
+use Rattle.running_objects.proofs.object_programs_lemmas.Reach.{StaysInReach, reach_stays}
 
 pub reach_first : (setting : Setting) → IsInReach setting (untouched setting.first)
 reach_first setting = record {

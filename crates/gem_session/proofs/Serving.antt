@@ -20,7 +20,7 @@ use Rattle.gem_meaning.specs.Commits.{SeesNumber}
 use Rattle.gem_meaning.specs.Session.{CommandSays, CommandsSay, SaysOf, Says, until_logout, reply_with, replies_with}
 use Rattle.gem_meaning.specs.Locks.{LogsOut, leaving}
 use Rattle.gem_meaning.specs.Serial.{CanServe}
-use Rattle.profile.specs.declared.limits.TheConstants.{COMMAND_LIMIT}
+use Rattle.shell_words.specs.declared.limits.TheConstants.{COMMAND_LIMIT}
 use Rattle.stone_core.specs.Port.{PortState, GoesOn, LogoutSays}
 use Rattle.gem_session.specs.declared.session.Session.{Session}
 use Rattle.gem_session.specs.Running.{session_state, StandsBefore, ComesTo, HasLoggedIn, goes_on, Replied}

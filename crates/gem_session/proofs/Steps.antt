@@ -1,14 +1,14 @@
 -- What a command of a transaction does to a session: it runs, or leaves it as it was.
 use Rattle.std.proofs.Common.{◌≡◌, ◌∙◌, refl, sym, ap, subst, ℕ, ◌+◌, ◌-◌, ◌≤◌, Bool, true, false, true≢false, Option, Some, None, IsSome, List, [], ◌∷◌, arith, inl, inr}
 use Rattle.std.specs.List.{slice_get}
-use Rattle.texts.specs.Bytes.{Bytes}
+use Rattle.gem_object.specs.texts.Bytes.{Bytes}
 use Rattle.gem_world.specs.World.{Setting, World}
 use Rattle.gem_image.specs.Image.{objects_in}
 use Rattle.gem_sound.specs.Parts.{user_at}
 use Rattle.gem_replies.specs.declared.reply.Line.{Line}
 use Rattle.gem_replies.specs.declared.reply.Line.TheVariants.{NoMemory}
-use Rattle.gem_language.specs.Commands.{Command as ObjectCommand}
-use Rattle.gem_language.specs.Transaction.{Transaction, command_outcome}
+use Rattle.gem_meaning.specs.gem_language.Commands.{Command as ObjectCommand}
+use Rattle.gem_meaning.specs.gem_language.Transaction.{Transaction, command_outcome}
 use Rattle.shell_words.specs.declared.script.Command.{Command}
 use Rattle.shell_words.specs.declared.script.Command.TheVariants.{Chunk, Method, Commit, Abort, Logout, Lock, Unlock}
 use Rattle.running_objects.specs.Seen.{Keeps, with_whole_budget}

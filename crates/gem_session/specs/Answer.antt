@@ -1,17 +1,17 @@
 -- What a session answers to one command, and what a chunk or a method comes to.
 use Rattle.std.specs.Prelude.{◌≡◌, List, [], ◌∷◌, ◌++◌, Option, Some, None, Result}
 use Rattle.std.specs.declared.alloc.AllocError.{AllocError}
-use Rattle.texts.specs.Bytes.{Bytes as Text}
-use Rattle.st_plain.specs.declared.reply.Reply.{Reply as PlainReply}
-use Rattle.st_plain.specs.declared.reply.Reply.TheVariants.{NotRead, Failed, Ran, Printed, Installed}
+use Rattle.gem_object.specs.texts.Bytes.{Bytes as Text}
+use Rattle.st_commands.specs.declared.reply.Reply.{Reply as PlainReply}
+use Rattle.st_commands.specs.declared.reply.Reply.TheVariants.{NotRead, Failed, Ran, Printed, Installed}
 use Rattle.gem_replies.specs.declared.reply.Line.{Line}
 use Rattle.gem_replies.specs.declared.reply.Line.TheVariants as line
-use Rattle.gem_language.specs.Commands.{Command as ObjectCommand}
-use Rattle.gem_language.specs.Transaction.{command_outcome}
+use Rattle.gem_meaning.specs.gem_language.Commands.{Command as ObjectCommand}
+use Rattle.gem_meaning.specs.gem_language.Transaction.{command_outcome}
 use Rattle.gem_meaning.specs.Lines.{error_line}
 use Rattle.gem_meaning.specs.Runs.{lines_in}
 use Rattle.running_objects.specs.Seen.{Seen}
-use Rattle.st_plain.specs.Replies.{Replied}
+use Rattle.st_commands.specs.Replies.{Replied}
 use Rattle.session_view.specs.declared.view.View.{View}
 use Rattle.gem_session.specs.declared.answer.Answer.{Answer}
 

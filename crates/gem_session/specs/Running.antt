@@ -4,7 +4,7 @@ use Rattle.std.specs.List.{AllByRecursion, slice_get}
 use Rattle.std.specs.FinMap.{get}
 use Rattle.shell_words.specs.Script.{SessionCommands, is_logout}
 use Rattle.shell_words.specs.declared.script.Command.{Command}
-use Rattle.profile.specs.declared.limits.TheConstants.{COMMAND_LIMIT}
+use Rattle.shell_words.specs.declared.limits.TheConstants.{COMMAND_LIMIT}
 use Rattle.gem_image.specs.Image.{objects_in}
 use Rattle.gem_sound.specs.Parts.{user_at}
 use Rattle.gem_replies.specs.declared.reply.Line.{Line}

@@ -2,14 +2,14 @@
 ghost use Rattle.std.specs.Prelude.{◌≡◌, ◌++◌, ◌∷◌, [], IfOk, OnOk, None};
 ghost use Rattle.gem_meaning.specs.Lines.{error_line, show_lines};
 ghost use Rattle.gem_meaning.specs.Session.{replies_with};
-ghost use Rattle.object_programs.specs.Fault.{fault_text};
+ghost use Rattle.running_objects.specs.object_programs.Fault.{fault_text};
 ghost use Rattle.gem_session.specs.Answer.{lines_of, shown_line, evaluated_line};
 
+use gem_object::Text;
 use gem_replies::{Line, Reply};
-use object_programs::Fault;
-use st_plain::Reply as Evaluated;
+use running_objects::Fault;
+use st_commands::Reply as Evaluated;
 use std::alloc::{AllocError, Global};
-use texts::Text;
 
 /// What a session answers to one command.
 #[derive(Debug, Drop)]

@@ -1,17 +1,16 @@
 //! The view of a session's transaction, with what is remembered of look-ups in it.
 ghost use Rattle.std.specs.Prelude.{◌≡◌};
-ghost use Rattle.gem_language.specs.Commands.{run_chunk, install_method};
+ghost use Rattle.gem_meaning.specs.gem_language.Commands.{run_chunk, install_method};
 ghost use Rattle.running_objects.specs.Seen.{with_whole_budget};
-ghost use Rattle.st_plain.specs.Replies.{Replied};
+ghost use Rattle.st_commands.specs.Replies.{Replied};
 
-use gem_value::Oid;
+use gem_object::{Oid, Text};
 use running_objects::{Objects, RunsChunks};
 use session_view::View;
+use st_commands::{Reply, install_source};
 use st_machine::{CodeCache, KnownObjects, SharedCode, run_text};
-use st_plain::{Reply, install_source};
 use std::alloc::{AllocError, Global};
 use std::marker::Model;
-use texts::Text;
 
 /// The view of a transaction. What messages to its objects were answered by is remembered with it,
 /// until it ends. Contracts see the view.

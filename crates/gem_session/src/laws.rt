@@ -2,9 +2,9 @@
 //! nothing.
 ghost use Rattle.std.specs.Prelude.{◌≡◌, ℕ, List, true, not, is_some};
 ghost use Rattle.gem_world.specs.World.{Setting, untouched, shown, before_changes, is_made};
-ghost use Rattle.gem_language.specs.Commands.{Command};
-ghost use Rattle.gem_language.specs.Transaction.{transaction};
-ghost use Rattle.object_programs.specs.Laws.{AreSound};
+ghost use Rattle.gem_meaning.specs.gem_language.Commands.{Command};
+ghost use Rattle.gem_meaning.specs.gem_language.Transaction.{transaction};
+ghost use Rattle.running_objects.specs.object_programs.Laws.{AreSound};
 ghost use Rattle.shell_words.specs.Script.{SessionCommands};
 ghost use Rattle.gem_replies.specs.declared.reply.Transcript.{Transcript};
 ghost use Rattle.gem_meaning.specs.Events.{Told};

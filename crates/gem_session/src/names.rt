@@ -1,26 +1,22 @@
 //! Users, and what names refer to where locks are asked for.
 ghost use Rattle.std.specs.Prelude.{◌≡◌, IfOk, Some, option_copied, option_and_then, option_map, is_some};
-ghost use Rattle.texts.specs.Bytes.{Bytes};
+ghost use Rattle.gem_object.specs.texts.Bytes.{Bytes};
 ghost use Rattle.gem_object.specs.References.{reference_of};
 ghost use Rattle.gem_object.specs.declared.value.Value.TheVariants.{Sym};
 ghost use Rattle.gem_image.specs.Image.{objects_in};
-ghost use Rattle.gem_language.specs.KernelNames.{globals};
-ghost use Rattle.gem_language.specs.OutOfScope.{global_in, own_globals};
+ghost use Rattle.gem_meaning.specs.gem_language.KernelNames.{globals};
+ghost use Rattle.gem_meaning.specs.gem_language.OutOfScope.{global_in, own_globals};
 ghost use Rattle.gem_sound.specs.Parts.{user_at};
 ghost use Rattle.gem_world.specs.World.{shown};
 ghost use Rattle.gem_meaning.specs.Names.{if_user, user_in, find_name, found_in, found_here, global_shown, no_name};
 ghost use Rattle.gem_session.specs.Names.{found_by};
 
 use gem_image::Image;
-use gem_object::{Body, Value};
-use gem_sound::names::ALL_USERS;
-use gem_value::Oid;
-use profile::{GLOBALS_COUNTER, KERNEL_SERIAL};
+use gem_object::{Body, Oid, Text, Value, may_read};
+use gem_sound::names::{ALL_USERS, GLOBALS, KERNEL_SERIAL};
 use running_objects::Objects;
-use seg_rights::may_read;
 use session_view::View;
 use std::alloc::AllocError;
-use texts::Text;
 
 /// The object of the user with this name, who may log in where this image stands: the dictionary
 /// AllUsers has one under this name.
@@ -126,7 +122,7 @@ fn in_globals<'a>(view: &'a View, key: &Value) -> Option<&'a Value>
     ensures { (name : Bytes) → key.now ≡ Sym name → found_by (option_copied result)
         ≡ found_in name no_name view.now.state.seen.setting view.now.state.seen.world globals }
 {
-    let globals = Oid::from_parts(KERNEL_SERIAL, GLOBALS_COUNTER);
+    let globals = Oid::from_parts(KERNEL_SERIAL, GLOBALS);
     if !may_read(view.right(globals)) {
         return None;
     }

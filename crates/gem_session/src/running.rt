@@ -7,8 +7,8 @@ ghost use Rattle.gem_session.specs.Answer.{lines_of, MeantBy, EvaluatedBy};
 use crate::answer::Answer;
 use crate::known_view::KnownView;
 use shell_words::Command;
+use st_commands::Reply;
 use st_machine::CodeCache;
-use st_plain::Reply;
 use std::alloc::{AllocError, Global};
 
 /// Runs a chunk or a method with a whole budget, and gives the answer to it.

@@ -5,14 +5,11 @@ ghost use Rattle.gem_meaning.specs.Locks.{access_of, lockable, lock_target, unlo
 ghost use Rattle.gem_session.specs.Names.{target_by};
 
 use crate::names::find_name;
-use gem_object::Value;
+use gem_object::{Oid, Text, Value, may_read, may_write};
 use gem_replies::Line;
-use gem_value::Oid;
 use lock_table::LockKind;
-use seg_rights::{may_read, may_write};
 use session_view::View;
 use std::alloc::AllocError;
-use texts::Text;
 
 /// What comes of a name.
 #[derive(Debug, Drop)]

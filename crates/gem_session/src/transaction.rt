@@ -1,21 +1,20 @@
 //! The commands of a session that end its transaction or are about locks.
 ghost use Rattle.std.specs.Prelude.{◌≡◌, ◌∷◌, [], IfOk};
 ghost use Rattle.shell_words.specs.declared.script.Command.TheVariants.{Commit, Lock, Unlock};
-ghost use Rattle.run_records.specs.Record.{record_of};
+ghost use Rattle.gem_record.specs.Record.{record_of};
 ghost use Rattle.gem_meaning.specs.State.{entry_to};
 ghost use Rattle.stone_core.specs.Port.{GoesOn};
 ghost use Rattle.gem_session.specs.Running.{ends_transaction, commit_line, lock_line, unlock_line, may_ask, session_state, ComesTo, RepliedBy};
 
 use crate::session::Session;
 use crate::targets::{Target, kind_asked, lock_target, unlock_target};
+use gem_object::{Oid, Text};
 use gem_record::TxnRecord;
 use gem_replies::Line;
-use gem_value::Oid;
 use history_laws::laws::images_are_sound;
 use lock_table::LockKind;
 use std::alloc::{AllocError, Global};
 use stone_core::{CommitAnswer, LockAnswer, StonePort};
-use texts::Text;
 
 impl Session {
     /// Commits the transaction. Where it does, or nothing was written, the next one begins.

@@ -1,6 +1,6 @@
 -- The names of instance variables that a class has, with those that it inherits.
 use Rattle.std.specs.Prelude.{◌≡◌, ℕ, List, ◌++◌, Some, None}
-use Rattle.texts.specs.Bytes.{Bytes as Text}
+use Rattle.gem_object.specs.texts.Bytes.{Bytes as Text}
 use Rattle.gem_object.specs.declared.body.ClassBody.{ClassBody}
 use Rattle.gem_image.specs.Image.{Objects}
 use Rattle.gem_sound.specs.Kernel.{object_class}

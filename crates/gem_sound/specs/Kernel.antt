@@ -2,7 +2,7 @@
 -- and in which class each primitive stands.
 use Rattle.std.specs.Prelude.{ℕ, Bool, true, false, ◌&&◌, cond, nat_eq, bytes_eq, List, [], ◌∷◌, ◌++◌, map, filter, slice_get, zero, suc, Option, None, Some}
 use Rattle.std.specs.List.{list_any}
-use Rattle.texts.specs.Bytes.{Bytes as Text}
+use Rattle.gem_object.specs.texts.Bytes.{Bytes as Text}
 use Rattle.op_table.specs.Prims.{Primitive, prim_at}
 use Rattle.op_table.specs.declared.prims.Kind.{Kind as Receiver}
 use Rattle.op_table.specs.declared.prims.Kind.TheVariants as receiver

@@ -1,3 +1,17 @@
+pub use Rattle.gem_image.specs as gem_image
+pub use Rattle.gem_object.specs as gem_object
+pub use Rattle.gem_object.specs.texts as texts
+pub use Rattle.gem_object.specs.insertion_map as insertion_map
+pub use Rattle.gem_object.specs.gem_value as gem_value
+pub use Rattle.gem_object.specs.rc_counter_bag as rc_counter_bag
+pub use Rattle.gem_object.specs.rc_dict as rc_dict
+pub use Rattle.gem_object.specs.rc_queue as rc_queue
+pub use Rattle.gem_object.specs.seg_rights as seg_rights
+pub use Rattle.gem_image.specs.radix_pages as radix_pages
+pub use Rattle.st_grammar_laws.specs as st_grammar_laws
+pub use Rattle.st_grammar.specs as st_grammar
+pub use Rattle.st_tree.specs as st_tree
+pub use Rattle.op_table.specs as op_table
 pub mod Parts
 pub mod Kernel
 pub mod Inherited

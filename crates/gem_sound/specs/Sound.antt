@@ -2,11 +2,11 @@
 -- keeps.
 use Rattle.std.specs.Prelude.{◌≡◌, ◌<◌, ◌≤◌, ◌^◌, ℕ, Bool, true, false, IsTrue, List, [], ◌∷◌, length, All, Option, Some, None, IsSome, Ok}
 use Rattle.std.specs.Option.{IfSome}
-use Rattle.texts.specs.Bytes.{Bytes as Text}
+use Rattle.gem_object.specs.texts.Bytes.{Bytes as Text}
 use Rattle.st_tree.specs.Trees.{Program}
 use Rattle.st_grammar.specs.Grammar.{method}
 use Rattle.st_grammar_laws.specs.TreeOf.{tree_of}
-use Rattle.gem_value.specs.Oid.{oid_number}
+use Rattle.gem_object.specs.gem_value.Oid.{oid_number}
 use Rattle.gem_object.specs.Edits.{plain_slots}
 use Rattle.gem_object.specs.Kinds.{fits}
 use Rattle.gem_object.specs.References.{names_in_body}

@@ -2,7 +2,7 @@
 //! nothing.
 ghost use Rattle.std.specs.Prelude.{◌≡◌, ◌≢◌, ◌≤◌, ◌<◌, ◌↔◌, ◌++◌, ◌∷◌, [], ℕ, List, Some, None, IsSome, is_some, length, All, true, false, filter, map};
 ghost use Rattle.std.specs.List.{list_all};
-ghost use Rattle.texts.specs.Bytes.{Bytes as Text};
+ghost use Rattle.gem_object.specs.texts.Bytes.{Bytes as Text};
 ghost use Rattle.op_table.specs.declared.prims.Kind.{Kind as Receiver};
 ghost use Rattle.gem_object.specs.declared.body.ClassBody.{ClassBody};
 ghost use Rattle.gem_image.specs.Image.{Contents, Objects};

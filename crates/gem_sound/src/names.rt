@@ -1,5 +1,7 @@
-//! The names of the kernel's objects: their counters. The serial of each is `KERNEL_SERIAL` of
-//! `profile`, whose `GLOBALS_COUNTER` and `DATA_CURATOR_COUNTER` name two more.
+//! The names of the kernel's objects: their serial, and the counter of each.
+
+/// The serial in the names of the kernel's objects.
+pub const KERNEL_SERIAL: u32 = 0;
 
 /// The class Object.
 pub const OBJECT_CLASS: u32 = 1;
@@ -79,6 +81,9 @@ pub const SYSTEM_CLASS: u32 = 25;
 /// The class TranscriptStream.
 pub const TRANSCRIPT_STREAM_CLASS: u32 = 26;
 
+/// The dictionary Globals.
+pub const GLOBALS: u32 = 27;
+
 /// The dictionary AllUsers, which has the users by their names.
 pub const ALL_USERS: u32 = 28;
 
@@ -90,6 +95,9 @@ pub const DATA_CURATOR_SEGMENT: u32 = 30;
 
 /// The profile of the user SystemUser.
 pub const SYSTEM_USER: u32 = 31;
+
+/// The profile of the user DataCurator.
+pub const DATA_CURATOR: u32 = 32;
 
 /// The dictionary of SystemUser's own globals.
 pub const SYSTEM_USER_GLOBALS: u32 = 33;

@@ -3,12 +3,12 @@ use Rattle.std.proofs.Common.{◌≡◌, ℕ, Bool, true, false, Option, Some, N
 use Rattle.std.specs.Option.{ok_or}
 use Rattle.std.specs.Result.{OnOk, IfOk, IfErr, IsErrOf, MatchResult}
 use Rattle.std.proofs.lemmas.Bool.{false≢true}
-use Rattle.rc_counter_bag.specs.declared.update.BagFault.{BagFault}
-use Rattle.rc_counter_bag.specs.declared.update.BagFault.TheVariants as bag_fault
-use Rattle.rc_dict.specs.declared.update.DictFault.{DictFault}
-use Rattle.rc_dict.specs.declared.update.DictFault.TheVariants as dict_fault
-use Rattle.rc_queue.specs.declared.update.QueueFault.{QueueFault}
-use Rattle.rc_queue.specs.declared.update.QueueFault.TheVariants as queue_fault
+use Rattle.gem_object.specs.rc_counter_bag.declared.update.BagFault.{BagFault}
+use Rattle.gem_object.specs.rc_counter_bag.declared.update.BagFault.TheVariants as bag_fault
+use Rattle.gem_object.specs.rc_dict.declared.update.DictFault.{DictFault}
+use Rattle.gem_object.specs.rc_dict.declared.update.DictFault.TheVariants as dict_fault
+use Rattle.gem_object.specs.rc_queue.declared.update.QueueFault.{QueueFault}
+use Rattle.gem_object.specs.rc_queue.declared.update.QueueFault.TheVariants as queue_fault
 use Rattle.gem_update.specs.Outcomes.{by_fault, is_bag_memory, is_dict_memory, is_queue_memory}
 
 -- each fault that isn't want of memory names an index, and else it is that one

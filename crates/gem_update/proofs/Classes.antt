@@ -8,11 +8,11 @@ use Rattle.gem_object.specs.declared.kind.Kind.{Kind}
 use Rattle.gem_object.specs.declared.kind.Kind.TheVariants as kind
 use Rattle.gem_object.specs.declared.body.Body.{Body}
 use Rattle.gem_object.specs.declared.body.Body.TheVariants as body
-use Rattle.rc_counter_bag.specs.declared.counter.Counter.{Counter}
-use Rattle.rc_counter_bag.specs.declared.update.BagUpdate.{BagUpdate}
-use Rattle.rc_dict.specs.declared.update.DictUpdate.{DictUpdate}
-use Rattle.rc_queue.specs.declared.update.QueueUpdate.{QueueUpdate}
-use Rattle.rc_queue.specs.Contents.{Contents}
+use Rattle.gem_object.specs.rc_counter_bag.declared.counter.Counter.{Counter}
+use Rattle.gem_object.specs.rc_counter_bag.declared.update.BagUpdate.{BagUpdate}
+use Rattle.gem_object.specs.rc_dict.declared.update.DictUpdate.{DictUpdate}
+use Rattle.gem_object.specs.rc_queue.declared.update.QueueUpdate.{QueueUpdate}
+use Rattle.gem_object.specs.rc_queue.Contents.{Contents}
 use Rattle.gem_object.specs.declared.value.Value.{Value}
 use Rattle.gem_update.specs.Outcomes.{counter_updated, counter_merged, bag_updated, bag_merged, dict_updated, dict_merged, queue_updated, queue_merged}
 use Rattle.gem_update.specs.Update.{fits_update, updated, merged, all_changes, counter_change, bag_change, dict_change, queue_change}

@@ -6,11 +6,11 @@ use Rattle.std.specs.Cmp.{Equal-is}
 use Rattle.std.proofs.lemmas.List.Elements.{All-cons, All-head, All-tail}
 use Rattle.std.proofs.lemmas.Option.{same_Some}
 use Rattle.sorted_pairs.proofs.Cases.{by_ordering, by_test}
-use Rattle.rc_counter_bag.specs.Bag as bags
-use Rattle.rc_counter_bag.proofs.Edits.{with_one_more-past, with_one_more-here, with_one_more-before, with_one_less-here, with_one_less-past, less_here}
-use Rattle.rc_counter_bag.proofs.Kept.{kept_first}
-use Rattle.rc_dict.specs.Dict as dicts
-use Rattle.rc_dict.proofs.Edits.{put-past, put-here, put-before, without-here, without-past}
+use Rattle.gem_object.specs.rc_counter_bag.Bag as bags
+use Rattle.gem_object.proofs.rc_counter_bag_lemmas.Edits.{with_one_more-past, with_one_more-here, with_one_more-before, with_one_less-here, with_one_less-past, less_here}
+use Rattle.gem_object.proofs.rc_counter_bag_lemmas.Kept.{kept_first}
+use Rattle.gem_object.specs.rc_dict.Dict as dicts
+use Rattle.gem_object.proofs.rc_dict_lemmas.Edits.{put-past, put-here, put-before, without-here, without-past}
 
 module _ {T : Type 0} (cmp : T → T → Ordering) (item : T) (P : T × ℕ → Type 0) where
   pub each_more : P (item, 1)

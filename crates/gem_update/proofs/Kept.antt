@@ -13,18 +13,18 @@ use Rattle.gem_object.specs.Order.{value_order}
 use Rattle.gem_object.specs.Spelling.{IsStorable, IsStorablePair, is_key}
 use Rattle.gem_object.specs.contracts.value.ValueOrd.TheImpl.Laws.{total-law}
 use Rattle.gem_object.specs.declared.value.Value.{Value}
-use Rattle.rc_counter_bag.specs.Bag as bags
-use Rattle.rc_counter_bag.specs.declared.update.BagUpdate.{BagUpdate}
-use Rattle.rc_counter_bag.specs.declared.update.BagUpdate.TheVariants as bag
-use Rattle.rc_counter_bag.proofs.Kept.{IsBag-updated}
-use Rattle.rc_dict.specs.Dict as dicts
-use Rattle.rc_dict.specs.declared.update.DictUpdate.{DictUpdate}
-use Rattle.rc_dict.specs.declared.update.DictUpdate.TheVariants as dict
-use Rattle.rc_dict.proofs.Kept.{IsDict-settled}
-use Rattle.rc_queue.specs.Contents.{Contents}
-use Rattle.rc_queue.specs.Update as queues
-use Rattle.rc_queue.specs.declared.update.QueueUpdate.{QueueUpdate}
-use Rattle.rc_queue.specs.declared.update.QueueUpdate.TheVariants as queue
+use Rattle.gem_object.specs.rc_counter_bag.Bag as bags
+use Rattle.gem_object.specs.rc_counter_bag.declared.update.BagUpdate.{BagUpdate}
+use Rattle.gem_object.specs.rc_counter_bag.declared.update.BagUpdate.TheVariants as bag
+use Rattle.gem_object.proofs.rc_counter_bag_lemmas.Kept.{IsBag-updated}
+use Rattle.gem_object.specs.rc_dict.Dict as dicts
+use Rattle.gem_object.specs.rc_dict.declared.update.DictUpdate.{DictUpdate}
+use Rattle.gem_object.specs.rc_dict.declared.update.DictUpdate.TheVariants as dict
+use Rattle.gem_object.proofs.rc_dict_lemmas.Kept.{IsDict-settled}
+use Rattle.gem_object.specs.rc_queue.Contents.{Contents}
+use Rattle.gem_object.specs.rc_queue.Update as queues
+use Rattle.gem_object.specs.rc_queue.declared.update.QueueUpdate.{QueueUpdate}
+use Rattle.gem_object.specs.rc_queue.declared.update.QueueUpdate.TheVariants as queue
 use Rattle.gem_update.specs.Spelling.{IsStorableUpdate}
 use Rattle.gem_update.specs.declared.update.Update.TheVariants.{Bag, RcDict, Queue}
 use Rattle.gem_update.proofs.Order.{in_order}

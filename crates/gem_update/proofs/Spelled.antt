@@ -4,23 +4,23 @@ use Rattle.std.proofs.Common.{◌≡◌, ℕ, ℤ, ◌+ℤ◌, ◌<◌, ◌^◌,
 use Rattle.std.specs.List.{All}
 use Rattle.std.proofs.lemmas.List.Elements.{All-nil, All-cons, All-head, All-tail, All-weaker}
 use Rattle.std.proofs.lemmas.Option.{option_and_then_some}
-use Rattle.profile.specs.SmallInteger.{is_small_integer}
+use Rattle.gem_object.specs.texts.SmallInteger.{is_small_integer}
 use Rattle.gem_object.specs.Order.{value_order}
 use Rattle.gem_object.specs.Spelling.{IsStorable, IsStorablePair, IsItems, IsKeyDictionary, is_key, IsSpelledBody}
 use Rattle.gem_object.specs.declared.value.Value.{Value}
 use Rattle.gem_object.specs.declared.body.Body.{Body}
 use Rattle.gem_object.specs.declared.body.Body.TheVariants as body
-use Rattle.rc_counter_bag.specs.Counter as counters
-use Rattle.rc_counter_bag.specs.Bag as bags
-use Rattle.rc_counter_bag.specs.declared.counter.Counter.{Counter}
-use Rattle.rc_counter_bag.specs.declared.update.BagUpdate.{BagUpdate}
-use Rattle.rc_counter_bag.specs.declared.update.BagFault.TheVariants as bag_fault
-use Rattle.rc_dict.specs.Dict as dicts
-use Rattle.rc_dict.specs.declared.update.DictUpdate.{DictUpdate}
-use Rattle.rc_dict.specs.declared.update.DictFault.TheVariants as dict_fault
-use Rattle.rc_queue.specs.Update as queues
-use Rattle.rc_queue.specs.declared.update.QueueUpdate.{QueueUpdate}
-use Rattle.rc_queue.specs.declared.update.QueueFault.TheVariants as queue_fault
+use Rattle.gem_object.specs.rc_counter_bag.Counter as counters
+use Rattle.gem_object.specs.rc_counter_bag.Bag as bags
+use Rattle.gem_object.specs.rc_counter_bag.declared.counter.Counter.{Counter}
+use Rattle.gem_object.specs.rc_counter_bag.declared.update.BagUpdate.{BagUpdate}
+use Rattle.gem_object.specs.rc_counter_bag.declared.update.BagFault.TheVariants as bag_fault
+use Rattle.gem_object.specs.rc_dict.Dict as dicts
+use Rattle.gem_object.specs.rc_dict.declared.update.DictUpdate.{DictUpdate}
+use Rattle.gem_object.specs.rc_dict.declared.update.DictFault.TheVariants as dict_fault
+use Rattle.gem_object.specs.rc_queue.Update as queues
+use Rattle.gem_object.specs.rc_queue.declared.update.QueueUpdate.{QueueUpdate}
+use Rattle.gem_object.specs.rc_queue.declared.update.QueueFault.TheVariants as queue_fault
 use Rattle.gem_update.specs.Outcomes.{counter_or_range, counter_updated, counter_merged, bag_updated, bag_merged, dict_updated, dict_merged, queue_updated, queue_merged}
 use Rattle.gem_update.specs.Update.{updated, merged, all_changes, counter_change, bag_change, dict_change, queue_change}
 use Rattle.gem_update.specs.Spelling.{IsStorableUpdate, entries_of}

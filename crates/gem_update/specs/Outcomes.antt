@@ -4,22 +4,22 @@ use Rattle.std.specs.Prelude.{ℕ, ℤ, Bool, true, false, List, Option, Result,
 use Rattle.std.specs.Option.{ok_or}
 use Rattle.gem_object.specs.Order.{value_order}
 use Rattle.gem_object.specs.declared.value.Value.{Value}
-use Rattle.rc_counter_bag.specs.Counter as counters
-use Rattle.rc_counter_bag.specs.Bag as bags
-use Rattle.rc_counter_bag.specs.declared.counter.Counter.{Counter}
-use Rattle.rc_counter_bag.specs.declared.counter.CounterRange.{CounterRange}
-use Rattle.rc_counter_bag.specs.declared.update.BagUpdate.{BagUpdate}
-use Rattle.rc_counter_bag.specs.declared.update.BagFault.{BagFault}
-use Rattle.rc_counter_bag.specs.declared.update.BagFault.TheVariants as bag_fault
-use Rattle.rc_dict.specs.Dict as dicts
-use Rattle.rc_dict.specs.declared.update.DictUpdate.{DictUpdate}
-use Rattle.rc_dict.specs.declared.update.DictFault.{DictFault}
-use Rattle.rc_dict.specs.declared.update.DictFault.TheVariants as dict_fault
-use Rattle.rc_queue.specs.Contents.{Contents}
-use Rattle.rc_queue.specs.Update as queues
-use Rattle.rc_queue.specs.declared.update.QueueUpdate.{QueueUpdate}
-use Rattle.rc_queue.specs.declared.update.QueueFault.{QueueFault}
-use Rattle.rc_queue.specs.declared.update.QueueFault.TheVariants as queue_fault
+use Rattle.gem_object.specs.rc_counter_bag.Counter as counters
+use Rattle.gem_object.specs.rc_counter_bag.Bag as bags
+use Rattle.gem_object.specs.rc_counter_bag.declared.counter.Counter.{Counter}
+use Rattle.gem_object.specs.rc_counter_bag.declared.counter.CounterRange.{CounterRange}
+use Rattle.gem_object.specs.rc_counter_bag.declared.update.BagUpdate.{BagUpdate}
+use Rattle.gem_object.specs.rc_counter_bag.declared.update.BagFault.{BagFault}
+use Rattle.gem_object.specs.rc_counter_bag.declared.update.BagFault.TheVariants as bag_fault
+use Rattle.gem_object.specs.rc_dict.Dict as dicts
+use Rattle.gem_object.specs.rc_dict.declared.update.DictUpdate.{DictUpdate}
+use Rattle.gem_object.specs.rc_dict.declared.update.DictFault.{DictFault}
+use Rattle.gem_object.specs.rc_dict.declared.update.DictFault.TheVariants as dict_fault
+use Rattle.gem_object.specs.rc_queue.Contents.{Contents}
+use Rattle.gem_object.specs.rc_queue.Update as queues
+use Rattle.gem_object.specs.rc_queue.declared.update.QueueUpdate.{QueueUpdate}
+use Rattle.gem_object.specs.rc_queue.declared.update.QueueFault.{QueueFault}
+use Rattle.gem_object.specs.rc_queue.declared.update.QueueFault.TheVariants as queue_fault
 
 -- the answer, where the index of a refusal becomes the fault that names it
 abbrev pub by_fault : {X F : Type 0} → (ℕ → F) → Result X ℕ → Result X F

@@ -1,8 +1,8 @@
 -- What an update refers to.
 use Rattle.std.specs.Prelude.{ℕ, List, [], ◌∷◌}
-use Rattle.rc_counter_bag.specs.declared.update.BagUpdate.TheVariants as bag
-use Rattle.rc_dict.specs.declared.update.DictUpdate.TheVariants as dict
-use Rattle.rc_queue.specs.declared.update.QueueUpdate.TheVariants as queue
+use Rattle.gem_object.specs.rc_counter_bag.declared.update.BagUpdate.TheVariants as bag
+use Rattle.gem_object.specs.rc_dict.declared.update.DictUpdate.TheVariants as dict
+use Rattle.gem_object.specs.rc_queue.declared.update.QueueUpdate.TheVariants as queue
 use Rattle.gem_object.specs.References.{names_in}
 use Rattle.gem_object.specs.declared.value.Value.{Value}
 use Rattle.gem_update.specs.declared.update.Update.{Update}

@@ -1,6 +1,6 @@
 -- What an update may hold, so that the body that it leaves can be stored.
 use Rattle.std.specs.Prelude.{ℕ, IsTrue, All, length}
-use Rattle.rc_dict.specs.Dict.{key_of}
+use Rattle.gem_object.specs.rc_dict.Dict.{key_of}
 use Rattle.gem_object.specs.Spelling.{IsStorable, is_key}
 use Rattle.gem_object.specs.declared.body.Body.{Body}
 use Rattle.gem_object.specs.declared.body.Body.TheVariants as body

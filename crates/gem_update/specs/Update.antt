@@ -2,18 +2,18 @@
 -- where a merge is refused.
 use Rattle.std.specs.Prelude.{ℤ, Bool, true, false, not, List, [], ◌∷◌, Option, Some, None, option_map, option_and_then}
 use Rattle.std.specs.Result.{result_ok}
-use Rattle.gem_value.specs.declared.conflict.ConflictKind.{ConflictKind}
-use Rattle.gem_value.specs.declared.conflict.ConflictKind.TheVariants.{CounterRange, BagRemove, DictionaryKey, QueueRemove}
+use Rattle.gem_object.specs.gem_value.declared.conflict.ConflictKind.{ConflictKind}
+use Rattle.gem_object.specs.gem_value.declared.conflict.ConflictKind.TheVariants.{CounterRange, BagRemove, DictionaryKey, QueueRemove}
 use Rattle.gem_object.specs.Order.{value_order}
 use Rattle.gem_object.specs.declared.value.Value.{Value}
 use Rattle.gem_object.specs.declared.body.Body.{Body}
 use Rattle.gem_object.specs.declared.body.Body.TheVariants as body
-use Rattle.rc_counter_bag.specs.Bag.{adds_new}
-use Rattle.rc_counter_bag.specs.declared.update.BagUpdate.{BagUpdate}
-use Rattle.rc_dict.specs.Dict.{puts_new}
-use Rattle.rc_dict.specs.declared.update.DictUpdate.{DictUpdate}
-use Rattle.rc_queue.specs.Update.{is_removal}
-use Rattle.rc_queue.specs.declared.update.QueueUpdate.{QueueUpdate}
+use Rattle.gem_object.specs.rc_counter_bag.Bag.{adds_new}
+use Rattle.gem_object.specs.rc_counter_bag.declared.update.BagUpdate.{BagUpdate}
+use Rattle.gem_object.specs.rc_dict.Dict.{puts_new}
+use Rattle.gem_object.specs.rc_dict.declared.update.DictUpdate.{DictUpdate}
+use Rattle.gem_object.specs.rc_queue.Update.{is_removal}
+use Rattle.gem_object.specs.rc_queue.declared.update.QueueUpdate.{QueueUpdate}
 use Rattle.gem_update.specs.Outcomes.{counter_updated, counter_merged, bag_updated, bag_merged, dict_updated, dict_merged, queue_updated, queue_merged}
 use Rattle.gem_update.specs.declared.update.Update.{Update}
 use Rattle.gem_update.specs.declared.update.Update.TheVariants as change

@@ -4,10 +4,7 @@ ghost use Rattle.gem_update.specs.Update.{counter_change, bag_change, dict_chang
 
 use crate::joined::UpdateFault;
 use crate::update::{Update, copy_of_bag_update, copy_of_dict_update, copy_of_queue_update};
-use gem_object::Value;
-use rc_counter_bag::BagUpdate;
-use rc_dict::DictUpdate;
-use rc_queue::QueueUpdate;
+use gem_object::{BagUpdate, DictUpdate, QueueUpdate, Value};
 use std::alloc::{AllocError, Global};
 
 // The changes of one class.

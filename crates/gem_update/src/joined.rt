@@ -8,11 +8,10 @@ ghost use Rattle.gem_update.specs.declared.joined.UpdateFault.TheVariants.{Refus
 use crate::changes::all_changes;
 use crate::merging::Merging;
 use crate::update::Update;
-use gem_object::{Body, Value};
-use gem_value::ConflictKind;
-use rc_counter_bag::{Bag, BagFault, BagUpdate, Counter, CounterRange};
-use rc_dict::{DictFault, DictUpdate, KeyDict};
-use rc_queue::{Queue, QueueFault, QueueUpdate};
+use gem_object::{
+    Bag, BagFault, BagUpdate, Body, ConflictKind, Counter, CounterRange, DictFault, DictUpdate,
+    KeyDict, Queue, QueueFault, QueueUpdate, Value,
+};
 use std::alloc::{AllocError, AllocFailed, Global};
 use std::error::Error;
 use std::fmt;

@@ -1,15 +1,15 @@
 //! What the calls of the four classes have in common.
 ghost use Rattle.std.specs.Prelude.{◌≡◌, true, false, not, MatchResult, IfErr, OnOk, OnErr, IsErrOf};
 ghost use Rattle.gem_object.specs.Order.{value_order};
-ghost use Rattle.rc_counter_bag.specs.Bag.{adds_new};
-ghost use Rattle.rc_dict.specs.Dict.{puts_new};
-ghost use Rattle.rc_queue.specs.Update.{is_removal};
+ghost use Rattle.gem_object.specs.rc_counter_bag.Bag.{adds_new};
+ghost use Rattle.gem_object.specs.rc_dict.Dict.{puts_new};
+ghost use Rattle.gem_object.specs.rc_queue.Update.{is_removal};
 ghost use Rattle.gem_update.specs.Outcomes.{counter_updated, counter_merged, bag_updated, bag_merged, dict_updated, dict_merged, queue_updated, queue_merged, is_bag_memory, is_dict_memory, is_queue_memory};
 
-use gem_object::Value;
-use rc_counter_bag::{Bag, BagFault, BagUpdate, Counter, CounterRange};
-use rc_dict::{DictFault, DictUpdate, KeyDict};
-use rc_queue::{Queue, QueueFault, QueueUpdate};
+use gem_object::{
+    Bag, BagFault, BagUpdate, Counter, CounterRange, DictFault, DictUpdate, KeyDict, Queue,
+    QueueFault, QueueUpdate, Value,
+};
 
 /// An object whose updates are merged: a session works on it as it stands at the session's view,
 /// and hands over what it did as a list of updates, which a commit makes anew at its own place.

@@ -4,10 +4,7 @@ ghost use Rattle.gem_update.specs.References.{values_in_update, names_in_update}
 ghost use Rattle.gem_update.specs.declared.update.Update.{Update};
 
 use crate::update::Update;
-use gem_object::Value;
-use rc_counter_bag::BagUpdate;
-use rc_dict::DictUpdate;
-use rc_queue::QueueUpdate;
+use gem_object::{BagUpdate, DictUpdate, QueueUpdate, Value};
 use std::alloc::AllocError;
 
 impl Update {

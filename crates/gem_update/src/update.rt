@@ -1,10 +1,7 @@
 //! The updates of objects whose updates are merged.
 ghost use Rattle.std.specs.Prelude.{◌≡◌, IfOk};
 
-use gem_object::Value;
-use rc_counter_bag::BagUpdate;
-use rc_dict::DictUpdate;
-use rc_queue::QueueUpdate;
+use gem_object::{BagUpdate, DictUpdate, QueueUpdate, Value};
 use std::alloc::AllocError;
 
 /// One update of an object whose updates are merged. A session keeps a list of them for each such

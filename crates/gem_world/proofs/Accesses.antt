@@ -1,8 +1,8 @@
 -- What an access leaves.
 use Rattle.std.proofs.Common.{◌≡◌, ◌∙◌, ap, refl, sym, subst, inl, inr, None, ℕ, true, false, Some, Option}
 use Rattle.std.proofs.lemmas.Bool.{cond_both, cases_eq}
-use Rattle.radix_pages.proofs.Tables.{get-insert_same}
-use Rattle.gem_object.specs.Kinds.{is_shared}
+use Rattle.gem_image.proofs.radix_pages_lemmas.Tables.{get-insert_same}
+use Rattle.gem_image.specs.gem_object.Kinds.{is_shared}
 use Rattle.gem_image.specs.Image.{Contents}
 use Rattle.gem_world.specs.World.{Setting, World, shown, is_drawn, is_made, touch}
 use Rattle.gem_world.specs.Access.{Access, a_read, a_write, IsWritten, with_touches, is_allowed, accessed, after_allowed, touches_of}

@@ -6,7 +6,7 @@ use Rattle.gem_image.specs.Image.{Contents}
 use Rattle.gem_update.specs.declared.update.Update.{Update}
 use Rattle.gem_world.specs.World.{Setting, World, untouched, name_of, next_name, is_drawn, is_made, touch}
 use Rattle.gem_world.specs.Changes.{put, make, note, update_on, updates_on}
-use Rattle.radix_pages.proofs.Tables.{get-insert_same}
+use Rattle.gem_image.proofs.radix_pages_lemmas.Tables.{get-insert_same}
 use Rattle.std.proofs.lemmas.Bool.{le-leb}
 use Rattle.std.proofs.lemmas.List.Elements.{filter_map-append}
 

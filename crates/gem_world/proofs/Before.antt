@@ -3,7 +3,7 @@ use Rattle.std.proofs.Common.{◌≡◌, refl, ℕ, true, false, Some, None, Opt
 use Rattle.std.specs.Ordering.{nat_cmp}
 use Rattle.std.specs.FinMap.{get-empty}
 use Rattle.std.proofs.lemmas.Bool.{cond_both}
-use Rattle.gem_object.specs.Kinds.{is_shared}
+use Rattle.gem_image.specs.gem_object.Kinds.{is_shared}
 use Rattle.gem_image.specs.Image.{Contents, objects_in}
 use Rattle.gem_world.specs.World.{Setting, World, untouched, as_of, shown, are_shared, is_made, is_private}
 

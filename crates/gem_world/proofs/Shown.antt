@@ -5,8 +5,8 @@ use Rattle.std.specs.Option.{option_or}
 use Rattle.std.specs.Ordering.{nat_cmp}
 use Rattle.std.specs.FinMap.{get-empty}
 use Rattle.std.proofs.lemmas.Bool.{cond_both}
-use Rattle.radix_pages.proofs.Tables.{get-insert_same, get-insert_other}
-use Rattle.gem_object.specs.Kinds.{is_shared}
+use Rattle.gem_image.proofs.radix_pages_lemmas.Tables.{get-insert_same, get-insert_other}
+use Rattle.gem_image.specs.gem_object.Kinds.{is_shared}
 use Rattle.gem_image.specs.Image.{Image, Contents, Objects, objects_in}
 use Rattle.gem_image.specs.Rights.{right_on}
 use Rattle.gem_world.specs.World.{Setting, World, untouched, as_of, before_changes, shown, next_name}

@@ -1,9 +1,9 @@
 -- Accesses: which names each touches, when it is allowed, and what it leaves.
 use Rattle.std.specs.Prelude.{◌≡◌, ℕ, Bool, true, cond, Option, None, Some}
 use Rattle.std.specs.FinMap.{get}
-use Rattle.seg_rights.specs.Right.{allows_read, allows_write}
-use Rattle.seg_rights.specs.declared.right.Right.{Right}
-use Rattle.gem_object.specs.Kinds.{is_shared}
+use Rattle.gem_image.specs.seg_rights.Right.{allows_read, allows_write}
+use Rattle.gem_image.specs.seg_rights.declared.right.Right.{Right}
+use Rattle.gem_image.specs.gem_object.Kinds.{is_shared}
 use Rattle.gem_image.specs.Image.{Contents}
 use Rattle.gem_image.specs.Rights.{right_on}
 use Rattle.gem_world.specs.World.{Setting, World, shown, shown_objects, touch, is_among}

@@ -2,8 +2,8 @@
 use Rattle.std.specs.Prelude.{ℕ, ◌+◌, Bool, not, cond, ◌&&◌, if◌then◌else◌, nat_eq, List, [], ◌∷◌, ◌++◌, filter, Option, Some, None}
 use Rattle.std.specs.List.{filter_map}
 use Rattle.std.specs.FinMap.{insert, entries}
-use Rattle.gem_object.specs.Kinds.{is_shared}
-use Rattle.gem_object.specs.declared.body.Body.{Body}
+use Rattle.gem_image.specs.gem_object.Kinds.{is_shared}
+use Rattle.gem_image.specs.gem_object.declared.body.Body.{Body}
 use Rattle.gem_image.specs.Image.{Contents}
 use Rattle.gem_update.specs.declared.update.Update.{Update}
 use Rattle.gem_world.specs.World.{Setting, World, is_made, next_name}

@@ -6,8 +6,8 @@ use Rattle.std.specs.List.{list_any}
 use Rattle.std.specs.Option.{option_or}
 use Rattle.std.specs.Ordering.{nat_cmp}
 use Rattle.std.specs.FinMap.{FinMap, get, empty}
-use Rattle.gem_value.specs.Oid.{oid_number}
-use Rattle.gem_object.specs.Kinds.{is_shared}
+use Rattle.gem_image.specs.gem_value.Oid.{oid_number}
+use Rattle.gem_image.specs.gem_object.Kinds.{is_shared}
 use Rattle.gem_image.specs.Image.{Image, Contents, Objects, objects_in}
 use Rattle.gem_update.specs.declared.update.Update.{Update}
 

@@ -2,7 +2,7 @@
 //! nothing.
 ghost use Rattle.std.specs.Prelude.{◌≡◌, ◌≢◌, ◌⊎◌, ◌≤◌, ◌+◌, ◌++◌, ◌∷◌, [], ℕ, Some, None, true, false};
 ghost use Rattle.gem_update.specs.declared.update.Update.{Update};
-ghost use Rattle.gem_object.specs.Kinds.{is_shared};
+ghost use Rattle.gem_image.specs.gem_object.Kinds.{is_shared};
 ghost use Rattle.gem_image.specs.Image.{Image, Contents, objects_in};
 ghost use Rattle.gem_image.specs.Rights.{right_on};
 ghost use Rattle.gem_world.specs.World.{Setting, World, untouched, next_name, shown, is_drawn, is_made, is_private, touch};

@@ -3,11 +3,11 @@ use Rattle.std.proofs.Common.{◌≡◌, ℕ, ◌≤◌, false, true≢false, in
 use Rattle.std.specs.List.{AllByRecursion, fold}
 use Rattle.std.specs.FinMap.{get}
 use Rattle.std.proofs.lemmas.Bool.{eq-eqb}
-use Rattle.gem_image.specs.Image.{objects_in}
-use Rattle.gem_sound.specs.Parts.{user_at}
-use Rattle.gem_record.specs.History.{entry_of}
-use Rattle.gem_record.specs.declared.record.TxnRecord.{TxnRecord}
-use Rattle.gem_record.specs.declared.record.Entry.{Entry}
+use Rattle.gem_meaning.specs.gem_image.Image.{objects_in}
+use Rattle.gem_meaning.specs.gem_sound.Parts.{user_at}
+use Rattle.gem_meaning.specs.gem_record.History.{entry_of}
+use Rattle.gem_meaning.specs.gem_record.declared.record.TxnRecord.{TxnRecord}
+use Rattle.gem_meaning.specs.gem_record.declared.record.Entry.{Entry}
 use Rattle.gem_meaning.specs.declared.event.What.TheVariants.{Placed, Held, Dropped, Left}
 use Rattle.gem_meaning.specs.Opened.{Opened, run_at, record_on}
 use Rattle.gem_meaning.specs.Events.{Event, Told, Standing, told_more, next_counter, run_at_place, run_on_view, record_on_view, after_event, after_events, events_of}

@@ -2,20 +2,20 @@
 use Rattle.std.proofs.Common.{◌≡◌, ℕ, zero, suc, ◌≤◌, Bool, true, false, nat_le, nat_lt, ◌⊎◌, inl, inr, List, [], ◌∷◌, ◌++◌, length, Option, Some, None, is_some, refl, sym, ap, ◌∙◌, arith}
 use Rattle.std.specs.FinMap.{get}
 use Rattle.std.proofs.lemmas.Bool.{false≢true, and_parts, and_from, lt-ltb, ltb-true}
-use Rattle.texts.specs.Bytes.{Bytes as Text}
-use Rattle.gem_image.specs.Image.{Contents}
-use Rattle.gem_world.specs.World.{Setting, World, name_of, is_drawn, is_made, touch}
-use Rattle.gem_world.specs.Access.{a_read, a_write, is_allowed}
-use Rattle.object_programs.specs.Budget.{Budget}
-use Rattle.object_programs.specs.Guard.{Parts}
-use Rattle.object_programs.specs.Atom.{Atom, Ask, Own, Kind, Made, Who, Put, Move, Note, Names, Make, Tick, Room, Show, done, named_where, ticked, spent_where, shown_where, touch_missing}
-use Rattle.object_programs.specs.Run.{give, atom, and_then, Ending, gives, returns, fails, State, onward, perform, end_of}
-use Rattle.object_programs.specs.Local.{nothing}
-use Rattle.object_programs.specs.Steps.{Step, reading, writing, placing, shifting, noting, making, only, steps_program}
-use Rattle.object_programs.specs.Laws.{Falls}
-use Rattle.object_programs.proofs.Kept.{kept}
-use Rattle.object_programs.proofs.Falling as falling
-use Rattle.object_programs.proofs.Written.{Had, steps_add}
+use Rattle.gem_meaning.specs.texts.Bytes.{Bytes as Text}
+use Rattle.gem_meaning.specs.gem_image.Image.{Contents}
+use Rattle.gem_meaning.specs.gem_world.World.{Setting, World, name_of, is_drawn, is_made, touch}
+use Rattle.gem_meaning.specs.gem_world.Access.{a_read, a_write, is_allowed}
+use Rattle.gem_meaning.specs.object_programs.Budget.{Budget}
+use Rattle.gem_meaning.specs.object_programs.Guard.{Parts}
+use Rattle.gem_meaning.specs.object_programs.Atom.{Atom, Ask, Own, Kind, Made, Who, Put, Move, Note, Names, Make, Tick, Room, Show, done, named_where, ticked, spent_where, shown_where, touch_missing}
+use Rattle.gem_meaning.specs.object_programs.Run.{give, atom, and_then, Ending, gives, returns, fails, State, onward, perform, end_of}
+use Rattle.gem_meaning.specs.object_programs.Local.{nothing}
+use Rattle.gem_meaning.specs.object_programs.Steps.{Step, reading, writing, placing, shifting, noting, making, only, steps_program}
+use Rattle.gem_meaning.specs.object_programs.Laws.{Falls}
+use Rattle.gem_meaning.proofs.object_programs_lemmas.Kept.{kept}
+use Rattle.gem_meaning.proofs.object_programs_lemmas.Falling as falling
+use Rattle.gem_meaning.proofs.object_programs_lemmas.Written.{Had, steps_add}
 use Rattle.history_laws.proofs.Gains.{Gains}
 
 -- an object of this name is among the changes, and wasn't made in the transaction

@@ -2,22 +2,22 @@
 -- lock stands against its commit.
 use Rattle.std.proofs.Common.{◌≡◌, ℕ, ◌+◌, ◌≤◌, ◌⊎◌, inl, inr, List, [], ◌∷◌, ◌++◌, Contains, Option, Some, None, IsSome, refl, sym, ap, subst, ◌∙◌, arith, append_assoc, append-nil}
 use Rattle.std.proofs.lemmas.Bool.{false≢true, cases_eq}
-use Rattle.gem_object.specs.declared.body.Body.{Body}
-use Rattle.gem_object.specs.declared.body.Body.TheVariants as body
-use Rattle.gem_record.specs.declared.record.TxnRecord.{TxnRecord}
-use Rattle.gem_record.specs.declared.record.Entry.{Entry}
-use Rattle.gem_update.specs.Update.{merge_kind}
-use Rattle.gem_value.specs.Conflict.{kind_number}
-use Rattle.gem_value.specs.declared.conflict.Conflict.{Conflict}
-use Rattle.gem_value.specs.declared.conflict.ConflictKind.{ConflictKind}
-use Rattle.lock_table.specs.Locks.{kind_held, IsLowestHolder}
-use Rattle.lock_table.specs.LockKind.{is_write}
-use Rattle.lock_table.specs.Granted.{IsExclusive}
-use Rattle.lock_table.specs.declared.lock.LockKind.{LockKind}
-use Rattle.lock_table.specs.declared.lock.LockKind.TheVariants.{Read, Write}
-use Rattle.commit_check.specs.Conflicts.{Place, changed_of, last_change}
-use Rattle.commit_check.specs.Table.{IsTouched, IsWritten, IsUpdated, Stands, write_write, read_write, write_read_lock, write_write_lock, merge_refused}
-use Rattle.commit_check.proofs.Stood.{listed_stands}
+use Rattle.gem_meaning.specs.gem_object.declared.body.Body.{Body}
+use Rattle.gem_meaning.specs.gem_object.declared.body.Body.TheVariants as body
+use Rattle.gem_meaning.specs.gem_record.declared.record.TxnRecord.{TxnRecord}
+use Rattle.gem_meaning.specs.gem_record.declared.record.Entry.{Entry}
+use Rattle.gem_meaning.specs.gem_update.Update.{merge_kind}
+use Rattle.gem_meaning.specs.gem_value.Conflict.{kind_number}
+use Rattle.gem_meaning.specs.gem_value.declared.conflict.Conflict.{Conflict}
+use Rattle.gem_meaning.specs.gem_value.declared.conflict.ConflictKind.{ConflictKind}
+use Rattle.gem_meaning.specs.lock_table.Locks.{kind_held, IsLowestHolder}
+use Rattle.gem_meaning.specs.lock_table.LockKind.{is_write}
+use Rattle.gem_meaning.specs.lock_table.Granted.{IsExclusive}
+use Rattle.gem_meaning.specs.lock_table.declared.lock.LockKind.{LockKind}
+use Rattle.gem_meaning.specs.lock_table.declared.lock.LockKind.TheVariants.{Read, Write}
+use Rattle.gem_meaning.specs.commit_check.Conflicts.{Place, changed_of, last_change}
+use Rattle.gem_meaning.specs.commit_check.Table.{IsTouched, IsWritten, IsUpdated, Stands, write_write, read_write, write_read_lock, write_write_lock, merge_refused}
+use Rattle.gem_meaning.proofs.commit_check_lemmas.Stood.{listed_stands}
 use Rattle.gem_meaning.specs.declared.event.What.TheVariants.{Placed, Held, Dropped, Left}
 use Rattle.gem_meaning.specs.Opened.{Opened}
 use Rattle.gem_meaning.specs.Events.{Event, Told, Standing, after_event, after_events, standing, conflicts_at}

@@ -1,7 +1,7 @@
 -- What a commit makes of a sound image: what the law on it says, as lemmas here take it.
-use Rattle.gem_image.specs.Image.{IsImage}
-use Rattle.gem_sound.specs.Sound.{IsSoundImage}
-use Rattle.object_programs.specs.Laws.{Stays}
+use Rattle.gem_meaning.specs.gem_image.Image.{IsImage}
+use Rattle.gem_meaning.specs.gem_sound.Sound.{IsSoundImage}
+use Rattle.gem_meaning.specs.object_programs.Laws.{Stays}
 use Rattle.gem_meaning.specs.Effect.{MergesFit}
 use Rattle.commit_soundness.specs.Placing.{Placing, record_placed, image_made, CanRun}
 

@@ -5,15 +5,15 @@ use Rattle.std.specs.Cmp.{nat_cmp_total, tied_itself}
 use Rattle.std.specs.FinMap.{get, entries, get-entries, get-empty}
 use Rattle.std.specs.FinMap.Entries.{find}
 use Rattle.std.proofs.lemmas.Bool.{false≢true, and_parts, and_from, leb-true, ltb-true}
-use Rattle.gem_value.specs.Oid.{oid_number}
-use Rattle.gem_object.specs.declared.object.Object.{Object}
-use Rattle.gem_image.specs.Image.{Contents, contents_of, objects_in}
-use Rattle.gem_record.specs.declared.record.Entry.{Entry}
-use Rattle.gem_world.specs.World.{Setting, World, untouched, as_of, is_drawn, is_made}
-use Rattle.gem_world.specs.Changes.{was_made, was_written, made_objects, written_objects}
-use Rattle.object_programs.specs.Laws.{IsInReach}
-use Rattle.run_records.specs.Record.{all_uncommitted, record_of}
-use Rattle.commit_check.proofs.Members.{IsOneOf}
+use Rattle.gem_meaning.specs.gem_value.Oid.{oid_number}
+use Rattle.gem_meaning.specs.gem_object.declared.object.Object.{Object}
+use Rattle.gem_meaning.specs.gem_image.Image.{Contents, contents_of, objects_in}
+use Rattle.gem_meaning.specs.gem_record.declared.record.Entry.{Entry}
+use Rattle.gem_meaning.specs.gem_world.World.{Setting, World, untouched, as_of, is_drawn, is_made}
+use Rattle.gem_meaning.specs.gem_world.Changes.{was_made, was_written, made_objects, written_objects}
+use Rattle.gem_meaning.specs.object_programs.Laws.{IsInReach}
+use Rattle.gem_meaning.specs.gem_record.Record.{all_uncommitted, record_of}
+use Rattle.gem_meaning.proofs.commit_check_lemmas.Members.{IsOneOf}
 use Rattle.history_laws.proofs.Effects.{IsChangedBy, by_write, by_make, by_update, filtered_one}
 
 -- a transaction that has done nothing has changed only what is in reach

@@ -6,15 +6,15 @@ use Rattle.std.specs.FinMap.{get, insert, entries, from_entries, entries-insert,
 use Rattle.std.specs.FinMap.Entries.{put, by_order}
 use Rattle.std.proofs.lemmas.Bool.{false≢true}
 use Rattle.std.proofs.lemmas.Map.Lookups.{exact_unsigned}
-use Rattle.gem_object.specs.declared.object.Object.{Object}
-use Rattle.gem_image.specs.Image.{Image, with_objects}
-use Rattle.gem_record.specs.Names.{under}
-use Rattle.gem_record.specs.declared.record.TxnRecord.{TxnRecord}
-use Rattle.kept_set.specs.Kept.{kept_of}
-use Rattle.commit_check.specs.Conflicts.{merged_objects}
-use Rattle.commit_check.specs.Table.{IsUpdated}
-use Rattle.commit_check.proofs.Members.{IsOneOf, contained, in_either}
-use Rattle.commit_check.proofs.MergedObjects.{listed_merged}
+use Rattle.gem_meaning.specs.gem_object.declared.object.Object.{Object}
+use Rattle.gem_meaning.specs.gem_image.Image.{Image, with_objects}
+use Rattle.gem_meaning.specs.gem_record.Names.{under}
+use Rattle.gem_meaning.specs.gem_record.declared.record.TxnRecord.{TxnRecord}
+use Rattle.gem_meaning.specs.kept_set.Kept.{kept_of}
+use Rattle.gem_meaning.specs.commit_check.Conflicts.{merged_objects}
+use Rattle.gem_meaning.specs.commit_check.Table.{IsUpdated}
+use Rattle.gem_meaning.proofs.commit_check_lemmas.Members.{IsOneOf, contained, in_either}
+use Rattle.gem_meaning.proofs.commit_check_lemmas.MergedObjects.{listed_merged}
 use Rattle.gem_meaning.specs.Effect.{kept_objects, changed_objects, stamped, effect_at}
 
 -- ---- lists of pairs

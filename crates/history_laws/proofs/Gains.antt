@@ -1,16 +1,16 @@
 -- What holds when a program has run held before it, or something happened in one of its moments.
 use Rattle.std.proofs.Common.{◌≡◌, ℕ, ◌≤◌, true, ◌⊎◌, inl, inr, ⊎_elim, List, [], ◌∷◌, ◌++◌, refl, arith}
-use Rattle.gem_world.specs.World.{Setting, World}
-use Rattle.gem_world.specs.Access.{a_write, is_allowed}
-use Rattle.object_programs.specs.Budget.{Budget}
-use Rattle.object_programs.specs.Atom.{Atom, done}
-use Rattle.object_programs.specs.Run.{Run, give, fail, return_to, atom, seeing, become, and_then, ending, Ending, gives, returns, fails, State, onward, perform}
-use Rattle.object_programs.specs.Laws.{Falls}
-use Rattle.object_programs.proofs.Kept.{kept}
-use Rattle.object_programs.proofs.Falling as falling
-use Rattle.gem_language.specs.Commands.{Command, command_reply}
-use Rattle.gem_language.specs.Transaction.{begin_command, command_outcome, transaction}
-use Rattle.commit_check.proofs.Members.{IsOneOf, in_first, in_second}
+use Rattle.gem_meaning.specs.gem_world.World.{Setting, World}
+use Rattle.gem_meaning.specs.gem_world.Access.{a_write, is_allowed}
+use Rattle.gem_meaning.specs.object_programs.Budget.{Budget}
+use Rattle.gem_meaning.specs.object_programs.Atom.{Atom, done}
+use Rattle.gem_meaning.specs.object_programs.Run.{Run, give, fail, return_to, atom, seeing, become, and_then, ending, Ending, gives, returns, fails, State, onward, perform}
+use Rattle.gem_meaning.specs.object_programs.Laws.{Falls}
+use Rattle.gem_meaning.proofs.object_programs_lemmas.Kept.{kept}
+use Rattle.gem_meaning.proofs.object_programs_lemmas.Falling as falling
+use Rattle.gem_meaning.specs.gem_language.Commands.{Command, command_reply}
+use Rattle.gem_meaning.specs.gem_language.Transaction.{begin_command, command_outcome, transaction}
+use Rattle.gem_meaning.proofs.commit_check_lemmas.Members.{IsOneOf, in_first, in_second}
 use Rattle.history_laws.specs.Accesses.{Moment, asked_by, moments_onward, moments, command_moments}
 
 -- in one of the moments the object might be written

@@ -5,11 +5,11 @@ use Rattle.std.specs.Cmp.{nat_cmp_total, tied_itself}
 use Rattle.std.specs.FinMap.{get, get-insert, get-empty}
 use Rattle.std.specs.Option.{unwrap_or}
 use Rattle.std.proofs.lemmas.Bool.{false≢true, cases_lt}
-use Rattle.gem_value.specs.Oid.{oid_number}
-use Rattle.gem_image.specs.Image.{IsImage}
-use Rattle.gem_record.specs.declared.record.Entry.{Entry}
-use Rattle.gem_sound.specs.Sound.{IsSoundImage}
-use Rattle.object_programs.specs.Laws.{Stays}
+use Rattle.gem_meaning.specs.gem_value.Oid.{oid_number}
+use Rattle.gem_meaning.specs.gem_image.Image.{IsImage}
+use Rattle.gem_meaning.specs.gem_record.declared.record.Entry.{Entry}
+use Rattle.gem_meaning.specs.gem_sound.Sound.{IsSoundImage}
+use Rattle.gem_meaning.specs.object_programs.Laws.{Stays}
 use Rattle.gem_meaning.specs.declared.event.What.TheVariants.{Placed, Held, Dropped, Left}
 use Rattle.gem_meaning.specs.Opened.{Opened, base_serial, session_serial}
 use Rattle.gem_meaning.specs.Events.{Event, Told, Standing, image_at, next_counter, NamesAreFree, run_at_place, after_event, before_events, after_events, standing}

@@ -3,17 +3,17 @@ use Rattle.std.proofs.Common.{◌≡◌, ◌≢◌, ℕ, ◌⊎◌, inl, inr, �
 use Rattle.std.specs.FinMap.{get, get-empty}
 use Rattle.std.proofs.lemmas.Bool.{false≢true}
 use Rattle.std.proofs.lemmas.Bool.Decides.{eqb_tells}
-use Rattle.gem_image.specs.Image.{with_objects}
-use Rattle.gem_record.specs.declared.record.TxnRecord.{TxnRecord}
-use Rattle.gem_record.specs.declared.record.Entry.{Entry}
-use Rattle.lock_table.specs.Locks.{LockSet, holding_cmp, holding, kind_held, after_held, after_dropped, after_left, denied_for}
-use Rattle.lock_table.specs.declared.lock.LockKind.{LockKind}
-use Rattle.lock_table.specs.declared.lock.LockKind.TheVariants.{Read, Write}
-use Rattle.lock_table.proofs.Changes.{held_others, dropped_this, dropped_others, left_this, left_others}
-use Rattle.lock_table.proofs.Denied.{free_from_none, lowest_is_value}
-use Rattle.commit_check.specs.Conflicts.{Place, conflicts_of}
-use Rattle.commit_check.specs.Table.{IsWritten, IsUpdated, write_read_lock, write_write_lock}
-use Rattle.run_records.specs.Record.{record_of}
+use Rattle.gem_meaning.specs.gem_image.Image.{with_objects}
+use Rattle.gem_meaning.specs.gem_record.declared.record.TxnRecord.{TxnRecord}
+use Rattle.gem_meaning.specs.gem_record.declared.record.Entry.{Entry}
+use Rattle.gem_meaning.specs.lock_table.Locks.{LockSet, holding_cmp, holding, kind_held, after_held, after_dropped, after_left, denied_for}
+use Rattle.gem_meaning.specs.lock_table.declared.lock.LockKind.{LockKind}
+use Rattle.gem_meaning.specs.lock_table.declared.lock.LockKind.TheVariants.{Read, Write}
+use Rattle.gem_meaning.proofs.lock_table_lemmas.Changes.{held_others, dropped_this, dropped_others, left_this, left_others}
+use Rattle.gem_meaning.proofs.lock_table_lemmas.Denied.{free_from_none, lowest_is_value}
+use Rattle.gem_meaning.specs.commit_check.Conflicts.{Place, conflicts_of}
+use Rattle.gem_meaning.specs.commit_check.Table.{IsWritten, IsUpdated, write_read_lock, write_write_lock}
+use Rattle.gem_meaning.specs.gem_record.Record.{record_of}
 use Rattle.gem_meaning.specs.declared.event.What.TheVariants.{Placed, Held, Dropped, Left}
 use Rattle.gem_meaning.specs.Opened.{Opened}
 use Rattle.gem_meaning.specs.Events.{Event, Standing, record_at_place, effect_of, after_event, before_events, after_events}

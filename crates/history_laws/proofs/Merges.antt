@@ -9,25 +9,25 @@ use Rattle.std.specs.Cmp.Lexicographic.{nat_list_cmp_total}
 use Rattle.std.proofs.lemmas.Bool.{false≢true, eq-eqb}
 use Rattle.std.proofs.lemmas.Int.{ints}
 use Rattle.std.proofs.lemmas.Option.{same_Some}
-use Rattle.profile.specs.SmallInteger.{is_small_integer}
-use Rattle.gem_object.specs.Order.{value_order}
-use Rattle.gem_object.specs.Spelling.{IsSpelledBody}
-use Rattle.gem_object.specs.declared.value.Value.{Value}
-use Rattle.gem_object.specs.declared.value.Value.TheVariants as value
-use Rattle.gem_object.specs.declared.body.Body.{Body}
-use Rattle.gem_object.specs.declared.body.Body.TheVariants as body
-use Rattle.rc_counter_bag.specs.Counter as counters
-use Rattle.rc_counter_bag.specs.Bag as bags
-use Rattle.rc_counter_bag.specs.declared.counter.Counter.{Counter}
-use Rattle.rc_dict.specs.Dict as dicts
-use Rattle.rc_dict.specs.declared.update.DictUpdate.{DictUpdate}
-use Rattle.rc_queue.specs.Contents.{Contents}
-use Rattle.rc_queue.specs.Update as queues
-use Rattle.gem_update.specs.Outcomes.{by_fault, counter_or_range, counter_updated, counter_merged, bag_updated, bag_merged, dict_updated, dict_merged, queue_updated, queue_merged}
-use Rattle.gem_update.specs.Update.{updated, all_changes, counter_change, bag_change, dict_change, queue_change, merged, merge_kind}
-use Rattle.gem_update.specs.declared.update.Update.{Update}
-use Rattle.gem_update.specs.declared.update.Update.TheVariants as change
-use Rattle.object_programs.specs.Laws.{updated_by_all}
+use Rattle.gem_meaning.specs.texts.SmallInteger.{is_small_integer}
+use Rattle.gem_meaning.specs.gem_object.Order.{value_order}
+use Rattle.gem_meaning.specs.gem_object.Spelling.{IsSpelledBody}
+use Rattle.gem_meaning.specs.gem_object.declared.value.Value.{Value}
+use Rattle.gem_meaning.specs.gem_object.declared.value.Value.TheVariants as value
+use Rattle.gem_meaning.specs.gem_object.declared.body.Body.{Body}
+use Rattle.gem_meaning.specs.gem_object.declared.body.Body.TheVariants as body
+use Rattle.gem_meaning.specs.rc_counter_bag.Counter as counters
+use Rattle.gem_meaning.specs.rc_counter_bag.Bag as bags
+use Rattle.gem_meaning.specs.rc_counter_bag.declared.counter.Counter.{Counter}
+use Rattle.gem_meaning.specs.rc_dict.Dict as dicts
+use Rattle.gem_meaning.specs.rc_dict.declared.update.DictUpdate.{DictUpdate}
+use Rattle.gem_meaning.specs.rc_queue.Contents.{Contents}
+use Rattle.gem_meaning.specs.rc_queue.Update as queues
+use Rattle.gem_meaning.specs.gem_update.Outcomes.{by_fault, counter_or_range, counter_updated, counter_merged, bag_updated, bag_merged, dict_updated, dict_merged, queue_updated, queue_merged}
+use Rattle.gem_meaning.specs.gem_update.Update.{updated, all_changes, counter_change, bag_change, dict_change, queue_change, merged, merge_kind}
+use Rattle.gem_meaning.specs.gem_update.declared.update.Update.{Update}
+use Rattle.gem_meaning.specs.gem_update.declared.update.Update.TheVariants as change
+use Rattle.gem_meaning.specs.object_programs.Laws.{updated_by_all}
 
 -- ---- the order of values ties a value with itself
 

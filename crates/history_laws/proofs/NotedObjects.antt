@@ -4,17 +4,17 @@ use Rattle.std.specs.FinMap.{get}
 use Rattle.std.proofs.lemmas.Bool.{cases_eq, ne_eqb}
 use Rattle.std.proofs.lemmas.List.{map-append}
 use Rattle.std.proofs.lemmas.List.Folds.{list_any-append}
-use Rattle.gem_object.specs.Kinds.{is_shared}
-use Rattle.gem_object.specs.declared.body.Body.{Body}
-use Rattle.gem_update.specs.Update.{updated}
-use Rattle.gem_update.specs.declared.update.Update.{Update}
-use Rattle.gem_image.specs.Image.{Contents}
-use Rattle.gem_world.specs.World.{Setting, World, name_of, is_made, is_among, shown, touch}
-use Rattle.gem_world.specs.Changes.{with_body, in_segment, put, make, note}
-use Rattle.gem_world.specs.Access.{Access, a_read, a_write, is_allowed, touches_of, with_touches, after_allowed, accessed}
-use Rattle.object_programs.specs.Budget.{Budget}
-use Rattle.object_programs.specs.Guard.{Parts, may_change, may_replace, may_make}
-use Rattle.object_programs.specs.Atom.{Atom, Ask, Own, Kind, Made, Who, Put, Move, Note, Names, Make, Tick, Room, Show, done, MakeCheck, too_large, no_name, no_space, no_fault, make_check, with_new, made_where, made_by, touch_missing, replaced_where, edited_at, edited, updated_by, updated_at, updated_where, after_update}
+use Rattle.gem_meaning.specs.gem_object.Kinds.{is_shared}
+use Rattle.gem_meaning.specs.gem_object.declared.body.Body.{Body}
+use Rattle.gem_meaning.specs.gem_update.Update.{updated}
+use Rattle.gem_meaning.specs.gem_update.declared.update.Update.{Update}
+use Rattle.gem_meaning.specs.gem_image.Image.{Contents}
+use Rattle.gem_meaning.specs.gem_world.World.{Setting, World, name_of, is_made, is_among, shown, touch}
+use Rattle.gem_meaning.specs.gem_world.Changes.{with_body, in_segment, put, make, note}
+use Rattle.gem_meaning.specs.gem_world.Access.{Access, a_read, a_write, is_allowed, touches_of, with_touches, after_allowed, accessed}
+use Rattle.gem_meaning.specs.object_programs.Budget.{Budget}
+use Rattle.gem_meaning.specs.object_programs.Guard.{Parts, may_change, may_replace, may_make}
+use Rattle.gem_meaning.specs.object_programs.Atom.{Atom, Ask, Own, Kind, Made, Who, Put, Move, Note, Names, Make, Tick, Room, Show, done, MakeCheck, too_large, no_name, no_space, no_fault, make_check, with_new, made_where, made_by, touch_missing, replaced_where, edited_at, edited, updated_by, updated_at, updated_where, after_update}
 use Rattle.history_laws.proofs.Gains.{Gains}
 use Rattle.history_laws.proofs.ChangedObjects.{named_quiet, tick_quiet, room_quiet, show_quiet}
 

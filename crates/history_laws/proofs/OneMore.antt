@@ -5,17 +5,17 @@ use Rattle.std.specs.FinMap.{get, get-empty}
 use Rattle.std.proofs.lemmas.Bool.{false≢true}
 use Rattle.std.proofs.lemmas.Option.{none-some}
 use Rattle.std.proofs.lemmas.List.Elements.{filter_map-append}
-use Rattle.gem_record.specs.History.{entry_of}
-use Rattle.gem_record.specs.declared.record.TxnRecord.{TxnRecord}
-use Rattle.gem_record.specs.declared.record.Entry.{Entry}
-use Rattle.lock_table.specs.LockKind.{is_write, kind_granted}
-use Rattle.lock_table.specs.Locks.{LockSet, holding_cmp, holding, kind_held, denied_for}
-use Rattle.lock_table.specs.Locks as locks
-use Rattle.lock_table.specs.Granted.{IsExclusive}
-use Rattle.lock_table.specs.declared.lock.LockKind.{LockKind}
-use Rattle.lock_table.specs.declared.lock.LockKind.TheVariants.{Read, Write}
-use Rattle.lock_table.proofs.Denied.{free_from_none, none_from_free}
-use Rattle.lock_table.proofs.Exclusive.{exclusive_event}
+use Rattle.gem_meaning.specs.gem_record.History.{entry_of}
+use Rattle.gem_meaning.specs.gem_record.declared.record.TxnRecord.{TxnRecord}
+use Rattle.gem_meaning.specs.gem_record.declared.record.Entry.{Entry}
+use Rattle.gem_meaning.specs.lock_table.LockKind.{is_write, kind_granted}
+use Rattle.gem_meaning.specs.lock_table.Locks.{LockSet, holding_cmp, holding, kind_held, denied_for}
+use Rattle.gem_meaning.specs.lock_table.Locks as locks
+use Rattle.gem_meaning.specs.lock_table.Granted.{IsExclusive}
+use Rattle.gem_meaning.specs.lock_table.declared.lock.LockKind.{LockKind}
+use Rattle.gem_meaning.specs.lock_table.declared.lock.LockKind.TheVariants.{Read, Write}
+use Rattle.gem_meaning.proofs.lock_table_lemmas.Denied.{free_from_none, none_from_free}
+use Rattle.gem_meaning.proofs.lock_table_lemmas.Exclusive.{exclusive_event}
 use Rattle.gem_meaning.specs.declared.event.What.TheVariants.{Placed, Held, Dropped, Left}
 use Rattle.gem_meaning.specs.Opened.{Opened}
 use Rattle.gem_meaning.specs.Effect.{MergesFit}

@@ -1,17 +1,17 @@
 -- A record without conflicts is placed as it was recorded: at its place the transaction does what it
 -- did on its view.
 use Rattle.std.proofs.Common.{◌≡◌, ℕ, ◌+◌, ◌≤◌, true, [], option_map, refl, sym, ap, subst, ◌∙◌}
-use Rattle.gem_image.specs.Image.{Image, contents_of}
-use Rattle.gem_record.specs.History.{entry_of}
-use Rattle.gem_record.specs.declared.record.TxnRecord.{TxnRecord}
-use Rattle.gem_record.specs.declared.record.Entry.{Entry}
-use Rattle.gem_world.specs.World.{untouched, is_made}
-use Rattle.gem_world.specs.Access as access
-use Rattle.object_programs.specs.Laws.{begun_at, Stays, AgreeOnTouched}
-use Rattle.gem_language.specs.Transaction.{Transaction}
-use Rattle.gem_language.proofs.Lists as lists
-use Rattle.run_records.specs.Record.{record_of}
-use Rattle.commit_check.specs.Conflicts.{is_touched}
+use Rattle.gem_meaning.specs.gem_image.Image.{Image, contents_of}
+use Rattle.gem_meaning.specs.gem_record.History.{entry_of}
+use Rattle.gem_meaning.specs.gem_record.declared.record.TxnRecord.{TxnRecord}
+use Rattle.gem_meaning.specs.gem_record.declared.record.Entry.{Entry}
+use Rattle.gem_meaning.specs.gem_world.World.{untouched, is_made}
+use Rattle.gem_meaning.specs.gem_world.Access as access
+use Rattle.gem_meaning.specs.object_programs.Laws.{begun_at, Stays, AgreeOnTouched}
+use Rattle.gem_meaning.specs.gem_language.Transaction.{Transaction}
+use Rattle.gem_meaning.proofs.gem_language_lemmas.Lists as lists
+use Rattle.gem_meaning.specs.gem_record.Record.{record_of}
+use Rattle.gem_meaning.specs.commit_check.Conflicts.{is_touched}
 use Rattle.gem_meaning.specs.Commands.{object_commands}
 use Rattle.gem_meaning.specs.Opened.{Opened, session_serial, entry_commands, entry_setting, record_on}
 use Rattle.gem_meaning.specs.Effect.{MergesFit, effect_at}

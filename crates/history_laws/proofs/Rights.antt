@@ -2,10 +2,10 @@
 use Rattle.std.proofs.Common.{◌≡◌, ℕ, true, false, ◌⊎◌, inl, inr, List, [], ◌∷◌, Option, Some, None, ap}
 use Rattle.std.specs.List.{AllByRecursion}
 use Rattle.std.proofs.lemmas.Bool.{cases_Bool}
-use Rattle.gem_world.specs.World.{Setting, World, shown}
-use Rattle.gem_world.specs.Access.{Access, is_allowed}
-use Rattle.object_programs.specs.Budget.{Budget}
-use Rattle.object_programs.specs.Atom.{access_answer}
+use Rattle.gem_meaning.specs.gem_world.World.{Setting, World, shown}
+use Rattle.gem_meaning.specs.gem_world.Access.{Access, is_allowed}
+use Rattle.gem_meaning.specs.object_programs.Budget.{Budget}
+use Rattle.gem_meaning.specs.object_programs.Atom.{access_answer}
 use Rattle.history_laws.specs.Accesses.{Moment, IsJudged, IsAllowed}
 
 access_judged : (setting : Setting) (world : World) (budget : Budget) (access : Access) (name : ℕ)

@@ -5,9 +5,9 @@ use Rattle.std.specs.List.{fold}
 use Rattle.std.specs.FinMap.{get, entries, get-entries}
 use Rattle.std.specs.FinMap.Entries.{find}
 use Rattle.std.proofs.lemmas.Bool.{false≢true}
-use Rattle.gem_object.specs.declared.object.Object.{Object}
-use Rattle.gem_image.specs.Image.{Image}
-use Rattle.gem_value.specs.Oid.{oid_number, serial_of}
+use Rattle.gem_meaning.specs.gem_object.declared.object.Object.{Object}
+use Rattle.gem_meaning.specs.gem_image.Image.{Image}
+use Rattle.gem_meaning.specs.gem_value.Oid.{oid_number, serial_of}
 use Rattle.gem_meaning.specs.Opened.{Opened, largest_serial, base_serial, session_serial}
 use Rattle.history_laws.proofs.Effects.{tied}
 

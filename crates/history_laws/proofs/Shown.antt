@@ -6,29 +6,29 @@ use Rattle.std.specs.FinMap.{get}
 use Rattle.std.proofs.lemmas.Bool.{false≢true, and_parts, cases_lt}
 use Rattle.std.proofs.lemmas.Option.{same_Some}
 use Rattle.std.proofs.lemmas.Map.Lookups.{exact_unsigned}
-use Rattle.gem_value.specs.declared.conflict.Conflict.{Conflict}
-use Rattle.gem_value.specs.declared.conflict.ConflictKind.{ConflictKind}
-use Rattle.gem_value.specs.declared.conflict.ConflictKind.TheVariants.{WriteReadLock, WriteWriteLock}
-use Rattle.gem_object.specs.Kinds.{is_shared}
-use Rattle.gem_object.specs.declared.body.Body.{Body}
-use Rattle.gem_object.specs.declared.body.Body.TheVariants as body
-use Rattle.gem_object.specs.declared.object.Object.{Object}
-use Rattle.gem_image.specs.Image.{Image, Contents, contents_of, objects_in}
-use Rattle.gem_record.specs.Names.{under}
-use Rattle.gem_record.specs.History.{entry_of}
-use Rattle.gem_record.specs.declared.record.TxnRecord.{TxnRecord}
-use Rattle.gem_record.specs.declared.record.Entry.{Entry}
-use Rattle.gem_update.specs.Update.{merged, merge_kind}
-use Rattle.gem_update.specs.declared.update.Update.{Update}
-use Rattle.gem_world.specs.World.{Setting, World, untouched, as_of, before_changes, is_made}
-use Rattle.gem_world.specs.Changes.{with_body, updates_on}
-use Rattle.object_programs.specs.Laws.{updated_by_all, UpdatesTell}
-use Rattle.object_programs.proofs.Told.{StaysTold, told_stays, told_first}
-use Rattle.gem_language.proofs.Lists as lists
-use Rattle.run_records.specs.Record.{record_of}
-use Rattle.commit_check.specs.Conflicts.{last_change}
-use Rattle.commit_check.specs.Table.{IsRefused, Stands, write_write, read_write, write_read_lock, write_write_lock, merge_refused}
-use Rattle.commit_check.proofs.Stood.{listed_stands}
+use Rattle.gem_meaning.specs.gem_value.declared.conflict.Conflict.{Conflict}
+use Rattle.gem_meaning.specs.gem_value.declared.conflict.ConflictKind.{ConflictKind}
+use Rattle.gem_meaning.specs.gem_value.declared.conflict.ConflictKind.TheVariants.{WriteReadLock, WriteWriteLock}
+use Rattle.gem_meaning.specs.gem_object.Kinds.{is_shared}
+use Rattle.gem_meaning.specs.gem_object.declared.body.Body.{Body}
+use Rattle.gem_meaning.specs.gem_object.declared.body.Body.TheVariants as body
+use Rattle.gem_meaning.specs.gem_object.declared.object.Object.{Object}
+use Rattle.gem_meaning.specs.gem_image.Image.{Image, Contents, contents_of, objects_in}
+use Rattle.gem_meaning.specs.gem_record.Names.{under}
+use Rattle.gem_meaning.specs.gem_record.History.{entry_of}
+use Rattle.gem_meaning.specs.gem_record.declared.record.TxnRecord.{TxnRecord}
+use Rattle.gem_meaning.specs.gem_record.declared.record.Entry.{Entry}
+use Rattle.gem_meaning.specs.gem_update.Update.{merged, merge_kind}
+use Rattle.gem_meaning.specs.gem_update.declared.update.Update.{Update}
+use Rattle.gem_meaning.specs.gem_world.World.{Setting, World, untouched, as_of, before_changes, is_made}
+use Rattle.gem_meaning.specs.gem_world.Changes.{with_body, updates_on}
+use Rattle.gem_meaning.specs.object_programs.Laws.{updated_by_all, UpdatesTell}
+use Rattle.gem_meaning.proofs.object_programs_lemmas.Told.{StaysTold, told_stays, told_first}
+use Rattle.gem_meaning.proofs.gem_language_lemmas.Lists as lists
+use Rattle.gem_meaning.specs.gem_record.Record.{record_of}
+use Rattle.gem_meaning.specs.commit_check.Conflicts.{last_change}
+use Rattle.gem_meaning.specs.commit_check.Table.{IsRefused, Stands, write_write, read_write, write_read_lock, write_write_lock, merge_refused}
+use Rattle.gem_meaning.proofs.commit_check_lemmas.Stood.{listed_stands}
 use Rattle.gem_meaning.specs.Commands.{object_commands}
 use Rattle.gem_meaning.specs.Opened.{Opened, entry_commands, entry_setting, record_on}
 use Rattle.gem_meaning.specs.Events.{Told, Standing, image_at, run_on_view, record_on_view, standing, conflicts_at}

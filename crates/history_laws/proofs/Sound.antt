@@ -2,19 +2,19 @@
 use Rattle.std.proofs.Common.{◌≡◌, ℕ, ◌+◌, ◌^◌, ◌≤◌, ◌<◌, ◌⊎◌, inl, inr, ⊎_elim, true, Option, None, is_some, option_map, refl, sym, ap, subst, ◌∙◌, arith}
 use Rattle.std.specs.FinMap.{get}
 use Rattle.std.proofs.lemmas.Bool.{false≢true}
-use Rattle.gem_value.specs.Oid.{oid_number}
-use Rattle.gem_object.specs.declared.object.Object.{Object}
-use Rattle.gem_image.specs.Image.{Image, IsImage, contents_of, objects_in, with_objects}
-use Rattle.gem_record.specs.declared.record.Entry.{Entry}
-use Rattle.gem_world.specs.World.{Setting, untouched}
-use Rattle.gem_sound.specs.Sound.{IsSoundImage, IsSoundFor}
-use Rattle.object_programs.specs.Laws.{begun_at, Stays, AreSound, IsInReach}
-use Rattle.object_programs.proofs.Objects.{StaysSound, soundness_stays}
-use Rattle.object_programs.proofs.Reach.{StaysInReach, reach_stays}
-use Rattle.object_programs.proofs.Admits.{admits_image}
-use Rattle.object_programs.proofs.AtPlace.{sound_at}
-use Rattle.gem_language.proofs.Lists.{listed, next_grows}
-use Rattle.commit_check.proofs.Members.{IsOneOf}
+use Rattle.gem_meaning.specs.gem_value.Oid.{oid_number}
+use Rattle.gem_meaning.specs.gem_object.declared.object.Object.{Object}
+use Rattle.gem_meaning.specs.gem_image.Image.{Image, IsImage, contents_of, objects_in, with_objects}
+use Rattle.gem_meaning.specs.gem_record.declared.record.Entry.{Entry}
+use Rattle.gem_meaning.specs.gem_world.World.{Setting, untouched}
+use Rattle.gem_meaning.specs.gem_sound.Sound.{IsSoundImage, IsSoundFor}
+use Rattle.gem_meaning.specs.object_programs.Laws.{begun_at, Stays, AreSound, IsInReach}
+use Rattle.gem_meaning.proofs.object_programs_lemmas.Objects.{StaysSound, soundness_stays}
+use Rattle.gem_meaning.proofs.object_programs_lemmas.Reach.{StaysInReach, reach_stays}
+use Rattle.gem_meaning.proofs.object_programs_lemmas.Admits.{admits_image}
+use Rattle.gem_meaning.proofs.object_programs_lemmas.AtPlace.{sound_at}
+use Rattle.gem_meaning.proofs.gem_language_lemmas.Lists.{listed, next_grows}
+use Rattle.gem_meaning.proofs.commit_check_lemmas.Members.{IsOneOf}
 use Rattle.gem_meaning.specs.Commands.{object_commands}
 use Rattle.gem_meaning.specs.Opened.{Opened, session_serial, entry_commands}
 use Rattle.gem_meaning.specs.Effect.{MergesFit}

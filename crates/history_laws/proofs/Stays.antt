@@ -2,14 +2,14 @@
 use Rattle.std.proofs.Common.{◌≡◌, ℕ, Option, Some, None, is_some, IsSome, option_map, refl, sym, ap, ◌∙◌}
 use Rattle.std.specs.Option.{option_and_then}
 use Rattle.std.proofs.lemmas.Bool.{false≢true}
-use Rattle.gem_object.specs.declared.body.Body.{Body}
-use Rattle.gem_object.specs.declared.body.Body.TheVariants.{Plain, Bytes, Dict, Class, Segment, User, Counter, Bag, RcDict, Queue}
-use Rattle.gem_image.specs.Image.{Image, Contents, objects_in}
-use Rattle.gem_sound.specs.Parts.{user_of, user_at}
-use Rattle.object_programs.specs.Fixed.{body_kind, Fixed, fixed_of}
-use Rattle.object_programs.specs.Guard.{is_user}
-use Rattle.object_programs.specs.Laws.{Stays}
-use Rattle.object_programs.proofs.Bases.{some_there}
+use Rattle.gem_meaning.specs.gem_object.declared.body.Body.{Body}
+use Rattle.gem_meaning.specs.gem_object.declared.body.Body.TheVariants.{Plain, Bytes, Dict, Class, Segment, User, Counter, Bag, RcDict, Queue}
+use Rattle.gem_meaning.specs.gem_image.Image.{Image, Contents, objects_in}
+use Rattle.gem_meaning.specs.gem_sound.Parts.{user_of, user_at}
+use Rattle.gem_meaning.specs.object_programs.Fixed.{body_kind, Fixed, fixed_of}
+use Rattle.gem_meaning.specs.object_programs.Guard.{is_user}
+use Rattle.gem_meaning.specs.object_programs.Laws.{Stays}
+use Rattle.gem_meaning.proofs.object_programs_lemmas.Bases.{some_there}
 
 pub stays_itself : (image : Image) → Stays image image
 stays_itself image name object there = ap (option_map fixed_of) there

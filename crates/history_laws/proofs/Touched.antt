@@ -6,18 +6,18 @@ use Rattle.std.specs.List.{list_any}
 use Rattle.std.specs.FinMap.{get, from_entries, contains_key-keys, get-from_entries}
 use Rattle.std.specs.FinMap.Entries.{is_some-find}
 use Rattle.std.proofs.lemmas.Bool.{false≢true, cases_lt}
-use Rattle.gem_object.specs.declared.object.Object.{Object}
-use Rattle.gem_record.specs.declared.record.TxnRecord.{TxnRecord}
-use Rattle.gem_record.specs.declared.record.Entry.{Entry}
-use Rattle.gem_value.specs.declared.conflict.Conflict.{Conflict}
-use Rattle.gem_world.specs.World.{Setting, World, is_among}
-use Rattle.run_records.specs.Names.{marked, ascending}
-use Rattle.run_records.specs.Record.{record_of}
-use Rattle.commit_check.specs.Conflicts.{Place, changed_of, last_change, conflicts_of, is_touched, is_written}
-use Rattle.commit_check.specs.Table.{IsTouched, IsChangedSince, Stands, write_write, read_write}
-use Rattle.commit_check.proofs.Listed.{stands_listed}
-use Rattle.commit_check.proofs.Members.{contained}
-use Rattle.commit_check.proofs.Used.{from_any}
+use Rattle.gem_meaning.specs.gem_object.declared.object.Object.{Object}
+use Rattle.gem_meaning.specs.gem_record.declared.record.TxnRecord.{TxnRecord}
+use Rattle.gem_meaning.specs.gem_record.declared.record.Entry.{Entry}
+use Rattle.gem_meaning.specs.gem_value.declared.conflict.Conflict.{Conflict}
+use Rattle.gem_meaning.specs.gem_world.World.{Setting, World, is_among}
+use Rattle.gem_meaning.specs.gem_record.RunNames.{marked, ascending}
+use Rattle.gem_meaning.specs.gem_record.Record.{record_of}
+use Rattle.gem_meaning.specs.commit_check.Conflicts.{Place, changed_of, last_change, conflicts_of, is_touched, is_written}
+use Rattle.gem_meaning.specs.commit_check.Table.{IsTouched, IsChangedSince, Stands, write_write, read_write}
+use Rattle.gem_meaning.proofs.commit_check_lemmas.Listed.{stands_listed}
+use Rattle.gem_meaning.proofs.commit_check_lemmas.Members.{contained}
+use Rattle.gem_meaning.proofs.commit_check_lemmas.Used.{from_any}
 
 pub same_tests : (name : ℕ) (names : List ℕ)
     → list_any (eq_by_cmp nat_cmp name) names ≡ list_any (nat_eq name) names

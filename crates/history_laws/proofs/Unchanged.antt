@@ -3,10 +3,10 @@ use Rattle.std.proofs.Common.{◌≡◌, ℕ, ◌+◌, ◌≤◌, ◌⊎◌, inl
 use Rattle.std.specs.List.{fold}
 use Rattle.std.specs.FinMap.{get}
 use Rattle.std.proofs.lemmas.Bool.{cases_lt}
-use Rattle.gem_object.specs.declared.object.Object.{Object}
-use Rattle.gem_image.specs.Image.{with_objects}
-use Rattle.gem_record.specs.declared.record.Entry.{Entry}
-use Rattle.commit_check.specs.Conflicts.{changed_of, last_change}
+use Rattle.gem_meaning.specs.gem_object.declared.object.Object.{Object}
+use Rattle.gem_meaning.specs.gem_image.Image.{with_objects}
+use Rattle.gem_meaning.specs.gem_record.declared.record.Entry.{Entry}
+use Rattle.gem_meaning.specs.commit_check.Conflicts.{changed_of, last_change}
 use Rattle.gem_meaning.specs.declared.event.What.TheVariants.{Placed, Held, Dropped, Left}
 use Rattle.gem_meaning.specs.Opened.{Opened}
 use Rattle.gem_meaning.specs.Events.{Event, Standing, image_at, effect_of, record_at_place, after_event, before_events, after_events}

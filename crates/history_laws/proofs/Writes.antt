@@ -3,15 +3,15 @@ use Rattle.std.proofs.Common.{◌≡◌, ℕ, true, ◌⊎◌, inl, inr, ⊎_eli
 use Rattle.std.specs.FinMap.{get, get-empty}
 use Rattle.std.specs.Ordering.{nat_cmp}
 use Rattle.std.proofs.lemmas.Bool.{false≢true}
-use Rattle.gem_record.specs.declared.record.Entry.{Entry}
-use Rattle.gem_world.specs.World.{Setting, World, untouched}
-use Rattle.gem_world.specs.Changes.{written_objects, updates_on}
-use Rattle.run_records.specs.Names.{ascending}
-use Rattle.run_records.specs.Record.{record_of}
-use Rattle.commit_check.specs.Conflicts.{names_of}
-use Rattle.commit_check.specs.Table.{IsWritten, IsUpdated}
-use Rattle.commit_check.proofs.Members.{IsOneOf, contained}
-use Rattle.commit_check.proofs.Used.{named, to_any}
+use Rattle.gem_meaning.specs.gem_record.declared.record.Entry.{Entry}
+use Rattle.gem_meaning.specs.gem_world.World.{Setting, World, untouched}
+use Rattle.gem_meaning.specs.gem_world.Changes.{written_objects, updates_on}
+use Rattle.gem_meaning.specs.gem_record.RunNames.{ascending}
+use Rattle.gem_meaning.specs.gem_record.Record.{record_of}
+use Rattle.gem_meaning.specs.commit_check.Conflicts.{names_of}
+use Rattle.gem_meaning.specs.commit_check.Table.{IsWritten, IsUpdated}
+use Rattle.gem_meaning.proofs.commit_check_lemmas.Members.{IsOneOf, contained}
+use Rattle.gem_meaning.proofs.commit_check_lemmas.Used.{named, to_any}
 use Rattle.gem_meaning.specs.Commands.{object_commands}
 use Rattle.gem_meaning.specs.Opened.{Opened, entry_commands, entry_setting}
 use Rattle.gem_meaning.specs.Events.{Standing, image_at, run_at_place, record_at_place}

@@ -1,14 +1,14 @@
 -- The moments of a run: what is there whenever it looks at objects or changes them, and which access
 -- it makes then.
 use Rattle.std.specs.Prelude.{◌≡◌, ◌⊎◌, ℕ, true, List, [], ◌∷◌, ◌++◌, Contains, Option, Some, None}
-use Rattle.gem_record.specs.declared.record.Entry.{Entry}
-use Rattle.gem_world.specs.World.{Setting, World, untouched}
-use Rattle.gem_world.specs.Access.{Access, a_write, is_allowed}
-use Rattle.object_programs.specs.Budget.{Budget}
-use Rattle.object_programs.specs.Atom.{Atom, Ask, Own, Kind, Made, Who, Put, Move, Note, Names, Make, Tick, Room, Show, refuses, access_fault, done}
-use Rattle.object_programs.specs.Run.{Run, give, fail, return_to, atom, seeing, become, and_then, ending, Ending, gives, returns, fails, State, perform}
-use Rattle.gem_language.specs.Commands.{Command, command_reply}
-use Rattle.gem_language.specs.Transaction.{begin_command, command_outcome}
+use Rattle.gem_meaning.specs.gem_record.declared.record.Entry.{Entry}
+use Rattle.gem_meaning.specs.gem_world.World.{Setting, World, untouched}
+use Rattle.gem_meaning.specs.gem_world.Access.{Access, a_write, is_allowed}
+use Rattle.gem_meaning.specs.object_programs.Budget.{Budget}
+use Rattle.gem_meaning.specs.object_programs.Atom.{Atom, Ask, Own, Kind, Made, Who, Put, Move, Note, Names, Make, Tick, Room, Show, refuses, access_fault, done}
+use Rattle.gem_meaning.specs.object_programs.Run.{Run, give, fail, return_to, atom, seeing, become, and_then, ending, Ending, gives, returns, fails, State, perform}
+use Rattle.gem_meaning.specs.gem_language.Commands.{Command, command_reply}
+use Rattle.gem_meaning.specs.gem_language.Transaction.{begin_command, command_outcome}
 use Rattle.gem_meaning.specs.Commands.{object_commands}
 use Rattle.gem_meaning.specs.Opened.{Opened, entry_commands, entry_setting}
 use Rattle.gem_meaning.specs.Events.{Standing, image_at}

@@ -1,7 +1,7 @@
 -- Locks that are held from a moment on at which the view was up to date.
 use Rattle.std.specs.Prelude.{◌≡◌, ◌≤◌, ℕ, ◌+◌, List, [], ◌∷◌, ◌++◌, IsSome}
-use Rattle.lock_table.specs.Locks.{kind_held}
-use Rattle.commit_check.specs.Conflicts.{last_change}
+use Rattle.gem_meaning.specs.lock_table.Locks.{kind_held}
+use Rattle.gem_meaning.specs.commit_check.Conflicts.{last_change}
 use Rattle.gem_meaning.specs.declared.event.What.TheVariants.{Placed}
 use Rattle.gem_meaning.specs.Opened.{Opened}
 use Rattle.gem_meaning.specs.Events.{Event, Standing, after_event, after_events}

@@ -3,20 +3,20 @@
 ghost use Rattle.std.specs.Prelude.{◌≡◌, ◌≢◌, ◌⊎◌, ◌≤◌, ◌<◌, ◌+◌, ◌∷◌, [], ℕ, List, length, None, Some, IsSome};
 ghost use Rattle.std.specs.FinMap.{get};
 ghost use Rattle.std.specs.List.{AllByRecursion, Contains};
-ghost use Rattle.gem_image.specs.Image.{IsImage};
-ghost use Rattle.gem_value.specs.Conflict.{kind_number};
-ghost use Rattle.gem_value.specs.declared.conflict.Conflict.{Conflict};
-ghost use Rattle.gem_value.specs.declared.conflict.ConflictKind.TheVariants.{WriteReadLock, WriteWriteLock};
-ghost use Rattle.gem_record.specs.History.{entry_of};
-ghost use Rattle.gem_record.specs.declared.record.TxnRecord.{TxnRecord};
-ghost use Rattle.gem_record.specs.declared.record.Entry.{Entry};
-ghost use Rattle.gem_sound.specs.Sound.{IsSoundImage};
-ghost use Rattle.lock_table.specs.LockKind.{kind_granted};
-ghost use Rattle.lock_table.specs.Locks.{kind_held, denied_for};
-ghost use Rattle.lock_table.specs.declared.lock.LockKind.{LockKind};
-ghost use Rattle.commit_check.specs.Conflicts.{last_change};
-ghost use Rattle.commit_check.specs.Table.{IsTouched, IsWritten, IsUpdated};
-ghost use Rattle.object_programs.specs.Laws.{Stays};
+ghost use Rattle.gem_meaning.specs.gem_image.Image.{IsImage};
+ghost use Rattle.gem_meaning.specs.gem_value.Conflict.{kind_number};
+ghost use Rattle.gem_meaning.specs.gem_value.declared.conflict.Conflict.{Conflict};
+ghost use Rattle.gem_meaning.specs.gem_value.declared.conflict.ConflictKind.TheVariants.{WriteReadLock, WriteWriteLock};
+ghost use Rattle.gem_meaning.specs.gem_record.History.{entry_of};
+ghost use Rattle.gem_meaning.specs.gem_record.declared.record.TxnRecord.{TxnRecord};
+ghost use Rattle.gem_meaning.specs.gem_record.declared.record.Entry.{Entry};
+ghost use Rattle.gem_meaning.specs.gem_sound.Sound.{IsSoundImage};
+ghost use Rattle.gem_meaning.specs.lock_table.LockKind.{kind_granted};
+ghost use Rattle.gem_meaning.specs.lock_table.Locks.{kind_held, denied_for};
+ghost use Rattle.gem_meaning.specs.lock_table.declared.lock.LockKind.{LockKind};
+ghost use Rattle.gem_meaning.specs.commit_check.Conflicts.{last_change};
+ghost use Rattle.gem_meaning.specs.commit_check.Table.{IsTouched, IsWritten, IsUpdated};
+ghost use Rattle.gem_meaning.specs.object_programs.Laws.{Stays};
 ghost use Rattle.gem_meaning.specs.declared.event.What.TheVariants.{Placed, Held, Dropped, Left};
 ghost use Rattle.gem_meaning.specs.Opened.{Opened, entry_setting};
 ghost use Rattle.gem_meaning.specs.Effect.{MergesFit, effect_at};
@@ -163,9 +163,9 @@ pub fn shown_after_view()
     commits_keep_images_sound();
 }
 
-/// Every access of a transaction at its place is one that its user has the right to there, by what
-/// the transaction sees when the access comes; else it is refused (E10, E11). And it writes and
-/// updates no object that the user might not write in one of the moments of this run.
+/// An access that is asked for is allowed to the user, by what is seen when it comes, or is refused
+/// (E10, E11); this holds of moments of any kind. And a transaction at its place writes and updates
+/// no object that the user might not write in one of the moments of this run.
 pub fn accesses_are_allowed()
     ensures each { (o : Opened) (s : Standing) (e : Entry) → AllByRecursion
         (IsAllowed (entry_setting o e s.image (image_at s e.view))) (moments_at_place o s e) }

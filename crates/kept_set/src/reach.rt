@@ -7,9 +7,8 @@ ghost use Rattle.kept_set.specs.Kept.{roots_of, names_of, kept_of};
 ghost use Rattle.kept_set.specs.Worklist.{name_seen, marked, AreReached, IsFollowed};
 
 use crate::roots::roots;
-use gem_object::Object;
+use gem_object::{Object, Oid, Sequence};
 use gem_update::Update;
-use gem_value::{Oid, Sequence};
 use std::alloc::{AllocError, Global};
 
 /// The names of the made objects that are kept, ascending: those that a written object or an update

@@ -5,9 +5,8 @@ ghost use Rattle.gem_object.specs.References.{references_of};
 ghost use Rattle.gem_update.specs.References.{names_in_update};
 ghost use Rattle.kept_set.specs.Kept.{roots_of};
 
-use gem_object::Object;
+use gem_object::{Object, Oid, Sequence};
 use gem_update::Update;
-use gem_value::{Oid, Sequence};
 use std::alloc::{AllocError, Global};
 
 // The numbers of the names that written objects and updates refer to.

@@ -2,8 +2,8 @@
 use Rattle.std.proofs.Common.{◌≡◌, ℕ, ◌+◌, true, false, List, [], ◌∷◌, All, refl}
 use Rattle.std.proofs.lemmas.List.Elements.{All-nil}
 use Rattle.op_table.specs.Prims.{prim_at, primitives}
-use Rattle.st_grammar.specs.Lexed.{tokens_of}
-use Rattle.st_grammar_laws.specs.TreeOf.{tree_of}
+use Rattle.gem_sound.specs.st_grammar.Lexed.{tokens_of}
+use Rattle.gem_sound.specs.st_grammar_laws.TreeOf.{tree_of}
 use Rattle.gem_object.specs.declared.body.Method.{Method}
 use Rattle.gem_sound.specs.Kernel.{may_stand}
 use Rattle.gem_sound.specs.Sound.{IsMethodOf}

@@ -7,8 +7,8 @@ use Rattle.std.proofs.lemmas.Bool.{ltb-true}
 use Rattle.std.proofs.lemmas.List.Sums.{AllPass-from_list_all}
 use Rattle.kernel_image.specs.declared.build.GlobalRow.{GlobalRow}
 use Rattle.std.proofs.lemmas.Grind.{common_steps}
-use Rattle.texts.specs.Bytes.{Bytes as Text}
-use Rattle.insertion_map.specs.Pairs.{AreDistinct}
+use Rattle.gem_object.specs.texts.Bytes.{Bytes as Text}
+use Rattle.gem_object.specs.insertion_map.Pairs.{AreDistinct}
 use Rattle.gem_object.specs.Order.{same_value}
 use Rattle.gem_object.specs.declared.value.Value.{Value}
 use Rattle.kernel_image.specs.declared.table.ClassRow.{ClassRow}

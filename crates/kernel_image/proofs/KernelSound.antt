@@ -8,12 +8,12 @@ use Rattle.std.proofs.lemmas.Bool.{false≢true, ltb-true, eqb-true}
 use Rattle.std.proofs.lemmas.Option.{slice_get_past, slice_get_within, slice_get_cases}
 use Rattle.std.proofs.lemmas.List.Sums.{AllPass-from_list_all}
 use Rattle.std.proofs.lemmas.List.Elements.{All-nil, All-cons}
-use Rattle.seg_rights.specs.declared.rights.Rights.{Rights}
+use Rattle.gem_object.specs.seg_rights.declared.rights.Rights.{Rights}
 use Rattle.gem_object.specs.Kinds.{fits}
 use Rattle.gem_object.specs.declared.kind.Kind.TheVariants as kind
 use Rattle.gem_object.specs.declared.body.UserBody.{UserBody}
-use Rattle.texts.specs.Bytes.{Bytes as Text}
-use Rattle.profile.specs.Kernel.{kernel_names}
+use Rattle.gem_object.specs.texts.Bytes.{Bytes as Text}
+use Rattle.kernel_image.specs.Names.{kernel_names}
 use Rattle.gem_object.specs.References.{names_in_pairs}
 use Rattle.gem_object.specs.declared.value.Value.{Value}
 use Rattle.gem_object.specs.declared.body.ClassBody.{ClassBody}

@@ -5,10 +5,10 @@ use Rattle.std.specs.List.{list_all}
 use Rattle.std.proofs.lemmas.Bool.{false≢true, ltb-true}
 use Rattle.std.proofs.lemmas.List.Sums.{AllPass-from_list_all}
 use Rattle.std.proofs.lemmas.Slice.Eq.{bytes_eq-Decides}
-use Rattle.texts.specs.Bytes.{Bytes as Text}
-use Rattle.st_tree.specs.Trees.{Program}
-use Rattle.st_grammar.specs.Grammar.{method}
-use Rattle.st_grammar_laws.specs.TreeOf.{tree_of, TextFault}
+use Rattle.gem_object.specs.texts.Bytes.{Bytes as Text}
+use Rattle.gem_sound.specs.st_tree.Trees.{Program}
+use Rattle.gem_sound.specs.st_grammar.Grammar.{method}
+use Rattle.gem_sound.specs.st_grammar_laws.TreeOf.{tree_of, TextFault}
 use Rattle.gem_object.specs.declared.body.MethodCode.{MethodCode}
 use Rattle.gem_object.specs.declared.body.MethodCode.TheVariants.{Source, Primitive}
 use Rattle.gem_object.specs.declared.body.Method.{Method}

@@ -11,10 +11,10 @@ use Rattle.std.specs.Cmp.Lexicographic.{slice_cmp}
 use Rattle.std.proofs.lemmas.Bool.{false≢true, ltb-true}
 use Rattle.std.proofs.lemmas.List.Sums.{AllPass-from_list_all}
 use Rattle.std.proofs.lemmas.List.Elements.{All-nil}
-use Rattle.texts.specs.Bytes.{Bytes as Text}
-use Rattle.insertion_map.specs.Pairs.{AreDistinct}
-use Rattle.seg_rights.specs.declared.right.Right.TheVariants.{None as NoRight}
-use Rattle.seg_rights.specs.declared.rights.Rights.{Rights}
+use Rattle.gem_object.specs.texts.Bytes.{Bytes as Text}
+use Rattle.gem_object.specs.insertion_map.Pairs.{AreDistinct}
+use Rattle.gem_object.specs.seg_rights.declared.right.Right.TheVariants.{None as NoRight}
+use Rattle.gem_object.specs.seg_rights.declared.rights.Rights.{Rights}
 use Rattle.gem_object.specs.Order.{same_value}
 use Rattle.gem_object.specs.Spelling.{IsPlainByte, IsText, IsStorable, IsStorablePair, IsDictionary, IsCode, IsMethod, AreMethods, IsClass, IsSegment, IsUser, IsSpelledBody, IsSpelled}
 use Rattle.gem_object.specs.declared.value.Value.{Value}

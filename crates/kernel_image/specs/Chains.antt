@@ -2,7 +2,7 @@
 -- inherit.
 use Rattle.std.specs.Prelude.{◌≡◌, ℕ, ◌^◌, ◌-◌, List, [], ◌∷◌, length, min, Option, Some, None}
 use Rattle.std.specs.List.{AllByRecursion}
-use Rattle.texts.specs.Bytes.{Bytes as Text}
+use Rattle.gem_object.specs.texts.Bytes.{Bytes as Text}
 use Rattle.gem_object.specs.declared.body.ClassBody.{ClassBody}
 use Rattle.gem_image.specs.Image.{Objects}
 use Rattle.gem_sound.specs.Parts.{class_at}

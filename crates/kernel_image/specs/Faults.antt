@@ -1,7 +1,7 @@
 -- What is said of an image that isn't sound.
 use Rattle.std.specs.Prelude.{◌<◌, ℕ, List, ◌++◌, codes, Option, None, Some}
 use Rattle.std.specs.Fmt.{decimal}
-use Rattle.gem_value.specs.Oid.{oid_text}
+use Rattle.gem_object.specs.gem_value.Oid.{oid_text}
 use Rattle.gem_image.specs.Image.{Contents, Objects}
 use Rattle.gem_sound.specs.Sound.{ImageRule, i1, i2, i3, i4, i5, rule_number, KeepsRule, KeepsRuleAt, BreaksFirst}
 use Rattle.kernel_image.specs.declared.fault.Rule.{Rule}

@@ -1,4 +1,5 @@
 pub mod Methods
+pub mod Names
 pub mod Objects
 pub mod Rows
 pub mod Chains

@@ -2,10 +2,10 @@
 -- commit.
 use Rattle.std.specs.Prelude.{ℕ, ◌+◌, List, [], ◌∷◌, ◌++◌, take, codes, Option}
 use Rattle.std.specs.FinMap.{empty}
-use Rattle.texts.specs.Bytes.{Bytes as Text}
-use Rattle.profile.specs.Kernel.{kernel_names}
-use Rattle.profile.specs.declared.kernel.TheConstants.{GLOBALS_COUNTER, DATA_CURATOR_COUNTER}
-use Rattle.seg_rights.specs.declared.right.Right.TheVariants.{Read, Write}
+use Rattle.gem_object.specs.texts.Bytes.{Bytes as Text}
+use Rattle.kernel_image.specs.Names.{kernel_names}
+use Rattle.gem_sound.specs.declared.names.TheConstants.{GLOBALS, DATA_CURATOR}
+use Rattle.gem_object.specs.seg_rights.declared.right.Right.TheVariants.{Read, Write}
 use Rattle.gem_object.specs.declared.value.Value.{Value}
 use Rattle.gem_object.specs.declared.value.Value.TheVariants.{Sym, Ref}
 use Rattle.gem_object.specs.declared.body.Method.{Method}
@@ -100,7 +100,7 @@ dictionary segment entries = kernel_object SYMBOL_DICTIONARY_CLASS segment (Dict
 -- the entries of Globals beside those of the classes
 unfoldable pub other_entries : List (Value × Value)
 other_entries =
-    entry (codes "Globals") GLOBALS_COUNTER
+    entry (codes "Globals") GLOBALS
     ∷ entry (codes "AllUsers") ALL_USERS
     ∷ entry (codes "SystemSegment") SYSTEM_SEGMENT
     ∷ entry (codes "DataCuratorSegment") DATA_CURATOR_SEGMENT
@@ -114,7 +114,7 @@ globals_entries = entries_from 1 (take 26 kernel_names) ++ other_entries
 unfoldable pub users_entries : List (Value × Value)
 users_entries =
     entry (codes "SystemUser") SYSTEM_USER
-    ∷ entry (codes "DataCurator") DATA_CURATOR_COUNTER ∷ []
+    ∷ entry (codes "DataCurator") DATA_CURATOR ∷ []
 
 -- a user's own globals: one entry, which leads to the dictionary itself
 abbrev pub own_globals : ℕ → ℕ → Object
@@ -148,7 +148,7 @@ shared_objects =
     dictionary DATA_CURATOR_SEGMENT globals_entries  -- 27 Globals
     ∷ dictionary DATA_CURATOR_SEGMENT users_entries  -- 28 AllUsers
     ∷ segment_object SYSTEM_SEGMENT SYSTEM_USER  -- 29 SystemSegment
-    ∷ segment_object DATA_CURATOR_SEGMENT DATA_CURATOR_COUNTER  -- 30 DataCuratorSegment
+    ∷ segment_object DATA_CURATOR_SEGMENT DATA_CURATOR  -- 30 DataCuratorSegment
     ∷ []
 
 -- the two users

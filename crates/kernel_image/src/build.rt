@@ -1,6 +1,6 @@
 //! The objects of the kernel, made.
 ghost use Rattle.std.specs.Prelude.{◌≡◌, ◌+◌, ◌^◌, ◌<◌, ◌++◌, length, [], map, All, IfOk, OnOk};
-ghost use Rattle.insertion_map.specs.Pairs.{AreDistinct};
+ghost use Rattle.gem_object.specs.insertion_map.Pairs.{AreDistinct};
 ghost use Rattle.gem_object.specs.Order.{same_value};
 ghost use Rattle.gem_object.specs.declared.body.Body.TheVariants.{Plain};
 ghost use Rattle.kernel_image.specs.Objects.{kernel_object, shared_objects, profiles, last_objects, kernel_list, entry, entries_from, other_entries, globals_entries, users_entries, dictionary, own_globals, segment_object, user_object, named_from};
@@ -8,19 +8,15 @@ ghost use Rattle.kernel_image.specs.Rows.{method_of_row, methods_of_rows, class_
 
 use crate::table::{ClassRow, CodeRow, MethodRow, class_rows};
 use gem_object::{
-    Body, ClassBody, Dictionary, Method, MethodCode, Methods, Names, Object, UserBody, Value,
-    Values,
+    Body, ClassBody, Dictionary, Groups, Method, MethodCode, Methods, Names, Object, Oid, Right,
+    Rights, Text, UserBody, Value, Values,
 };
 use gem_sound::names::{
-    ALL_USERS, CLASS_CLASS, DATA_CURATOR_GLOBALS, DATA_CURATOR_SEGMENT, SEGMENT_CLASS,
-    SYMBOL_DICTIONARY_CLASS, SYSTEM_SEGMENT, SYSTEM_USER, SYSTEM_USER_GLOBALS, TRANSCRIPT,
-    TRANSCRIPT_STREAM_CLASS, USER_PROFILE_CLASS,
+    ALL_USERS, CLASS_CLASS, DATA_CURATOR, DATA_CURATOR_GLOBALS, DATA_CURATOR_SEGMENT, GLOBALS,
+    KERNEL_SERIAL, SEGMENT_CLASS, SYMBOL_DICTIONARY_CLASS, SYSTEM_SEGMENT, SYSTEM_USER,
+    SYSTEM_USER_GLOBALS, TRANSCRIPT, TRANSCRIPT_STREAM_CLASS, USER_PROFILE_CLASS,
 };
-use gem_value::Oid;
-use profile::{DATA_CURATOR_COUNTER, GLOBALS_COUNTER, KERNEL_SERIAL};
-use seg_rights::{Groups, Right, Rights};
 use std::alloc::{AllocError, Global};
-use texts::Text;
 
 // The name of the kernel's object with this counter.
 pub(crate) fn name(counter: u32) -> Oid
@@ -136,7 +132,7 @@ fn other_globals() -> &'static [GlobalRow]
     ensures counters { All (λ row. row.counter < 2 ^ 24) result.now }
 {
     static ROWS: [GlobalRow; 5] = globals! {
-        "Globals" GLOBALS_COUNTER;
+        "Globals" GLOBALS;
         "AllUsers" ALL_USERS;
         "SystemSegment" SYSTEM_SEGMENT;
         "DataCuratorSegment" DATA_CURATOR_SEGMENT;
@@ -189,7 +185,7 @@ fn users_entries(alloc: Global) -> Result<Vec<(Value, Value)>, AllocError>
 {
     Ok(vec![in alloc;
         entry(alloc, "SystemUser", SYSTEM_USER)?,
-        entry(alloc, "DataCurator", DATA_CURATOR_COUNTER)?,
+        entry(alloc, "DataCurator", DATA_CURATOR)?,
     ]?)
 }
 
@@ -263,7 +259,7 @@ fn add_shared(alloc: Global, objects: &mut Vec<Object>) -> Result<(), AllocError
     let users = users_entries(alloc)?;
     objects.push(dictionary(alloc, DATA_CURATOR_SEGMENT, users)?)?;
     objects.push(segment(alloc, SYSTEM_SEGMENT, SYSTEM_USER))?;
-    objects.push(segment(alloc, DATA_CURATOR_SEGMENT, DATA_CURATOR_COUNTER))?;
+    objects.push(segment(alloc, DATA_CURATOR_SEGMENT, DATA_CURATOR))?;
     Ok(())
 }
 

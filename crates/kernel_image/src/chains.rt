@@ -6,9 +6,8 @@ ghost use Rattle.gem_sound.specs.Parts.{class_at};
 ghost use Rattle.kernel_image.specs.Chains.{IsCountOf, IsEndless, AreCounts, IsClimb, IsSeen};
 
 use gem_image::Image;
-use gem_object::{Body, ClassBody};
+use gem_object::{Body, ClassBody, Oid};
 use gem_sound::names::OBJECT_CLASS;
-use gem_value::Oid;
 use std::alloc::{AllocError, Global};
 use std::collections::BTreeMap;
 

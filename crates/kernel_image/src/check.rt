@@ -13,8 +13,7 @@ use crate::fault::{Rule, SoundFault};
 use crate::fitting::{has_kernel_body, is_fitting, kernel_body};
 use crate::rules::{has_methods, has_place, has_references};
 use gem_image::Image;
-use gem_object::{Body, Object};
-use gem_value::Oid;
+use gem_object::{Body, Object, Oid};
 use std::alloc::{AllocError, Global};
 
 /// The counter after that of the kernel's last object.

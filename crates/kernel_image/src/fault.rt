@@ -4,7 +4,7 @@ ghost use Rattle.gem_sound.specs.Sound.{rule_number};
 ghost use Rattle.kernel_image.specs.declared.fault.SoundFault.TheVariants.{NoMemory};
 ghost use Rattle.kernel_image.specs.Faults.{rule_of, fault_text};
 
-use gem_value::Oid;
+use gem_object::Oid;
 use std::alloc::{AllocError, AllocFailed};
 use std::error::Error;
 use std::fmt;

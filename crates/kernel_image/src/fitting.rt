@@ -14,9 +14,8 @@ ghost use Rattle.kernel_image.specs.Bodies.{body_of, IsSpecial};
 
 use crate::chains::{Counts, class_at, count_names};
 use gem_image::Image;
-use gem_object::{Body, Object};
+use gem_object::{Body, Object, Oid};
 use gem_sound::names::{CLASS_CLASS, TRANSCRIPT_STREAM_CLASS};
-use gem_value::Oid;
 use std::alloc::{AllocError, Global};
 
 /// What body an object of the kernel has.

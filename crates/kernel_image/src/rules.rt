@@ -13,18 +13,16 @@ ghost use Rattle.kernel_image.specs.Rows.{kernel_class_of};
 use crate::chains::{Counts, class_at, count_names};
 use crate::table::{ClassRow, class_rows};
 use gem_image::Image;
-use gem_object::{ClassBody, Kind, Method, MethodCode, Object};
+use gem_object::{ClassBody, Kind, Method, MethodCode, Object, Oid, Text};
 use gem_sound::names::{
     ARRAY_CLASS, BLOCK_CLASS, CHARACTER_CLASS, CLASS_CLASS, IDENTITY_DICTIONARY_CLASS,
     OBJECT_CLASS, ORDERED_COLLECTION_CLASS, RC_COUNTER_CLASS, RC_IDENTITY_BAG_CLASS,
     RC_KEY_VALUE_DICTIONARY_CLASS, RC_QUEUE_CLASS, SEGMENT_CLASS, SMALL_INTEGER_CLASS,
     STRING_CLASS, SYMBOL_CLASS, SYSTEM_CLASS, TRANSCRIPT_STREAM_CLASS, USER_PROFILE_CLASS,
 };
-use gem_value::Oid;
 use op_table::{Kind as Receiver, PrimRow, prim_row};
 use st_parser::{ParseFault, parse_method};
 use std::alloc::{AllocError, Global};
-use texts::Text;
 
 /// A source has fewer bytes than this.
 const SOURCE_LIMIT: usize = 1 << 24;

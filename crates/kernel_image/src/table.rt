@@ -1,6 +1,6 @@
 //! The kernel's classes and their methods, as a table.
 ghost use Rattle.std.specs.Prelude.{◌≡◌, map, take};
-ghost use Rattle.profile.specs.Kernel.{kernel_names};
+ghost use Rattle.kernel_image.specs.Names.{kernel_names};
 ghost use Rattle.gem_sound.specs.Kernel.{kernel_classes};
 ghost use Rattle.kernel_image.specs.Objects.{class_list};
 ghost use Rattle.kernel_image.specs.Rows.{class_of_row, kernel_class_of, names_of_rows};

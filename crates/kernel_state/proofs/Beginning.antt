@@ -4,8 +4,8 @@ use Rattle.std.specs.Option.{option_map}
 use Rattle.std.proofs.lemmas.Bool.{false≢true}
 use Rattle.std.proofs.lemmas.Option.{slice_get_within, get_or_from_slice_get}
 use Rattle.std.specs.FinMap.{get}
-use Rattle.profile.specs.declared.kernel.TheConstants.{KERNEL_SERIAL, DATA_CURATOR_COUNTER}
-use Rattle.gem_value.specs.Oid.{oid_number}
+use Rattle.gem_sound.specs.declared.names.TheConstants.{KERNEL_SERIAL, DATA_CURATOR}
+use Rattle.gem_object.specs.gem_value.Oid.{oid_number}
 use Rattle.gem_object.specs.Spelling.{IsSpelled}
 use Rattle.gem_object.specs.declared.object.Object.{Object}
 use Rattle.gem_image.specs.Image.{Image, IsImage, AreNamed, AreSpelled, contents_of, objects_in}
@@ -18,7 +18,7 @@ use Rattle.plain_state.specs.State.{BeginsSound}
 
 -- the name of the profile of DataCurator
 abbrev curator : ℕ
-curator = oid_number KERNEL_SERIAL DATA_CURATOR_COUNTER
+curator = oid_number KERNEL_SERIAL DATA_CURATOR
 
 -- what the laws say of the image of the kernel
 abbrev pub Holds : Type 0

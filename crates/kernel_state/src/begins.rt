@@ -1,20 +1,19 @@
 //! Transactions of DataCurator, on a plain state or on a view.
 ghost use Rattle.std.specs.Prelude.{◌≡◌, ◌<◌, ◌≤◌, ◌^◌, ℕ, true, None, is_some};
-ghost use Rattle.gem_value.specs.Oid.{oid_number};
-ghost use Rattle.profile.specs.declared.kernel.TheConstants.{KERNEL_SERIAL, DATA_CURATOR_COUNTER};
+ghost use Rattle.gem_object.specs.gem_value.Oid.{oid_number};
+ghost use Rattle.gem_sound.specs.declared.names.TheConstants.{KERNEL_SERIAL, DATA_CURATOR};
 ghost use Rattle.gem_image.specs.Image.{objects_in};
 ghost use Rattle.gem_sound.specs.Parts.{user_at, user_of};
 ghost use Rattle.gem_sound.specs.Sound.{IsSoundImage};
 ghost use Rattle.plain_state.specs.State.{BeginsSound};
 
 use gem_image::Image;
-use gem_object::Body;
-use gem_value::Oid;
+use gem_object::{Body, Oid};
+use gem_sound::names::{DATA_CURATOR, KERNEL_SERIAL};
 use kernel_image::laws::{kernel_by_names, kernel_is_sound};
 use kernel_image::{kernel, sound};
 use plain_state::PlainState;
 use plain_state::laws::begins_on_sound_images;
-use profile::{DATA_CURATOR_COUNTER, KERNEL_SERIAL};
 use radix_pages::Steps;
 use running_objects::RunsChunks;
 use session_view::View;
@@ -28,7 +27,7 @@ const SERIAL: u32 = 1;
 pub trait Begins: RunsChunks + Drop {
     /// A transaction of DataCurator over an image, which draws its names from this counter on.
     fn over(alloc: Global, image: Image, first: u32) -> Result<Self, AllocError>
-        requires { BeginsSound image image (oid_number KERNEL_SERIAL DATA_CURATOR_COUNTER) 1
+        requires { BeginsSound image image (oid_number KERNEL_SERIAL DATA_CURATOR) 1
             first };
 }
 
@@ -47,9 +46,9 @@ impl Begins for View {
 
 // The name of the profile of DataCurator.
 fn curator() -> Oid
-    ensures { result ≡ oid_number KERNEL_SERIAL DATA_CURATOR_COUNTER }
+    ensures { result ≡ oid_number KERNEL_SERIAL DATA_CURATOR }
 {
-    Oid::from_parts(KERNEL_SERIAL, DATA_CURATOR_COUNTER)
+    Oid::from_parts(KERNEL_SERIAL, DATA_CURATOR)
 }
 
 /// A transaction of DataCurator on the kernel's objects, which draws its names from this counter
@@ -109,7 +108,7 @@ fn begin_on_sound<S: Begins>(
 // Whether DataCurator is there.
 fn has_curator(image: &Image) -> bool
     ensures { result ≡ is_some (user_at (objects_in image.now)
-        (oid_number KERNEL_SERIAL DATA_CURATOR_COUNTER)) }
+        (oid_number KERNEL_SERIAL DATA_CURATOR)) }
 {
     match image.look(curator()) {
         Some(object) => is_user(&object.body),

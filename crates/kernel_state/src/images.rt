@@ -2,15 +2,14 @@
 ghost use Rattle.std.specs.Prelude.{◌≡◌, ◌<◌, ◌^◌};
 
 use gem_image::Image;
-use gem_object::{Body, Object, Value, Values};
-use gem_sound::names::{ARRAY_CLASS, DATA_CURATOR_SEGMENT, RC_COUNTER_CLASS, SYSTEM_SEGMENT};
-use gem_value::Oid;
+use gem_object::{Body, Counter, Object, Oid, Value, Values};
+use gem_sound::names::{
+    ARRAY_CLASS, DATA_CURATOR_SEGMENT, KERNEL_SERIAL, RC_COUNTER_CLASS, SYSTEM_SEGMENT,
+};
 use kernel_image::kernel;
 use object_guard::is_spelled;
 use object_programs::laws::what_is_spelled;
-use profile::KERNEL_SERIAL;
 use radix_pages::Steps;
-use rc_counter_bag::Counter;
 use std::alloc::{AllocError, Global};
 use std::sync::ledger::Ledger;
 

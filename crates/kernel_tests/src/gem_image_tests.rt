@@ -3,16 +3,13 @@ ghost use Rattle.std.specs.Prelude.{◌≡◌, ◌≢◌, ◌+◌, ◌^◌, ◌<
 ghost use Rattle.gem_object.specs.Spelling.{IsOid, IsText, IsSpelled};
 
 use gem_image::Image;
-use gem_object::{Body, Names, Object, UserBody, Values};
-use gem_value::Oid;
+use gem_object::{Body, Groups, Names, Object, Oid, Right, Rights, Text, UserBody, Values};
 use radix_pages::Steps;
-use seg_rights::{Groups, Right, Rights};
 use std::alloc::{AllocError, Global};
 use std::marker::Brand;
 use std::process::Abort;
 use std::sync::ledger::{Blank, Ledger};
 use std::test::Fail;
-use texts::Text;
 
 const OWNER: u32 = 1;
 

@@ -3,14 +3,11 @@ ghost use Rattle.std.specs.Prelude.{◌≡◌, ◌<◌, ◌≤◌, ◌^◌, leng
 ghost use Rattle.gem_object.specs.Spelling.{IsOid, IsText, IsSource, IsMethod, IsClass, IsSpelledBody, IsSpelled};
 
 use gem_object::{
-    Body, ClassBody, Kind, Method, MethodCode, Methods, Names, Object, UserBody, Values,
+    Body, ClassBody, Groups, Kind, Method, MethodCode, Methods, Names, Object, Oid, Right, Rights,
+    Text, UserBody, Values,
 };
-use gem_sound::names::{CLASS_CLASS, SYSTEM_SEGMENT};
-use gem_value::Oid;
-use profile::KERNEL_SERIAL;
-use seg_rights::{Groups, Right, Rights};
+use gem_sound::names::{CLASS_CLASS, KERNEL_SERIAL, SYSTEM_SEGMENT};
 use std::alloc::{AllocError, Global};
-use texts::Text;
 
 pub(crate) fn name(counter: u32) -> Oid
     requires { counter < 2 ^ 24 }

@@ -3,19 +3,19 @@ use Rattle.std.proofs.Common.{◌≡◌, ◌∙◌, refl, sym, ap, subst, ℕ, B
 use Rattle.std.proofs.lemmas.Bool.{false≢true}
 use Rattle.std.proofs.lemmas.Option.{none-some, same_Some}
 use Rattle.gem_object.specs.declared.body.MethodCode.{MethodCode}
-use Rattle.gem_image.specs.Image.{Contents}
-use Rattle.gem_world.specs.World.{Setting, World}
-use Rattle.gem_world.specs.Access.{a_read}
-use Rattle.object_programs.specs.Atom.{Done}
-use Rattle.object_programs.specs.Laws.{answered}
-use Rattle.object_programs.specs.Local.{Local}
-use Rattle.object_programs.specs.Run.{State, outcome_of}
-use Rattle.object_programs.proofs.Exact.{read_done}
+use Rattle.running_objects.specs.gem_image.Image.{Contents}
+use Rattle.running_objects.specs.gem_world.World.{Setting, World}
+use Rattle.running_objects.specs.gem_world.Access.{a_read}
+use Rattle.running_objects.specs.object_programs.Atom.{Done}
+use Rattle.running_objects.specs.object_programs.Laws.{answered}
+use Rattle.running_objects.specs.object_programs.Local.{Local}
+use Rattle.running_objects.specs.object_programs.Run.{State, outcome_of}
+use Rattle.running_objects.proofs.object_programs_lemmas.Exact.{read_done}
 use Rattle.running_objects.specs.Seen.{Seen, object_at, with_local}
 use Rattle.running_objects.specs.Acted.{Reached, Accessed}
 use Rattle.running_objects.specs.declared.stop.Stop.{Stop}
 use Rattle.running_objects.proofs.Running.{keeps_same}
-use Rattle.tree_meaning.specs.Place.{MadeBlock}
+use Rattle.gem_language.specs.tree_meaning.Place.{MadeBlock}
 use Rattle.gem_language.specs.LookUp.{Start, start_of_object}
 use Rattle.look_up_cache.specs.Lasting.{lasting_of}
 use Rattle.look_up_cache.specs.Calm.{Calm, Begins}

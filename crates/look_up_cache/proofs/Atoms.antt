@@ -3,7 +3,7 @@ use Rattle.std.proofs.Common.{◌≡◌, ◌≢◌, ◌∙◌, refl, sym, ap, su
 use Rattle.std.specs.FinMap.{get}
 use Rattle.std.proofs.lemmas.Bool.{false≢true, and_parts, ne_eqb}
 use Rattle.std.proofs.lemmas.Option.{none-some, same_Some}
-use Rattle.texts.specs.Bytes.{Bytes as Text}
+use Rattle.gem_object.specs.texts.Bytes.{Bytes as Text}
 use Rattle.gem_object.specs.Kinds.{is_shared}
 use Rattle.gem_object.specs.declared.body.Body.{Body}
 use Rattle.gem_object.specs.declared.body.Body.TheVariants.{Plain, Bytes, Dict, Class, Segment, User, Counter, Bag, RcDict, Queue}
@@ -11,19 +11,19 @@ use Rattle.gem_object.specs.declared.object.Object.{Object}
 use Rattle.gem_update.specs.Update.{updated}
 use Rattle.gem_update.specs.declared.update.Update.{Update}
 use Rattle.gem_update.specs.declared.update.Update.TheVariants as change
-use Rattle.gem_image.specs.Image.{Contents, contents_of}
-use Rattle.gem_world.specs.World.{Setting, World, name_of, next_name, shown, touch}
-use Rattle.gem_world.specs.Changes.{with_body, put, make, note}
-use Rattle.gem_world.specs.Access.{Access, a_read, a_write, is_allowed, with_touches, after_allowed, accessed}
-use Rattle.object_programs.specs.declared.limits.TheConstants.{COUNTER_LIMIT}
-use Rattle.object_programs.specs.Budget.{Budget, may_write, bytes_cost}
-use Rattle.object_programs.specs.Fixed.{BodyKind, PlainKind, BytesKind, DictKind, ClassKind, SegmentKind, UserKind, CounterKind, BagKind, RcDictKind, QueueKind, body_kind, Fixed, fixed_of, fixed_by}
-use Rattle.object_programs.specs.Guard.{Parts, may_change, may_replace, may_make}
-use Rattle.object_programs.specs.Atom.{Atom, Ask, Own, Kind, Put, Note, Names, Make, Tick, Room, Show, says, Done, done, MakeCheck, too_large, no_name, no_space, no_fault, make_check, with_new, made_where, made_by, named_where, ticked, spent_where, shown_where, replaced_where, edited_at, edited, updated_by, updated_at, updated_where, after_update}
-use Rattle.object_programs.specs.Laws.{AreFree, AreSound}
-use Rattle.object_programs.proofs.Kept.{each_new, no_fault_found}
-use Rattle.object_programs.proofs.Worlds.{changed_shown, make_shown, make_next, note_shown, shown_asked}
-use Rattle.object_programs.proofs.Sames.{fixed_is}
+use Rattle.running_objects.specs.gem_image.Image.{Contents, contents_of}
+use Rattle.running_objects.specs.gem_world.World.{Setting, World, name_of, next_name, shown, touch}
+use Rattle.running_objects.specs.gem_world.Changes.{with_body, put, make, note}
+use Rattle.running_objects.specs.gem_world.Access.{Access, a_read, a_write, is_allowed, with_touches, after_allowed, accessed}
+use Rattle.running_objects.specs.object_programs.declared.limits.TheConstants.{COUNTER_LIMIT}
+use Rattle.running_objects.specs.object_programs.Budget.{Budget, may_write, bytes_cost}
+use Rattle.running_objects.specs.object_programs.Fixed.{BodyKind, PlainKind, BytesKind, DictKind, ClassKind, SegmentKind, UserKind, CounterKind, BagKind, RcDictKind, QueueKind, body_kind, Fixed, fixed_of, fixed_by}
+use Rattle.running_objects.specs.object_programs.Guard.{Parts, may_change, may_replace, may_make}
+use Rattle.running_objects.specs.object_programs.Atom.{Atom, Ask, Own, Kind, Put, Note, Names, Make, Tick, Room, Show, says, Done, done, MakeCheck, too_large, no_name, no_space, no_fault, make_check, with_new, made_where, made_by, named_where, ticked, spent_where, shown_where, replaced_where, edited_at, edited, updated_by, updated_at, updated_where, after_update}
+use Rattle.running_objects.specs.object_programs.Laws.{AreFree, AreSound}
+use Rattle.running_objects.proofs.object_programs_lemmas.Kept.{each_new, no_fault_found}
+use Rattle.running_objects.proofs.object_programs_lemmas.Worlds.{changed_shown, make_shown, make_next, note_shown, shown_asked}
+use Rattle.running_objects.proofs.object_programs_lemmas.Sames.{fixed_is}
 use Rattle.running_objects.specs.Seen.{Seen, object_at, IsSoundState}
 use Rattle.running_objects.specs.Acted.{Acted, Accessed, Owned, Known, Edited, Made}
 use Rattle.look_up_cache.specs.Lasting.{Lasting, lasting_body, lasting_of, Still}

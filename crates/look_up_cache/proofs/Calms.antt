@@ -5,16 +5,16 @@ use Rattle.std.proofs.lemmas.Option.{same_Some}
 use Rattle.gem_object.specs.declared.body.ClassBody.{ClassBody}
 use Rattle.gem_object.specs.declared.body.Body.{Body}
 use Rattle.gem_object.specs.declared.body.Body.TheVariants.{Plain, Bytes, Dict, Class, Segment, User, Counter, Bag, RcDict, Queue}
-use Rattle.gem_image.specs.Image.{Contents}
-use Rattle.gem_world.specs.World.{Setting, World, shown, is_private, is_among, touch}
-use Rattle.gem_world.specs.Access.{a_read, is_allowed, touches_of, with_touches}
-use Rattle.gem_sound.specs.Parts.{class_of}
-use Rattle.object_programs.specs.Atom.{Done, Ask, done}
-use Rattle.object_programs.specs.Laws.{answered}
-use Rattle.object_programs.specs.Run.{gives, State, outcome_of}
-use Rattle.object_programs.specs.Programs.{read}
-use Rattle.object_programs.proofs.Exact.{read_done}
-use Rattle.tree_meaning.specs.Place.{MadeBlock}
+use Rattle.running_objects.specs.gem_image.Image.{Contents}
+use Rattle.running_objects.specs.gem_world.World.{Setting, World, shown, is_private, is_among, touch}
+use Rattle.running_objects.specs.gem_world.Access.{a_read, is_allowed, touches_of, with_touches}
+use Rattle.running_objects.specs.gem_sound.Parts.{class_of}
+use Rattle.running_objects.specs.object_programs.Atom.{Done, Ask, done}
+use Rattle.running_objects.specs.object_programs.Laws.{answered}
+use Rattle.running_objects.specs.object_programs.Run.{gives, State, outcome_of}
+use Rattle.running_objects.specs.object_programs.Programs.{read}
+use Rattle.running_objects.proofs.object_programs_lemmas.Exact.{read_done}
+use Rattle.gem_language.specs.tree_meaning.Place.{MadeBlock}
 use Rattle.gem_language.specs.Comes.{Comes}
 use Rattle.gem_language.specs.LookUp.{Start, start_of_object}
 use Rattle.look_up_cache.specs.Lasting.{Lasting, lasting_body, lasting_of, class_in, is_settled}

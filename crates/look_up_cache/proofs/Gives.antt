@@ -1,19 +1,19 @@
 -- What is remembered is what a look-up finds now, and it changes nothing.
 use Rattle.std.proofs.Common.{◌≡◌, ◌∙◌, refl, sym, ap, subst, ℕ, suc, Bool, true, false, Option, Some, None, Ok}
 use Rattle.std.proofs.lemmas.Option.{same_Some}
-use Rattle.texts.specs.Bytes.{Bytes as Text}
+use Rattle.gem_object.specs.texts.Bytes.{Bytes as Text}
 use Rattle.gem_object.specs.declared.body.MethodCode.{MethodCode}
 use Rattle.gem_object.specs.declared.body.ClassBody.{ClassBody}
 use Rattle.gem_object.specs.declared.value.Value.{Value}
 use Rattle.gem_object.specs.declared.value.Value.TheVariants as value
-use Rattle.gem_image.specs.Image.{Contents}
-use Rattle.gem_world.specs.World.{Setting, World}
-use Rattle.gem_sound.specs.Parts.{class_of}
-use Rattle.gem_sound.specs.Kernel.{class_class}
-use Rattle.object_programs.specs.Guard.{chain_limit}
-use Rattle.object_programs.specs.Run.{give, gives, State, perform}
-use Rattle.object_programs.specs.Programs.{read}
-use Rattle.tree_meaning.specs.Place.{Frame, MadeBlock}
+use Rattle.running_objects.specs.gem_image.Image.{Contents}
+use Rattle.running_objects.specs.gem_world.World.{Setting, World}
+use Rattle.running_objects.specs.gem_sound.Parts.{class_of}
+use Rattle.running_objects.specs.gem_sound.Kernel.{class_class}
+use Rattle.running_objects.specs.object_programs.Guard.{chain_limit}
+use Rattle.running_objects.specs.object_programs.Run.{give, gives, State, perform}
+use Rattle.running_objects.specs.object_programs.Programs.{read}
+use Rattle.gem_language.specs.tree_meaning.Place.{Frame, MadeBlock}
 use Rattle.gem_language.specs.Comes.{Comes}
 use Rattle.gem_language.specs.declared.found.Found.{Found}
 use Rattle.gem_language.specs.LookUp.{FindingRun, methods_on, code_of, found_or, from_superclass, found_from, up_within, up_classes, past_last, Start, found_at, start_of_object, start_of_receiver, find_method}

@@ -1,15 +1,15 @@
 -- What is known remains known.
 use Rattle.std.proofs.Common.{◌≡◌, ◌∙◌, refl, sym, subst, ℕ, Bool, true, false, ◌&&◌, List, Option, Some, None, is_some, Result, Ok, Err, is_ok}
 use Rattle.std.proofs.lemmas.Bool.{false≢true, and_parts}
-use Rattle.texts.specs.Bytes.{Bytes as Text}
+use Rattle.gem_object.specs.texts.Bytes.{Bytes as Text}
 use Rattle.gem_object.specs.declared.body.MethodCode.{MethodCode}
 use Rattle.gem_object.specs.declared.body.Body.{Body}
 use Rattle.gem_object.specs.declared.object.Object.{Object}
 use Rattle.gem_update.specs.declared.update.Update.{Update}
-use Rattle.gem_image.specs.Image.{Contents}
-use Rattle.gem_world.specs.World.{Setting}
-use Rattle.gem_world.specs.Access.{Access}
-use Rattle.object_programs.specs.Atom.{Atom, Put, Note, Names, Tick, Room, Show}
+use Rattle.running_objects.specs.gem_image.Image.{Contents}
+use Rattle.running_objects.specs.gem_world.World.{Setting}
+use Rattle.running_objects.specs.gem_world.Access.{Access}
+use Rattle.running_objects.specs.object_programs.Atom.{Atom, Put, Note, Names, Tick, Room, Show}
 use Rattle.running_objects.specs.Seen.{Seen, object_at, IsSoundState}
 use Rattle.running_objects.specs.Acted.{Acted, Accessed, Owned, Known, Edited, Made}
 use Rattle.running_objects.specs.declared.stop.Stop.{Stop}

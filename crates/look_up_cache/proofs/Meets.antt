@@ -1,21 +1,21 @@
 -- A look-up for a receiver that was read first.
 use Rattle.std.proofs.Common.{subst, ℕ, false, Option, Result, Ok, Err}
-use Rattle.texts.specs.Bytes.{Bytes as Text}
+use Rattle.gem_object.specs.texts.Bytes.{Bytes as Text}
 use Rattle.gem_object.specs.declared.value.Value.{Value}
 use Rattle.gem_object.specs.declared.value.Value.TheVariants as value
-use Rattle.gem_world.specs.Access.{a_read}
-use Rattle.object_programs.specs.Run.{Run, and_then, Outcome}
+use Rattle.running_objects.specs.gem_world.Access.{a_read}
+use Rattle.running_objects.specs.object_programs.Run.{Run, and_then, Outcome}
 use Rattle.running_objects.specs.Seen.{Seen, with_local}
 use Rattle.running_objects.specs.Ran.{EndsSo}
 use Rattle.running_objects.specs.Acted.{Reached}
 use Rattle.running_objects.specs.declared.stop.Stop.{Stop}
-use Rattle.tree_meaning.specs.Place.{Frame, MadeBlock}
+use Rattle.gem_language.specs.tree_meaning.Place.{Frame, MadeBlock}
 use Rattle.gem_language.specs.LookUp.{Start, start_of_object, start_of_receiver, find_method}
 use Rattle.gem_language.specs.declared.found.Found.{Found}
 use Rattle.gem_language.proofs.Ends.{then_comes}
 use Rattle.prim_parts.specs.Does.{Does}
 use Rattle.prim_parts.proofs.Does.{does_give, does_atom, does_then, does_stop}
-use Rattle.object_programs.specs.Budget.{Budget}
+use Rattle.running_objects.specs.object_programs.Budget.{Budget}
 use Rattle.look_up_cache.specs.Memory.{Met, BeginsFor, FindsFor, with_budget}
 use Rattle.look_up_cache.proofs.AfterReads.{reached_begins}
 use Rattle.look_up_cache.proofs.Gives.{begins_does}

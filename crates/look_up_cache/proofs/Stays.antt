@@ -3,18 +3,18 @@ use Rattle.std.proofs.Common.{◌≡◌, ◌∙◌, refl, sym, ap, ap₂, subst,
 use Rattle.std.specs.FinMap.{get}
 use Rattle.std.proofs.lemmas.Bool.{false≢true, and_parts, and_from, or_cases, or_left, or_right, lt-ltb, ltb-true}
 use Rattle.std.proofs.lemmas.Option.{none-some}
-use Rattle.texts.specs.Bytes.{Bytes as Text}
-use Rattle.seg_rights.specs.Right.{allows_read}
-use Rattle.seg_rights.specs.declared.right.Right.{Right}
-use Rattle.seg_rights.specs.declared.rights.Rights.{Rights}
+use Rattle.gem_object.specs.texts.Bytes.{Bytes as Text}
+use Rattle.gem_object.specs.seg_rights.Right.{allows_read}
+use Rattle.gem_object.specs.seg_rights.declared.right.Right.{Right}
+use Rattle.gem_object.specs.seg_rights.declared.rights.Rights.{Rights}
 use Rattle.gem_object.specs.declared.body.Body.{Body}
 use Rattle.gem_object.specs.declared.body.Body.TheVariants.{Plain, Bytes, Dict, Class, Segment, User, Counter, Bag, RcDict, Queue}
-use Rattle.gem_image.specs.Image.{Contents, Objects, objects_in}
-use Rattle.gem_image.specs.Rights.{rights_of, groups_of, rights_at, groups_at, right_by, right_in, right_on_segment, right_on_body, right_on_object}
-use Rattle.gem_world.specs.World.{Setting, World, name_of, next_name, are_shared, shown, shown_objects, is_made, is_private, is_among}
-use Rattle.gem_world.specs.Access.{a_read, is_allowed}
-use Rattle.object_programs.specs.Guard.{chain_limit}
-use Rattle.gem_sound.specs.Kernel.{class_class}
+use Rattle.running_objects.specs.gem_image.Image.{Contents, Objects, objects_in}
+use Rattle.running_objects.specs.gem_image.Rights.{rights_of, groups_of, rights_at, groups_at, right_by, right_in, right_on_segment, right_on_body, right_on_object}
+use Rattle.running_objects.specs.gem_world.World.{Setting, World, name_of, next_name, are_shared, shown, shown_objects, is_made, is_private, is_among}
+use Rattle.running_objects.specs.gem_world.Access.{a_read, is_allowed}
+use Rattle.running_objects.specs.object_programs.Guard.{chain_limit}
+use Rattle.running_objects.specs.gem_sound.Kernel.{class_class}
 use Rattle.gem_language.specs.declared.found.Found.{Found}
 use Rattle.gem_language.specs.LookUp.{Start}
 use Rattle.look_up_cache.specs.Lasting.{Lasting, lasting_body, lasting_of, is_settled, Still}

@@ -3,17 +3,17 @@ use Rattle.std.proofs.Common.{◌≡◌, ◌∙◌, refl, sym, ap, subst, ℕ, �
 use Rattle.std.specs.FinMap.{get, insert}
 use Rattle.std.proofs.lemmas.Bool.{false≢true, eqb-true, eqb-false, or_right}
 use Rattle.std.proofs.lemmas.Option.{same_Some}
-use Rattle.radix_pages.proofs.Tables.{get-insert_same, get-insert_other}
+use Rattle.running_objects.proofs.radix_pages_lemmas.Tables.{get-insert_same, get-insert_other}
 use Rattle.gem_update.specs.declared.update.Update.{Update}
-use Rattle.gem_image.specs.Image.{Contents}
-use Rattle.gem_world.specs.World.{Setting, World, name_of, shown, is_made, is_private, is_among, with_name, touch}
-use Rattle.gem_world.specs.Changes.{put, make, note}
-use Rattle.gem_world.specs.Access.{a_read, is_allowed, touches_of, with_touches}
-use Rattle.object_programs.specs.Guard.{Parts}
-use Rattle.object_programs.specs.Atom.{touch_missing}
-use Rattle.object_programs.proofs.Worlds.{put_shown, make_shown}
-use Rattle.object_programs.proofs.Falling.{touch_grows, still_folded}
-use Rattle.object_programs.proofs.Frame.{now_there}
+use Rattle.running_objects.specs.gem_image.Image.{Contents}
+use Rattle.running_objects.specs.gem_world.World.{Setting, World, name_of, shown, is_made, is_private, is_among, with_name, touch}
+use Rattle.running_objects.specs.gem_world.Changes.{put, make, note}
+use Rattle.running_objects.specs.gem_world.Access.{a_read, is_allowed, touches_of, with_touches}
+use Rattle.running_objects.specs.object_programs.Guard.{Parts}
+use Rattle.running_objects.specs.object_programs.Atom.{touch_missing}
+use Rattle.running_objects.proofs.object_programs_lemmas.Worlds.{put_shown, make_shown}
+use Rattle.running_objects.proofs.object_programs_lemmas.Falling.{touch_grows, still_folded}
+use Rattle.running_objects.proofs.object_programs_lemmas.Frame.{now_there}
 use Rattle.look_up_cache.specs.Lasting.{Lasting, lasting_of, is_settled, Still}
 use Rattle.look_up_cache.specs.Calm.{Calm}
 use Rattle.look_up_cache.proofs.Calms.{Taken, taken}

@@ -1,23 +1,23 @@
 -- A look-up that found something leaves what is remembered of it.
 use Rattle.std.proofs.Common.{◌≡◌, ◌∙◌, refl, sym, ap, subst, ℕ, zero, suc, Bool, true, false, Option, Some, None, [], option_and_then, Ok}
-use Rattle.texts.specs.Bytes.{Bytes as Text}
+use Rattle.gem_object.specs.texts.Bytes.{Bytes as Text}
 use Rattle.gem_object.specs.declared.value.Value.{Value}
 use Rattle.gem_object.specs.declared.value.Value.TheVariants as value
 use Rattle.gem_object.specs.declared.body.MethodCode.{MethodCode}
 use Rattle.gem_object.specs.declared.body.ClassBody.{ClassBody}
-use Rattle.gem_image.specs.Image.{Contents}
-use Rattle.gem_world.specs.World.{Setting, World, shown}
-use Rattle.gem_world.specs.Access.{a_read, is_allowed, with_touches, accessed}
-use Rattle.gem_sound.specs.Parts.{class_of}
-use Rattle.gem_sound.specs.Kernel.{class_class}
-use Rattle.object_programs.specs.declared.fault.Fault.TheVariants as fault
-use Rattle.object_programs.specs.Local.{Local}
-use Rattle.object_programs.specs.Guard.{chain_limit}
-use Rattle.object_programs.specs.Atom.{Answer, says, access_answer}
-use Rattle.object_programs.specs.Run.{Run, give, and_then, Ending, gives, State, Outcome, end_of, perform}
-use Rattle.object_programs.specs.Programs.{read}
-use Rattle.tree_meaning.specs.Place.{Frame, MadeBlock}
-use Rattle.prim_rules.specs.Parts.{class_of_plain}
+use Rattle.running_objects.specs.gem_image.Image.{Contents}
+use Rattle.running_objects.specs.gem_world.World.{Setting, World, shown}
+use Rattle.running_objects.specs.gem_world.Access.{a_read, is_allowed, with_touches, accessed}
+use Rattle.running_objects.specs.gem_sound.Parts.{class_of}
+use Rattle.running_objects.specs.gem_sound.Kernel.{class_class}
+use Rattle.running_objects.specs.object_programs.declared.fault.Fault.TheVariants as fault
+use Rattle.running_objects.specs.object_programs.Local.{Local}
+use Rattle.running_objects.specs.object_programs.Guard.{chain_limit}
+use Rattle.running_objects.specs.object_programs.Atom.{Answer, says, access_answer}
+use Rattle.running_objects.specs.object_programs.Run.{Run, give, and_then, Ending, gives, State, Outcome, end_of, perform}
+use Rattle.running_objects.specs.object_programs.Programs.{read}
+use Rattle.gem_language.specs.tree_meaning.Place.{Frame, MadeBlock}
+use Rattle.gem_language.specs.prim_rules.Parts.{class_of_plain}
 use Rattle.gem_language.specs.Comes.{Comes}
 use Rattle.gem_language.specs.declared.found.Found.{Found}
 use Rattle.gem_language.specs.LookUp.{FindingRun, methods_on, code_of, found_or, from_superclass, found_from, up_within, up_classes, past_last, Start, found_at, start_of_object, start_of_receiver, start_of, find_method}

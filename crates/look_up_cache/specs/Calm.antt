@@ -3,9 +3,9 @@ use Rattle.std.specs.Prelude.{◌≡◌, ℕ, true, false, Some, None, Option, o
 use Rattle.gem_object.specs.declared.value.Value.{Value}
 use Rattle.gem_object.specs.declared.body.Body.{Body}
 use Rattle.gem_object.specs.declared.body.Body.TheVariants.{Class}
-use Rattle.gem_world.specs.World.{Setting, World, shown}
-use Rattle.gem_world.specs.Access.{a_read, is_allowed}
-use Rattle.prim_rules.specs.Parts.{class_of_plain}
+use Rattle.running_objects.specs.gem_world.World.{Setting, World, shown}
+use Rattle.running_objects.specs.gem_world.Access.{a_read, is_allowed}
+use Rattle.gem_language.specs.prim_rules.Parts.{class_of_plain}
 use Rattle.gem_language.specs.LookUp.{Start}
 use Rattle.look_up_cache.specs.Lasting.{Lasting, lasting_of, is_settled}
 

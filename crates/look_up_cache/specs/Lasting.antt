@@ -4,9 +4,9 @@ use Rattle.std.specs.FinMap.{get}
 use Rattle.gem_object.specs.declared.body.ClassBody.{ClassBody}
 use Rattle.gem_object.specs.declared.body.Body.{Body}
 use Rattle.gem_object.specs.declared.body.Body.TheVariants.{Class, Segment, User}
-use Rattle.gem_image.specs.Image.{Contents}
-use Rattle.gem_world.specs.World.{Setting, World, shown, is_private, is_among}
-use Rattle.gem_sound.specs.Parts.{class_of}
+use Rattle.running_objects.specs.gem_image.Image.{Contents}
+use Rattle.running_objects.specs.gem_world.World.{Setting, World, shown, is_private, is_among}
+use Rattle.running_objects.specs.gem_sound.Parts.{class_of}
 
 -- Its class and its segment, and its body where that is a class, a segment or a user.
 pub record Lasting : Type 0 where

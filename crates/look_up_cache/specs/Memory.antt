@@ -1,13 +1,13 @@
 -- What holds of all that is remembered.
 use Rattle.std.specs.Prelude.{◌≡◌, ℕ, Bool, true, false, List, map, Option, Some, Result, Ok, Err, IfSome, option_and_then}
-use Rattle.texts.specs.Bytes.{Bytes as Text}
+use Rattle.gem_object.specs.texts.Bytes.{Bytes as Text}
 use Rattle.gem_object.specs.declared.value.Value.{Value}
 use Rattle.gem_object.specs.declared.value.Value.TheVariants.{Ref}
 use Rattle.gem_object.specs.declared.body.MethodCode.{MethodCode}
-use Rattle.object_programs.specs.Budget.{Budget}
+use Rattle.running_objects.specs.object_programs.Budget.{Budget}
 use Rattle.gem_language.specs.declared.found.Found.{Found}
 use Rattle.gem_language.specs.LookUp.{Start}
-use Rattle.gem_world.specs.Access.{a_read}
+use Rattle.running_objects.specs.gem_world.Access.{a_read}
 use Rattle.running_objects.specs.Acted.{Accessed}
 use Rattle.running_objects.specs.Seen.{Seen}
 use Rattle.running_objects.specs.declared.stop.Stop.{Stop}

@@ -1,7 +1,7 @@
 -- That what is remembered remains, and what a look-up leaves.
 use Rattle.std.specs.Prelude.{◌≡◌, ℕ, Option}
-use Rattle.texts.specs.Bytes.{Bytes as Text}
-use Rattle.gem_world.specs.World.{Setting, World}
+use Rattle.gem_object.specs.texts.Bytes.{Bytes as Text}
+use Rattle.running_objects.specs.gem_world.World.{Setting, World}
 use Rattle.gem_language.specs.declared.found.Found.{Found}
 use Rattle.gem_language.specs.LookUp.{Start}
 use Rattle.running_objects.specs.Seen.{Seen}

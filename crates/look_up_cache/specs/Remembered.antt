@@ -1,11 +1,11 @@
 -- What a look-up finds, where all classes on its way can be read without a change of anything.
 use Rattle.std.specs.Prelude.{◌≡◌, ℕ, suc, Bool, true, false, Option, Some, None}
-use Rattle.texts.specs.Bytes.{Bytes as Text}
+use Rattle.gem_object.specs.texts.Bytes.{Bytes as Text}
 use Rattle.gem_object.specs.declared.body.MethodCode.{MethodCode}
 use Rattle.gem_object.specs.declared.body.ClassBody.{ClassBody}
-use Rattle.gem_world.specs.World.{Setting, World}
-use Rattle.gem_sound.specs.Kernel.{class_class}
-use Rattle.object_programs.specs.Guard.{chain_limit}
+use Rattle.running_objects.specs.gem_world.World.{Setting, World}
+use Rattle.running_objects.specs.gem_sound.Kernel.{class_class}
+use Rattle.running_objects.specs.object_programs.Guard.{chain_limit}
 use Rattle.gem_language.specs.declared.found.Found.{Found}
 use Rattle.gem_language.specs.LookUp.{Start, methods_on, code_of}
 use Rattle.look_up_cache.specs.Lasting.{Lasting, class_in}

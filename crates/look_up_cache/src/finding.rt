@@ -2,7 +2,7 @@
 ghost use Rattle.std.specs.Prelude.{◌≡◌, ◌<◌, true, ℕ, Some, option_map, IfOk, IfSome};
 ghost use Rattle.gem_object.specs.declared.body.MethodCode.{MethodCode};
 ghost use Rattle.gem_language.specs.LookUp.{Start, start_of_object};
-ghost use Rattle.gem_world.specs.Access.{a_read};
+ghost use Rattle.running_objects.specs.gem_world.Access.{a_read};
 ghost use Rattle.running_objects.specs.Acted.{Reached};
 ghost use Rattle.running_objects.specs.Seen.{Seen};
 ghost use Rattle.look_up_cache.specs.Calm.{Begins, plain_start};
@@ -14,13 +14,11 @@ use crate::kept::MethodCodeKept;
 use crate::memory::{Beginning, Entry, Memory, Receiver};
 use crate::table::{held_at, put_at};
 use gem_language::Found;
-use gem_object::{Body, Value};
-use gem_value::Oid;
+use gem_object::{Body, Oid, Text, Value};
 use prim_parts::class_of_plain;
 use running_objects::Objects;
 use std::alloc::AllocError;
 use std::mem;
-use texts::Text;
 
 /// Forgets all, unless it holds.
 #[tactic(auto, using(crate::proofs::Places::none_held, crate::proofs::Again::where_true))]

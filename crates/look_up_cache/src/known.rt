@@ -1,6 +1,6 @@
 //! Objects that remember look-ups.
 ghost use Rattle.std.specs.Prelude.{◌≡◌, false, Ok, IfSome, option_copied};
-ghost use Rattle.object_programs.specs.Budget.{Budget};
+ghost use Rattle.running_objects.specs.object_programs.Budget.{Budget};
 ghost use Rattle.gem_language.specs.LookUp.{find_method};
 ghost use Rattle.prim_parts.specs.Does.{Does};
 ghost use Rattle.look_up_cache.specs.Table.{held_at};
@@ -11,12 +11,11 @@ use crate::kept::MethodCodeKept;
 use crate::memory::Memory;
 use crate::table::held_at;
 use gem_language::Found;
-use gem_object::Value;
+use gem_object::{Text, Value};
 use running_objects::{Objects, Stop};
 use st_locals::Frame;
 use std::alloc::Global;
 use std::marker::Model;
-use texts::Text;
 
 /// Objects of a running transaction that remember look-ups. Contracts see the objects, and what was
 /// found, by places.

@@ -2,9 +2,8 @@
 ghost use Rattle.std.specs.Prelude.{◌≡◌, []};
 
 use gem_language::Found;
-use gem_value::Oid;
+use gem_object::{Oid, Text};
 use std::alloc::Global;
-use texts::Text;
 
 /// Where a look-up begins: at this class on this side, or past the last one.
 #[derive(Drop)]

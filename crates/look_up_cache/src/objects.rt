@@ -8,9 +8,8 @@ ghost use Rattle.look_up_cache.specs.Lasting.{lasting_body};
 use crate::finding::{is_calm, remember_read};
 use crate::kept::MethodCodeKept;
 use crate::known::KnownObjects;
-use gem_object::{Body, Object, Value};
+use gem_object::{Body, Object, Oid, Value};
 use gem_update::Update;
-use gem_value::Oid;
 use running_objects::{Objects, RunsChunks, Stop};
 
 impl<O: Objects, T: MethodCodeKept> Objects for KnownObjects<O, T> {

@@ -1,4 +1,5 @@
-//! Room: running. Tests `st_machine` beside the plain evaluator, on a `plain_state`.
+//! Room: running. Tests `st_machine`, with the tables of chunks on a `session_view`, and else on a
+//! `plain_state`.
 //!
 //! A crate that has its tests in itself is proved once more with them.
 #![tactic(auto)]

@@ -4,22 +4,20 @@ ghost use Rattle.std.specs.Prelude.{◌≡◌, ◌<◌};
 
 use crate::machine_tests::{Known, install_many, known, reply_to, send_many};
 use chunk_tables::{note, told};
-use gem_object::Value;
+use gem_object::{Oid, Text, Value};
 use gem_sound::names::UNDEFINED_OBJECT_CLASS;
-use gem_value::Oid;
 use plain_state::PlainState;
 use radix_pages::Steps;
 use running_objects::RunsChunks;
+use st_commands::Command;
 use st_compiler::compile;
 use st_locals::frame_without_scopes;
-use st_machine::{CodeCache, SharedCode, print_value, run_chunk, run_command};
+use st_machine::{CodeCache, SharedCode, run_chunk, run_command};
 use st_parser::parse_chunk;
-use st_plain::Command;
 use std::alloc::{AllocError, Global};
 use std::marker::Brand;
 use std::sync::ledger::{Blank, Ledger};
 use std::test::Fail;
-use texts::Text;
 
 /// The bytes of the longest text of a script.
 const LONGEST: usize = 65_536;
@@ -43,14 +41,6 @@ fn code_runs(
     };
     let code = SharedCode::of(alloc, compile(&tree)?)?;
     Ok(matches!(run_chunk(alloc, state, cache, &code), Ok(Value::Int(7))))
-}
-
-/// Whether -7 is printed so.
-fn value_prints(alloc: Global, state: &mut Known<PlainState>) -> bool {
-    match print_value(alloc, state, &Value::Int(-7)) {
-        Ok(text) => text.bytes() == b"-7".as_slice(),
-        Err(_) => false,
-    }
 }
 
 /// Whether a command is replied to so.
@@ -116,8 +106,7 @@ fn check_parts(
     cache: &mut CodeCache,
     wrong: &mut String,
 ) -> Result<(), AllocError> {
-    note_unless(wrong, "run_chunk", code_runs(alloc, state, cache)?)?;
-    note_unless(wrong, "print_value", value_prints(alloc, state))
+    note_unless(wrong, "run_chunk", code_runs(alloc, state, cache)?)
 }
 
 /// Runs commands: a chunk that makes a class, a method of it, and a chunk that sends it.

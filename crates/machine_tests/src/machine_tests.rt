@@ -1,16 +1,17 @@
-// What the machine replies to commands: what the plain evaluator replies, on the image of the
-// kernel.
+// What the machine replies to commands, on the image of the kernel.
 ghost use Rattle.std.specs.Prelude.{◌≡◌, ◌<◌};
 
 use chunk_tables::{
-    ANY, BLOCKS, CLASSES, DICTIONARIES, FORMS, LIMITS, NUMBERS, RIGHTS, SCRIPTS, SEQUENCES, SHARED,
-    STRINGS, note, told,
+    ANY, BLOCKS, CLASSES, DICTIONARIES, FORMS, LIMITS, NAMES_LEFT, NUMBERS, RIGHTS, SCRIPTS,
+    SEQUENCES, SHARED, STRINGS, note, told,
 };
+use gem_object::Text;
 use kernel_state::{Begins, begin};
 use look_up_cache::KnownObjects;
 use plain_state::PlainState;
 use radix_pages::Steps;
 use running_objects::RunsChunks;
+use session_view::View;
 use st_machine::{CodeCache, SharedCode};
 use std::alloc::{AllocError, Global};
 use std::marker::Brand;
@@ -18,7 +19,6 @@ use std::sync::ledger::{Blank, Ledger};
 use std::test::Fail;
 use std::thread;
 use std::thread::Builder;
-use texts::Text;
 
 /// The bytes of stack of a thread that runs chunks.
 const STACK: usize = 256 << 20;
@@ -116,34 +116,19 @@ pub(crate) fn reply_to<S: Begins>(
     told(alloc, &reply)
 }
 
-/// What the plain evaluator replies to a chunk whose value is printed.
-fn plain_reply_to<S: Begins>(
-    alloc: Global,
-    state: &mut S,
-    chunk: &str,
-) -> Result<Vec<u8>, AllocError> {
-    state.begin_chunk();
-    let text = Text::copy_of(alloc, chunk.as_bytes())?;
-    let reply = st_plain::run_text(alloc, state, true, &text)?;
-    told(alloc, &reply)
-}
-
-/// Whether both reply to a chunk as is wanted, each on a state of its own.
-fn both_reply<S: Begins, L: Ledger>(
+/// Whether a chunk is replied to so, on a state of its own.
+fn replies<S: Begins, L: Ledger>(
     alloc: Global,
     cache: &mut CodeCache,
     chunk: &str,
     wanted: &str,
     steps: &mut Steps<L>,
 ) -> Result<bool, AllocError> {
-    let mut first = known::<S, L>(alloc, steps)?;
-    let mut second = begin::<S, L>(alloc, 1, steps)?;
-    let reply = reply_to(alloc, &mut first, cache, true, chunk)?;
-    let plain = plain_reply_to(alloc, &mut second, chunk)?;
-    Ok(reply.as_slice() == wanted.as_bytes() && plain.as_slice() == wanted.as_bytes())
+    let mut state = known::<S, L>(alloc, steps)?;
+    Ok(reply_to(alloc, &mut state, cache, true, chunk)?.as_slice() == wanted.as_bytes())
 }
 
-/// Runs each of these chunks by both. Those that aren't replied to as they should be are noted.
+/// Runs each of these chunks. Those that aren't replied to as they should be are noted.
 fn check_rows<S: Begins, L: Ledger>(
     alloc: Global,
     cache: &mut CodeCache,
@@ -156,7 +141,7 @@ fn check_rows<S: Begins, L: Ledger>(
             note(wrong, row)?;
             continue;
         };
-        if !both_reply::<S, L>(alloc, cache, chunk, wanted, steps)? {
+        if !replies::<S, L>(alloc, cache, chunk, wanted, steps)? {
             note(wrong, row)?;
         }
     }
@@ -183,7 +168,7 @@ fn reply_to_command<S: Begins>(
     };
     let class = Text::copy_of(alloc, class.as_bytes())?;
     let source = Text::copy_of(alloc, source.as_bytes())?;
-    let reply = st_plain::install_source(alloc, state, word == "class", &class, &source)?;
+    let reply = st_commands::install_source(alloc, state, word == "class", &class, &source)?;
     told(alloc, &reply)
 }
 
@@ -231,6 +216,54 @@ fn check_scripts<S: Begins, L: Ledger>(
             state = known::<S, L>(alloc, steps)?;
             continue;
         }
+        check_line(alloc, &mut state, cache, line, wrong)?;
+    }
+    Ok(())
+}
+
+/// What is written on the transcript.
+fn check_transcript<S: Begins, L: Ledger>(
+    alloc: Global,
+    cache: &mut CodeCache,
+    steps: &mut Steps<L>,
+    wrong: &mut String,
+) -> Result<(), AllocError> {
+    let mut state = known::<S, L>(alloc, steps)?;
+    let chunk = "Transcript show: 'ab' , 'c'; cr; show: 3 printString. 7";
+    let reply = reply_to(alloc, &mut state, cache, true, chunk)?;
+    if reply.as_slice() == b"7".as_slice() && state.transcript() == b"abc\n3".as_slice() {
+        return Ok(());
+    }
+    note(wrong, chunk)
+}
+
+/// What was written on the transcript stays there after an error.
+fn check_kept_transcript<S: Begins, L: Ledger>(
+    alloc: Global,
+    cache: &mut CodeCache,
+    steps: &mut Steps<L>,
+    wrong: &mut String,
+) -> Result<(), AllocError> {
+    let mut state = known::<S, L>(alloc, steps)?;
+    let chunk = "Transcript show: 'a'. 3 foo";
+    let reply = reply_to(alloc, &mut state, cache, true, chunk)?;
+    let wanted = b"error E1 not understood: foo";
+    if reply.as_slice() == wanted.as_slice() && state.transcript() == b"a".as_slice() {
+        return Ok(());
+    }
+    note(wrong, chunk)
+}
+
+/// What is made where no more than two names are left.
+fn check_names<S: Begins, L: Ledger>(
+    alloc: Global,
+    cache: &mut CodeCache,
+    steps: &mut Steps<L>,
+    wrong: &mut String,
+) -> Result<(), AllocError> {
+    let objects = begin::<S, L>(alloc, (1 << 24) - 2, steps)?;
+    let mut state = KnownObjects::new(alloc, objects);
+    for line in NAMES_LEFT.lines() {
         check_line(alloc, &mut state, cache, line, wrong)?;
     }
     Ok(())
@@ -291,6 +324,9 @@ fn wrong_lines<S: Begins, L: Ledger>(alloc: Global, blank: Blank) -> Result<Stri
     let mut wrong = String::new(alloc);
     let mut cache = CodeCache::new(alloc)?;
     check_scripts::<S, L>(alloc, &mut cache, SCRIPTS, &mut steps, &mut wrong)?;
+    check_transcript::<S, L>(alloc, &mut cache, &mut steps, &mut wrong)?;
+    check_kept_transcript::<S, L>(alloc, &mut cache, &mut steps, &mut wrong)?;
+    check_names::<S, L>(alloc, &mut cache, &mut steps, &mut wrong)?;
     check_remembered::<S, L>(alloc, &mut cache, CHANGES, &mut steps, &mut wrong)?;
     Ok(wrong)
 }
@@ -305,7 +341,7 @@ pub(crate) fn install_many<S: Begins>(
         state.begin_chunk();
         let source = format!(in alloc; "m{number} ^{number}")?;
         let source = Text::copy_of(alloc, source.as_bytes())?;
-        st_plain::install_source(alloc, state, false, &class, &source)?;
+        st_commands::install_source(alloc, state, false, &class, &source)?;
     }
     Ok(())
 }
@@ -376,7 +412,7 @@ fn sends_by_brand<S: Begins>(alloc: Global) -> Result<String, AllocError> {
 #[test]
 fn machine_rows(rt: HostRuntime) -> Result<(), Fail> {
     let wrong = thread::scope(thread::scope_env(), &rt, |scope| {
-        let work = || rows_by_brand::<PlainState>(rt.alloc());
+        let work = || rows_by_brand::<View>(rt.alloc());
         match Builder::new().stack_size(STACK).spawn_scoped(scope, work) {
             Ok(child) => child.join(&rt),
             Err(_) => Err(AllocError),
@@ -389,7 +425,7 @@ fn machine_rows(rt: HostRuntime) -> Result<(), Fail> {
 #[test]
 fn machine_scripts(rt: HostRuntime) -> Result<(), Fail> {
     let wrong = thread::scope(thread::scope_env(), &rt, |scope| {
-        let work = || lines_by_brand::<PlainState>(rt.alloc());
+        let work = || lines_by_brand::<View>(rt.alloc());
         match Builder::new().stack_size(STACK).spawn_scoped(scope, work) {
             Ok(child) => child.join(&rt),
             Err(_) => Err(AllocError),

@@ -3,12 +3,11 @@ ghost use Rattle.std.specs.Prelude.{◌≡◌, IfOk};
 ghost use Rattle.object_programs.specs.Fault.{fault_number, fault_text};
 ghost use Rattle.gem_replies.specs.declared.reply.Line as Line;
 
+use gem_object::{Oid, Text};
 use gem_replies::{History, Line, Replies, Reply, RunBook, Transcript, Transcripts, report_text};
-use gem_value::Oid;
 use object_programs::Fault;
 use std::alloc::{AllocError, Global};
 use std::test::Fail;
-use texts::Text;
 
 // The reply to a chunk that this error ended.
 fn error_line(alloc: Global, fault: &Fault) -> Result<Line, AllocError>

@@ -2,7 +2,7 @@
 use Rattle.std.proofs.Common.{◌≡◌, refl, ap, ◌&&◌, List, [], ◌∷◌, map}
 use Rattle.std.specs.List.{list_all}
 use Rattle.gem_object.specs.declared.object.Object.{Object}
-use Rattle.gem_image.specs.Image.{contents_of}
+use Rattle.object_programs.specs.gem_image.Image.{contents_of}
 use Rattle.object_programs.specs.Budget.{is_within_limits}
 
 -- each of the objects is within the limits

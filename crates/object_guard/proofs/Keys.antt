@@ -7,9 +7,9 @@ use Rattle.std.specs.Ordering.{is_lt}
 use Rattle.std.specs.declared.cmp.Ordering.{Ordering}
 use Rattle.std.specs.declared.cmp.Ordering.TheVariants.{Less}
 use Rattle.std.proofs.lemmas.Bool.{and_from, or_from, not_from_false, lt-ltb}
-use Rattle.insertion_map.specs.Pairs.{AreDistinct}
-use Rattle.rc_counter_bag.specs.Bag.{IsBag}
-use Rattle.rc_dict.specs.Dict.{IsDict}
+use Rattle.gem_object.specs.insertion_map.Pairs.{AreDistinct}
+use Rattle.gem_object.specs.rc_counter_bag.Bag.{IsBag}
+use Rattle.gem_object.specs.rc_dict.Dict.{IsDict}
 use Rattle.gem_object.specs.Order.{value_order, same_value}
 use Rattle.gem_object.specs.Spelling.{is_key}
 use Rattle.gem_object.specs.contracts.value.ValuePartialEq.TheImpl as equality

@@ -3,7 +3,7 @@ use Rattle.std.proofs.Common.{◌≡◌, ◌∙◌, refl, sym, ap, ℕ, suc, ◌
 use Rattle.std.specs.List.{flat_map}
 use Rattle.std.proofs.lemmas.List.Elements.{filter-append}
 use Rattle.gem_object.specs.declared.object.Object.{Object}
-use Rattle.gem_image.specs.Image.{contents_of}
+use Rattle.object_programs.specs.gem_image.Image.{contents_of}
 use Rattle.object_programs.specs.Fixed.{ClassPart, Fixed}
 use Rattle.object_programs.specs.Guard.{Parts, line_above, line_of_class, line_of_part, line_within, line_at, asked_names}
 use Rattle.object_programs.specs.Atom.{asked_by_all}

@@ -3,7 +3,7 @@ use Rattle.std.proofs.Common.{◌≡◌, ◌∙◌, refl, sym, ap, ℕ, suc, ◌
 use Rattle.std.proofs.lemmas.Bool.{le-leb, lt-leb}
 use Rattle.std.proofs.lemmas.Bool.Decides.{leb_tells}
 use Rattle.std.proofs.lemmas.List.{length-append}
-use Rattle.texts.specs.Bytes.{Bytes as Text}
+use Rattle.gem_object.specs.texts.Bytes.{Bytes as Text}
 use Rattle.object_programs.specs.Fixed.{ClassPart, Fixed}
 use Rattle.object_programs.specs.Guard.{Parts, holds_of, names_above, names_of_class, names_of_part, names_within, names_at}
 use Rattle.object_programs.specs.Programs.{part_of}

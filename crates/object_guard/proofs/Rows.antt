@@ -2,7 +2,7 @@
 use Rattle.std.proofs.Common.{◌≡◌, refl, sym, ℕ, zero, suc, List, map}
 use Rattle.std.specs.Option.{option_map}
 use Rattle.std.proofs.lemmas.Option.{slice_get-map}
-use Rattle.gem_sound.specs.Kernel.{numbered}
+use Rattle.object_programs.specs.gem_sound.Kernel.{numbered}
 
 pub numbered_map : {X Y : Type 0} (f : X → Y) (items : List X) (number : ℕ)
     → option_map f (numbered items number) ≡ numbered (map f items) number

@@ -1,7 +1,7 @@
 -- What the table of the kernel's objects says.
 use Rattle.std.specs.Prelude.{ℕ, Option}
 use Rattle.gem_object.specs.declared.kind.Kind.{Kind}
-use Rattle.gem_sound.specs.Kernel.{KernelClass, KernelBody, a_class, a_dictionary, a_segment, a_user, no_slots}
+use Rattle.object_programs.specs.gem_sound.Kernel.{KernelClass, KernelBody, a_class, a_dictionary, a_segment, a_user, no_slots}
 use Rattle.object_guard.specs.declared.kernel.KernelBody.{KernelBody as BodyRow}
 use Rattle.object_guard.specs.declared.kernel.KernelBody.TheVariants.{Class, Dictionary, Segment, User, NoSlots}
 

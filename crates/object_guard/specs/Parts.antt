@@ -1,9 +1,9 @@
 -- What of an object the guard sees, and how many names a class has.
 use Rattle.std.specs.Prelude.{ℕ, ◌-◌, Bool, cond, nat_le, length, List, Option, None, map, slice_get}
-use Rattle.texts.specs.Bytes.{Bytes as Text}
+use Rattle.gem_object.specs.texts.Bytes.{Bytes as Text}
 use Rattle.gem_object.specs.declared.body.ClassBody.{ClassBody}
 use Rattle.gem_object.specs.declared.object.Object.{Object}
-use Rattle.gem_image.specs.Image.{contents_of}
+use Rattle.object_programs.specs.gem_image.Image.{contents_of}
 use Rattle.object_programs.specs.Fixed.{ClassPart, Fixed, fixed_of}
 use Rattle.object_programs.specs.Guard.{Parts, with_parts}
 

@@ -5,8 +5,7 @@ ghost use Rattle.object_programs.specs.Programs.{part_of};
 ghost use Rattle.object_guard.specs.Parts.{part_of_class, has_room};
 
 use crate::sees::Sees;
-use gem_object::{Body, ClassBody};
-use gem_value::Oid;
+use gem_object::{Body, ClassBody, Oid};
 
 /// More classes than there are names are never gone through.
 pub(crate) const CHAIN_LIMIT: u64 = 1 << 48;

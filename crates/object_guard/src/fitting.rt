@@ -3,9 +3,9 @@ ghost use Rattle.std.specs.Prelude.{◌≡◌, ◌+◌, ◌≤◌, ◌^◌, ℕ,
 ghost use Rattle.std.specs.List.{list_all};
 ghost use Rattle.gem_object.specs.Edits.{plain_slots};
 ghost use Rattle.gem_object.specs.References.{names_in_body};
-ghost use Rattle.gem_image.specs.Image.{contents_of};
-ghost use Rattle.gem_sound.specs.Kernel.{kernel_class};
-ghost use Rattle.gem_sound.specs.Sound.{names_in, has_named_slots};
+ghost use Rattle.object_programs.specs.gem_image.Image.{contents_of};
+ghost use Rattle.object_programs.specs.gem_sound.Kernel.{kernel_class};
+ghost use Rattle.object_programs.specs.gem_sound.Sound.{names_in, has_named_slots};
 ghost use Rattle.object_programs.specs.Fixed.{class_part, same_number};
 ghost use Rattle.object_programs.specs.Guard.{Parts, with_part, is_known, is_segment_at, is_user_at, is_dictionary_at, is_class_object, is_transcript, accepts, named_fit, kernel_fits, kind_is_inherited, row_fits, place_fits, holds_of, are_few, names_of_class, names_at, fits, with_parts, all_fit};
 ghost use Rattle.object_programs.specs.Methods.{methods_fit};
@@ -19,8 +19,7 @@ use crate::known::{is_there, knows_all};
 use crate::sees::Sees;
 use crate::spelled::is_spelled;
 use crate::together::Together;
-use gem_object::{Body, ClassBody, Kind, Object};
-use gem_value::Oid;
+use gem_object::{Body, ClassBody, Kind, Object, Oid};
 use object_programs::NAMES_LIMIT;
 use std::slice;
 

@@ -1,6 +1,6 @@
 //! What the kernel's objects are.
 ghost use Rattle.std.specs.Prelude.{◌≡◌, map, slice_get, option_map};
-ghost use Rattle.gem_sound.specs.Kernel.{kernel_class, kernel_classes, kernel_body, kernel_bodies, numbered, has_kind};
+ghost use Rattle.object_programs.specs.gem_sound.Kernel.{kernel_class, kernel_classes, kernel_body, kernel_bodies, numbered, has_kind};
 ghost use Rattle.object_programs.specs.Guard.{kernel_fits};
 ghost use Rattle.object_guard.specs.Kernel.{class_of, body_of};
 

@@ -9,9 +9,7 @@ ghost use Rattle.running_objects.specs.Fitting.{is_known_value};
 ghost use Rattle.object_guard.specs.Known.{is_known_pair, is_known_item};
 
 use crate::sees::Sees;
-use gem_object::{Body, Dictionary, Value};
-use gem_value::Oid;
-use rc_queue::Queue;
+use gem_object::{Body, Dictionary, Oid, Queue, Value};
 
 /// Whether there is an object of this name.
 pub(crate) fn is_there<S: Sees>(state: &S, oid: Oid) -> bool

@@ -1,12 +1,12 @@
 //! What objects take that are made, and whether they are within the limits of objects.
 ghost use Rattle.std.specs.Prelude.{◌≡◌, ◌^◌, ◌-◌, ◌+◌, min, map, sum_by};
 ghost use Rattle.std.specs.List.{list_all};
-ghost use Rattle.gem_image.specs.Image.{contents_of};
-ghost use Rattle.object_programs.specs.Budget.{bytes_cost, object_cost, is_within_limits};
+ghost use Rattle.object_programs.specs.gem_image.Image.{contents_of};
+ghost use Rattle.object_programs.specs.Budget.{object_cost, is_within_limits};
 ghost use Rattle.object_programs.specs.Atom.{objects_cost};
 
 use gem_object::{Body, Object};
-use object_programs::{BYTES_LIMIT, SLOTS_LIMIT};
+use object_programs::{BYTES_LIMIT, SLOTS_LIMIT, bytes_cost};
 
 /// Whether each of the objects is within the limits of objects: its slots, and its bytes where it
 /// is stored. It takes no memory, and looks at each value once.
@@ -50,11 +50,4 @@ fn object_cost(body: &Body) -> u64
         Body::User(_) => 1,
         _ => body.slots().saturating_add(1),
     }
-}
-
-// A slot for each 8 bytes that are begun.
-fn bytes_cost(bytes: u64) -> u64
-    ensures { result ≡ bytes_cost bytes }
-{
-    bytes / 8 + u64::from(bytes % 8 > 0)
 }

@@ -1,7 +1,7 @@
 //! The names that objects ask for and that are missing.
 ghost use Rattle.std.specs.Prelude.{◌≡◌, ◌+◌, ◌++◌, ◌≤◌, ◌^◌, length, map, filter, IfOk, OnOk};
 ghost use Rattle.std.specs.Option.{option_to_list};
-ghost use Rattle.gem_image.specs.Image.{contents_of};
+ghost use Rattle.object_programs.specs.gem_image.Image.{contents_of};
 ghost use Rattle.object_programs.specs.Guard.{line_at, line_of_class, asked_names};
 ghost use Rattle.object_programs.specs.Fixed.{class_part};
 ghost use Rattle.object_programs.specs.Atom.{asked_by_all};
@@ -11,8 +11,7 @@ ghost use Rattle.object_guard.specs.Missing.{is_missing, missing_of, HaveNames, 
 use crate::classes::CHAIN_LIMIT;
 use crate::sees::Sees;
 use crate::together::Together;
-use gem_object::{Body, Object};
-use gem_value::Oid;
+use gem_object::{Body, Object, Oid};
 use std::alloc::{AllocError, Global};
 
 /// The names that new objects ask for where no object is, when all of the new ones are there: the

@@ -4,9 +4,7 @@ ghost use Rattle.std.specs.Cmp.Lexicographic.{pointwise};
 ghost use Rattle.object_programs.specs.Fixed.{body_kind, class_part, same_fixed, same_body_kind, same_number, same_part};
 ghost use Rattle.object_guard.specs.Parts.{fixed_part, part_of_class};
 
-use gem_object::{Body, ClassBody, Object};
-use gem_value::Oid;
-use texts::Text;
+use gem_object::{Body, ClassBody, Object, Oid, Text};
 
 /// Whether two objects have the same fixed part: the same class and the same kind of body, and
 /// where both are classes the same superclass, kind of instances and names. It takes no memory.

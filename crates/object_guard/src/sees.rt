@@ -3,8 +3,7 @@ ghost use Rattle.std.specs.Prelude.{◌≡◌, ℕ, Option, option_map, option_c
 ghost use Rattle.object_programs.specs.Guard.{Parts};
 ghost use Rattle.object_guard.specs.Parts.{fixed_part};
 
-use gem_object::Object;
-use gem_value::Oid;
+use gem_object::{Object, Oid};
 
 /// A state that shows its objects by their names. The guard sees of each its fixed part alone: its
 /// class, the kind of its body, and what of a class is fixed.

@@ -2,20 +2,15 @@
 ghost use Rattle.std.specs.Prelude.{◌≡◌, ◌&&◌, ◌^◌, nat_lt, length, map};
 ghost use Rattle.std.specs.List.{list_all};
 ghost use Rattle.std.specs.Cmp.Lexicographic.{slice_cmp};
-ghost use Rattle.texts.specs.Bytes.{Bytes};
+ghost use Rattle.gem_object.specs.texts.Bytes.{Bytes};
 ghost use Rattle.object_programs.specs.Spelled.{is_plain_byte, is_oid, is_text, texts_ascend, is_storable, are_storable, is_storable_pair, is_dictionary_body, is_code, is_method, are_methods, is_superclass, is_class_body, is_given, is_segment_body, is_user_body, occurs, are_items, is_key_dictionary, is_spelled};
-ghost use Rattle.gem_object.specs.Spelling.{is_key};
 ghost use Rattle.running_objects.specs.Fitting.{can_count};
 ghost use Rattle.object_guard.specs.Spelled.{is_entry, is_key_pair, is_item};
 
-use gem_object::{Body, ClassBody, Dictionary, Method, MethodCode, UserBody, Value};
-use gem_value::Oid;
-use profile::is_small_integer;
-use rc_counter_bag::Bag;
-use rc_dict::KeyDict;
-use rc_queue::Queue;
-use seg_rights::{Right, Rights};
-use texts::Text;
+use gem_object::{
+    Bag, Body, ClassBody, Dictionary, KeyDict, Method, MethodCode, Oid, Queue, Right, Rights, Text,
+    UserBody, Value, is_small_integer,
+};
 
 /// The bytes that a text has at most where it is stored.
 const TEXT_LIMIT: usize = 1000;
@@ -295,25 +290,10 @@ fn all_items(pairs: &[(Value, u64)]) -> bool
     pairs.iter().all(|pair| is_item(pair))
 }
 
-fn is_key(key: &Value) -> bool
-    ensures { result ≡ is_key key.now }
-{
-    match key {
-        Value::Nil => false,
-        Value::False => true,
-        Value::True => true,
-        Value::Int(_) => true,
-        Value::Char(_) => true,
-        Value::Sym(_) => true,
-        Value::Ref(_) => false,
-        Value::Block(_) => false,
-    }
-}
-
 fn is_key_pair(pair: &(Value, Value)) -> bool
     ensures { result ≡ is_key_pair pair.now }
 {
-    is_storable(&pair.0) && is_storable(&pair.1) && is_key(&pair.0)
+    is_storable(&pair.0) && is_storable(&pair.1) && pair.0.is_key()
 }
 
 // That its keys ascend holds of every such dictionary.

@@ -3,8 +3,7 @@ ghost use Rattle.std.specs.Prelude.{◌≡◌, ◌+◌, option_map, option_copie
 ghost use Rattle.object_guard.specs.Parts.{with_objects, new_object};
 
 use crate::sees::Sees;
-use gem_object::Object;
-use gem_value::Oid;
+use gem_object::{Object, Oid};
 
 /// A state with new objects: the first of them has a name, and each of the others the name after
 /// that of the one before it. At these names the new objects are seen, and at any other one what

@@ -9,7 +9,7 @@ use Rattle.std.proofs.lemmas.Bool.{false≢true, and_from, or_left, or_right, or
 use Rattle.std.proofs.lemmas.List.Elements.{All-head, All-tail}
 use Rattle.std.proofs.lemmas.Option.{same_Some}
 use Rattle.std.proofs.lemmas.Map.Steps.{length-le_from_distinct_below}
-use Rattle.texts.specs.Bytes.{Bytes as Text}
+use Rattle.gem_object.specs.texts.Bytes.{Bytes as Text}
 use Rattle.gem_object.specs.Kinds as kinds
 use Rattle.gem_object.specs.Kinds.{is_shared, kind_number}
 use Rattle.gem_object.specs.Spelling.{IsSpelledBody}
@@ -19,8 +19,8 @@ use Rattle.gem_object.specs.declared.body.ClassBody.{ClassBody}
 use Rattle.gem_object.specs.declared.body.Body.{Body}
 use Rattle.gem_object.specs.declared.body.Body.TheVariants.{Plain, Bytes, Dict, Class, Segment, User, Counter, Bag, RcDict, Queue}
 use Rattle.gem_object.specs.declared.object.Object.{Object}
-use Rattle.gem_image.specs.Image.{Image, IsImage, Contents, contents_of, Objects, objects_in}
-use Rattle.gem_image.specs.Rights.{rights_of, rights_at}
+use Rattle.gem_world.specs.gem_image.Image.{Image, IsImage, Contents, contents_of, Objects, objects_in}
+use Rattle.gem_world.specs.gem_image.Rights.{rights_of, rights_at}
 use Rattle.gem_world.specs.World.{Setting, World, untouched, as_of, before_changes, name_of, shown}
 use Rattle.gem_sound.specs.Parts.{class_of, user_of, dictionary_of, class_at}
 use Rattle.gem_sound.specs.Kernel.{object_class, class_class, transcript_class, KernelClass, kernel_class, KernelBody, kernel_body}

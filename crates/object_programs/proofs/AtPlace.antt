@@ -7,7 +7,7 @@ use Rattle.std.specs.Ordering.{nat_cmp}
 use Rattle.std.proofs.lemmas.Bool.{false≢true}
 use Rattle.std.proofs.lemmas.Option.{same_Some}
 use Rattle.gem_object.specs.Kinds.{is_shared}
-use Rattle.gem_image.specs.Image.{Image, Contents, objects_in}
+use Rattle.gem_world.specs.gem_image.Image.{Image, Contents, objects_in}
 use Rattle.gem_world.specs.World.{Setting, World, untouched, name_of, as_of, before_changes, shown}
 use Rattle.object_programs.specs.Fixed.{fixed_of, fixed_by}
 use Rattle.object_programs.specs.Guard.{is_user, fits}

@@ -3,12 +3,12 @@ use Rattle.std.proofs.Common.{◌≡◌, ◌∙◌, refl, ap, ℕ, zero, suc, �
 use Rattle.std.proofs.Math.Path.{fun_ext}
 use Rattle.std.specs.FinMap.{get}
 use Rattle.std.proofs.lemmas.Bool.{and_from, and_left, and_right, or_left, or_right, not_from_false, le-leb, lt-leb}
-use Rattle.texts.specs.Bytes.{Bytes as Text}
+use Rattle.gem_object.specs.texts.Bytes.{Bytes as Text}
 use Rattle.gem_object.specs.Kinds.{is_shared}
 use Rattle.gem_object.specs.declared.body.Body.{Body}
-use Rattle.gem_update.specs.Update.{updated}
-use Rattle.gem_update.specs.declared.update.Update.{Update}
-use Rattle.gem_image.specs.Image.{Contents}
+use Rattle.gem_world.specs.gem_update.Update.{updated}
+use Rattle.gem_world.specs.gem_update.declared.update.Update.{Update}
+use Rattle.gem_world.specs.gem_image.Image.{Contents}
 use Rattle.gem_world.specs.World.{Setting, World, shown, is_made, with_name, touch}
 use Rattle.gem_world.specs.Changes.{with_body, put, note}
 use Rattle.gem_world.specs.Access.{a_read, a_write, is_allowed, with_touches, accessed}

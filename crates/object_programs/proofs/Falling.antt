@@ -4,13 +4,13 @@ use Rattle.std.specs.FinMap.{get}
 use Rattle.std.proofs.lemmas.Bool.{cond_both, or_left}
 use Rattle.std.proofs.lemmas.List.Folds.{list_any-append}
 use Rattle.std.proofs.lemmas.List.Sums.{sum_by-cons}
-use Rattle.texts.specs.Bytes.{Bytes as Text}
+use Rattle.gem_object.specs.texts.Bytes.{Bytes as Text}
 use Rattle.gem_object.specs.Kinds.{is_shared}
 use Rattle.gem_object.specs.declared.body.Body.{Body}
 use Rattle.gem_object.specs.declared.body.Body.TheVariants.{Plain, Bytes, Dict, Class, Segment, User, Counter, Bag, RcDict, Queue}
-use Rattle.gem_update.specs.Update.{updated}
-use Rattle.gem_update.specs.declared.update.Update.{Update}
-use Rattle.gem_image.specs.Image.{Contents}
+use Rattle.gem_world.specs.gem_update.Update.{updated}
+use Rattle.gem_world.specs.gem_update.declared.update.Update.{Update}
+use Rattle.gem_world.specs.gem_image.Image.{Contents}
 use Rattle.gem_world.specs.World.{Setting, World, name_of, is_among, with_name, is_private, shown, touch}
 use Rattle.gem_world.specs.Changes.{with_body, in_segment, put, make, note}
 use Rattle.gem_world.specs.Access.{Access, a_read, a_write, IsTouched, is_allowed, touches_of, with_touches, after_allowed, accessed}

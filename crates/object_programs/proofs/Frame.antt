@@ -7,10 +7,10 @@ use Rattle.std.proofs.lemmas.Bool.{false≢true, and_parts, and_from, or_right, 
 use Rattle.std.proofs.lemmas.List.Folds.{list_any-append}
 use Rattle.gem_object.specs.declared.body.Body.{Body}
 use Rattle.gem_object.specs.declared.body.Body.TheVariants.{Plain, Bytes, Dict, Class, Segment, User, Counter, Bag, RcDict, Queue}
-use Rattle.gem_update.specs.Update.{updated}
-use Rattle.gem_update.specs.declared.update.Update.{Update}
-use Rattle.gem_image.specs.Image.{Image, Contents, objects_in}
-use Rattle.gem_image.specs.Rights.{rights_of, groups_of, right_by, right_on_body, right_on_object}
+use Rattle.gem_world.specs.gem_update.Update.{updated}
+use Rattle.gem_world.specs.gem_update.declared.update.Update.{Update}
+use Rattle.gem_world.specs.gem_image.Image.{Image, Contents, objects_in}
+use Rattle.gem_world.specs.gem_image.Rights.{rights_of, groups_of, right_by, right_on_body, right_on_object}
 use Rattle.gem_world.specs.World.{Setting, World, name_of, as_of, shown, shown_objects, is_made, is_private, is_among, with_name, touch}
 use Rattle.gem_world.specs.Changes.{with_body, in_segment, put, make, note}
 use Rattle.gem_world.specs.Access.{Access, a_read, a_write, allows, IsTouched, is_allowed, touches_of, with_touches, after_allowed, accessed}

@@ -4,14 +4,14 @@ use Rattle.std.specs.List.{list_all}
 use Rattle.std.specs.Option.{option_to_list}
 use Rattle.std.proofs.lemmas.Bool.{false≢true, and_parts, and_from, or_left, or_right, eq-eqb}
 use Rattle.std.proofs.lemmas.List.Folds.{list_any-append}
-use Rattle.texts.specs.Bytes.{Bytes as Text}
+use Rattle.gem_object.specs.texts.Bytes.{Bytes as Text}
 use Rattle.gem_object.specs.Kinds as kinds
 use Rattle.gem_object.specs.References.{names_in_body}
 use Rattle.gem_sound.specs.Sound.{names_in}
 use Rattle.gem_object.specs.declared.kind.Kind.{Kind}
 use Rattle.gem_object.specs.declared.body.Body.{Body}
 use Rattle.gem_object.specs.declared.body.Body.TheVariants.{Plain, Bytes, Dict, Class, Segment, User, Counter, Bag, RcDict, Queue}
-use Rattle.gem_image.specs.Image.{Contents}
+use Rattle.gem_world.specs.gem_image.Image.{Contents}
 use Rattle.gem_world.specs.World.{is_among}
 use Rattle.gem_sound.specs.Kernel.{KernelClass, kernel_class}
 use Rattle.gem_sound.specs.Sound.{has_named_slots}

@@ -3,12 +3,12 @@ use Rattle.std.proofs.Common.{◌≡◌, refl, ℕ, zero, suc, ◌+◌, Bool, tr
 use Rattle.std.specs.FinMap.{get}
 use Rattle.std.specs.List.{list_all}
 use Rattle.std.proofs.lemmas.Bool.{leb-true}
-use Rattle.texts.specs.Bytes.{Bytes as Text}
+use Rattle.gem_object.specs.texts.Bytes.{Bytes as Text}
 use Rattle.gem_object.specs.Kinds.{is_shared}
 use Rattle.gem_object.specs.declared.body.Body.{Body}
-use Rattle.gem_update.specs.Update.{updated}
-use Rattle.gem_update.specs.declared.update.Update.{Update}
-use Rattle.gem_image.specs.Image.{Contents}
+use Rattle.gem_world.specs.gem_update.Update.{updated}
+use Rattle.gem_world.specs.gem_update.declared.update.Update.{Update}
+use Rattle.gem_world.specs.gem_image.Image.{Contents}
 use Rattle.gem_world.specs.World.{Setting, World, name_of, shown, touch}
 use Rattle.gem_world.specs.Changes.{with_body, in_segment, put, make, note}
 use Rattle.gem_world.specs.Access.{Access, a_read, a_write, is_allowed, touches_of, with_touches, after_allowed, accessed}

@@ -4,8 +4,8 @@ use Rattle.std.specs.List.{All, list_all}
 use Rattle.std.specs.Option.{IfSome}
 use Rattle.std.proofs.lemmas.Bool.{false≢true, and_parts, and_from, ltb-true, lt-ltb}
 use Rattle.std.proofs.lemmas.Slice.Eq.{bytes_eq-Decides}
-use Rattle.texts.specs.Bytes.{Bytes as Text}
-use Rattle.st_tree.specs.Trees.{Program}
+use Rattle.gem_object.specs.texts.Bytes.{Bytes as Text}
+use Rattle.gem_sound.specs.st_tree.Trees.{Program}
 use Rattle.gem_sound.specs.Grammar.{method}
 use Rattle.gem_sound.specs.TreeOf.{tree_of}
 use Rattle.gem_object.specs.declared.body.MethodCode.{MethodCode}

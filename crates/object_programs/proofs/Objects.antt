@@ -5,8 +5,8 @@ use Rattle.std.specs.FinMap.{get}
 use Rattle.std.proofs.lemmas.Bool.{false≢true, and_parts, eqb-true, ne_eqb}
 use Rattle.std.proofs.lemmas.Option.{same_Some}
 use Rattle.gem_object.specs.declared.body.Body.{Body}
-use Rattle.gem_update.specs.declared.update.Update.{Update}
-use Rattle.gem_image.specs.Image.{Contents, Objects}
+use Rattle.gem_world.specs.gem_update.declared.update.Update.{Update}
+use Rattle.gem_world.specs.gem_image.Image.{Contents, Objects}
 use Rattle.gem_world.specs.World.{Setting, World, name_of, shown, touch}
 use Rattle.gem_world.specs.Changes.{with_body, put, make, note}
 use Rattle.object_programs.specs.declared.limits.TheConstants.{COUNTER_LIMIT}

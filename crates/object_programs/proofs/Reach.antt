@@ -3,9 +3,9 @@ use Rattle.std.proofs.Common.{◌≡◌, ◌∙◌, refl, sym, ap, subst, ℕ, �
 use Rattle.std.specs.FinMap.{get, insert}
 use Rattle.std.specs.Option.{option_or}
 use Rattle.std.proofs.lemmas.Bool.{and_parts, and_from, cases_eq, ltb-true, le-leb, lt-ltb}
-use Rattle.radix_pages.proofs.Tables.{get-insert_other}
-use Rattle.gem_update.specs.declared.update.Update.{Update}
-use Rattle.gem_image.specs.Image.{Contents}
+use Rattle.gem_world.proofs.radix_pages_lemmas.Tables.{get-insert_other}
+use Rattle.gem_world.specs.gem_update.declared.update.Update.{Update}
+use Rattle.gem_world.specs.gem_image.Image.{Contents}
 use Rattle.gem_world.specs.World.{Setting, World, name_of, before_changes, shown, is_drawn, touch}
 use Rattle.gem_world.specs.Changes.{with_body, put, make, note}
 use Rattle.object_programs.specs.Guard.{Parts}

@@ -4,17 +4,17 @@ use Rattle.std.specs.List.{All, list_all}
 use Rattle.std.specs.Option.{IfSome, IsSome, option_and_then}
 use Rattle.std.proofs.lemmas.Bool.{false≢true, and_parts, or_cases, eqb-true, leb-true, ltb-true}
 use Rattle.std.proofs.lemmas.List.Elements.{All-nil, All-cons}
-use Rattle.texts.specs.Bytes.{Bytes as Text}
+use Rattle.gem_object.specs.texts.Bytes.{Bytes as Text}
 use Rattle.gem_object.specs.Edits.{plain_slots}
 use Rattle.gem_object.specs.Kinds as kinds
 use Rattle.gem_sound.specs.Sound.{names_in}
 use Rattle.gem_object.specs.declared.body.ClassBody.{ClassBody}
 use Rattle.gem_object.specs.declared.body.Body.{Body}
 use Rattle.gem_object.specs.declared.body.Body.TheVariants.{Plain, Bytes, Dict, Class, Segment, User, Counter, Bag, RcDict, Queue}
-use Rattle.gem_image.specs.Image.{Contents, Objects}
+use Rattle.gem_world.specs.gem_image.Image.{Contents, Objects}
 use Rattle.gem_world.specs.World.{Setting, World, name_of, shown}
 use Rattle.gem_sound.specs.Parts.{class_of, user_of, dictionary_of, class_at}
-use Rattle.gem_image.specs.Rights.{rights_of, rights_at}
+use Rattle.gem_world.specs.gem_image.Rights.{rights_of, rights_at}
 use Rattle.gem_sound.specs.Kernel.{KernelClass, kernel_class, KernelBody, kernel_body}
 use Rattle.gem_sound.specs.Inherited.{HasNames, at_the_end, under}
 use Rattle.gem_sound.specs.Sound.{HasPlace, HasPlaceByRow, HasInheritedKind, FitsClass, by_kind, class_object, transcript, NamesFit, HasKernelBody, has_named_slots, ImageRule, KeepsRule, i1, i2, i3, i4, i5, KeepsRuleAt, IsSoundFor}

@@ -11,12 +11,12 @@ use Rattle.std.specs.Cmp.{IsTotalOrder}
 use Rattle.std.specs.Cmp.Lexicographic.{slice_cmp, nat_list_cmp_total}
 use Rattle.std.proofs.lemmas.Bool.{false≢true, true≢false, and_parts, and_from, or_parts, or_from, ltb-true, lt-ltb, leb-true, le-leb}
 use Rattle.std.proofs.lemmas.List.Elements.{All-nil, All-cons, All-head, All-tail}
-use Rattle.texts.specs.Bytes.{Bytes as Text}
-use Rattle.profile.specs.SmallInteger.{is_small_integer}
-use Rattle.seg_rights.specs.declared.right.Right.{Right}
-use Rattle.seg_rights.specs.declared.right.Right.TheVariants.{None as NoRight, Read, Write}
-use Rattle.seg_rights.specs.declared.rights.Rights.{Rights}
-use Rattle.insertion_map.specs.Pairs.{AreDistinct}
+use Rattle.gem_object.specs.texts.Bytes.{Bytes as Text}
+use Rattle.gem_object.specs.texts.SmallInteger.{is_small_integer}
+use Rattle.gem_object.specs.seg_rights.declared.right.Right.{Right}
+use Rattle.gem_object.specs.seg_rights.declared.right.Right.TheVariants.{None as NoRight, Read, Write}
+use Rattle.gem_object.specs.seg_rights.declared.rights.Rights.{Rights}
+use Rattle.gem_object.specs.insertion_map.Pairs.{AreDistinct}
 use Rattle.gem_object.specs.Order.{value_order, same_value}
 use Rattle.gem_object.specs.contracts.value.ValueOrd.TheImpl.{cmp-value}
 use Rattle.gem_object.specs.contracts.value.ValueOrd.TheImpl.Laws.{total-law}

@@ -3,10 +3,10 @@ use Rattle.std.proofs.Common.{◌≡◌, ◌≢◌, ◌∙◌, refl, ap, ℕ, �
 use Rattle.std.specs.FinMap.{get, insert}
 use Rattle.std.specs.Option.{option_or}
 use Rattle.std.proofs.lemmas.Bool.{or_from, not_from_true, eqb-true, eqb-false}
-use Rattle.radix_pages.proofs.Tables.{get-insert_same, get-insert_other}
+use Rattle.gem_world.proofs.radix_pages_lemmas.Tables.{get-insert_same, get-insert_other}
 use Rattle.gem_object.specs.Kinds.{is_shared}
-use Rattle.gem_update.specs.declared.update.Update.{Update}
-use Rattle.gem_image.specs.Image.{Contents}
+use Rattle.gem_world.specs.gem_update.declared.update.Update.{Update}
+use Rattle.gem_world.specs.gem_image.Image.{Contents}
 use Rattle.gem_world.specs.World.{Setting, World, name_of, before_changes, shown, is_made, touch}
 use Rattle.gem_world.specs.Changes.{put, make, note}
 use Rattle.gem_world.specs.Access.{touches_of, with_touches}

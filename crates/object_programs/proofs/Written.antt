@@ -3,14 +3,14 @@ use Rattle.std.proofs.Common.{◌≡◌, ◌≢◌, ◌⊎◌, ◌∙◌, refl, 
 use Rattle.std.proofs.Math.Path.{fun_ext}
 use Rattle.std.specs.FinMap.{get, insert}
 use Rattle.std.proofs.lemmas.Bool.{false≢true, and_parts, cases_eq, ltb-true}
-use Rattle.radix_pages.proofs.Tables.{get-insert_same, get-insert_other}
-use Rattle.texts.specs.Bytes.{Bytes as Text}
+use Rattle.gem_world.proofs.radix_pages_lemmas.Tables.{get-insert_same, get-insert_other}
+use Rattle.gem_object.specs.texts.Bytes.{Bytes as Text}
 use Rattle.gem_object.specs.Kinds.{is_shared}
 use Rattle.gem_object.specs.declared.body.Body.{Body}
-use Rattle.gem_update.specs.Update.{updated}
-use Rattle.gem_update.specs.declared.update.Update.{Update}
-use Rattle.gem_image.specs.Image.{Contents}
-use Rattle.gem_image.specs.Rights.{right_on}
+use Rattle.gem_world.specs.gem_update.Update.{updated}
+use Rattle.gem_world.specs.gem_update.declared.update.Update.{Update}
+use Rattle.gem_world.specs.gem_image.Image.{Contents}
+use Rattle.gem_world.specs.gem_image.Rights.{right_on}
 use Rattle.gem_world.specs.World.{Setting, World, name_of, shown, is_drawn, is_made, touch}
 use Rattle.gem_world.specs.Changes.{with_body, in_segment, put, make, note}
 use Rattle.gem_world.specs.Access.{Access, a_read, a_write, allows, is_allowed, touches_of, with_touches, after_allowed, accessed}

@@ -1,7 +1,7 @@
 -- What a chunk may still use, and what it has written on the transcript.
-use Rattle.gem_image.specs.Image.{Contents}
+use Rattle.gem_world.specs.gem_image.Image.{Contents}
 use Rattle.std.specs.Prelude.{ℕ, ◌+◌, ◌/◌, Bool, ◌&&◌, nat_le, length, []}
-use Rattle.texts.specs.Bytes.{Bytes as Text}
+use Rattle.gem_object.specs.texts.Bytes.{Bytes as Text}
 use Rattle.gem_object.specs.Slots.{slots_of}
 use Rattle.gem_object.specs.Sizes.{fields_size}
 use Rattle.gem_object.specs.declared.body.Body.{Body}

@@ -1,7 +1,7 @@
 -- The errors by which a chunk ends: their numbers, and what is printed after `error Ek `.
 use Rattle.std.specs.Prelude.{ℕ, ◌++◌, codes}
-use Rattle.texts.specs.Bytes.{Bytes as Text}
-use Rattle.gem_value.specs.Oid.{oid_text}
+use Rattle.gem_object.specs.texts.Bytes.{Bytes as Text}
+use Rattle.gem_object.specs.gem_value.Oid.{oid_text}
 use Rattle.object_programs.specs.declared.fault.Fault.{Fault}
 use Rattle.object_programs.specs.declared.fault.Fault.TheVariants.{NotUnderstood, UndefinedVariable, NotBoolean, Index, ArgumentKind, IntegerRange, ZeroDivisor, DeadHome, BlockArgumentCount, NoReadRight, NoWriteRight, BlockStored, SendBudget, Depth, Space, NamesUsedUp, ObjectTooLarge, KeyAbsent, SegmentChange, Raised}
 

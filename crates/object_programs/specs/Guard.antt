@@ -2,7 +2,7 @@
 -- break, as tests. They see the other objects by their fixed parts alone.
 use Rattle.std.specs.Prelude.{ℕ, zero, suc, ◌+◌, ◌^◌, Bool, true, false, ◌&&◌, ◌||◌, not, cond, nat_eq, nat_lt, nat_le, length, List, [], ◌∷◌, ◌++◌, Option, None, Some, option_map}
 use Rattle.std.specs.List.{list_all}
-use Rattle.texts.specs.Bytes.{Bytes as Text}
+use Rattle.gem_object.specs.texts.Bytes.{Bytes as Text}
 use Rattle.gem_object.specs.Edits.{plain_slots}
 use Rattle.gem_object.specs.Kinds as kinds
 use Rattle.gem_object.specs.Kinds.{is_shared}
@@ -10,7 +10,7 @@ use Rattle.gem_sound.specs.Sound.{names_in}
 use Rattle.gem_object.specs.declared.kind.Kind.{Kind}
 use Rattle.gem_object.specs.declared.body.Body.{Body}
 use Rattle.gem_object.specs.declared.body.Body.TheVariants.{Plain, Class, Segment, User}
-use Rattle.gem_image.specs.Image.{Contents}
+use Rattle.gem_world.specs.gem_image.Image.{Contents}
 use Rattle.gem_world.specs.World.{Setting, World, name_of, is_made}
 use Rattle.gem_sound.specs.Kernel.{KernelClass, kernel_class, KernelBody, kernel_body, has_kind}
 use Rattle.gem_sound.specs.Sound.{has_named_slots}

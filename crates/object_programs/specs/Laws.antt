@@ -4,9 +4,9 @@ use Rattle.std.specs.FinMap.{get}
 use Rattle.gem_object.specs.Spelling.{IsOid, IsSpelledBody}
 use Rattle.gem_object.specs.Kinds.{is_shared}
 use Rattle.gem_object.specs.declared.body.Body.{Body}
-use Rattle.gem_update.specs.Update.{updated}
-use Rattle.gem_update.specs.declared.update.Update.{Update}
-use Rattle.gem_image.specs.Image.{Image, Contents, Objects, objects_in}
+use Rattle.gem_world.specs.gem_update.Update.{updated}
+use Rattle.gem_world.specs.gem_update.declared.update.Update.{Update}
+use Rattle.gem_world.specs.gem_image.Image.{Image, Contents, Objects, objects_in}
 use Rattle.gem_world.specs.World.{Setting, World, name_of, before_changes, shown, is_drawn, is_made}
 use Rattle.gem_world.specs.Changes.{with_body, updates_on}
 use Rattle.gem_world.specs.Access.{IsTouched, a_write, is_allowed}

@@ -1,8 +1,8 @@
 -- Which methods a class may have, as a test: I2 of sound images.
 use Rattle.std.specs.Prelude.{ℕ, ◌^◌, Bool, true, false, ◌&&◌, nat_lt, bytes_eq, length, Option, None, Some, Result, Ok, Err}
 use Rattle.std.specs.List.{list_all}
-use Rattle.texts.specs.Bytes.{Bytes as Text}
-use Rattle.st_tree.specs.Trees.{Program}
+use Rattle.gem_object.specs.texts.Bytes.{Bytes as Text}
+use Rattle.gem_sound.specs.st_tree.Trees.{Program}
 use Rattle.gem_sound.specs.Grammar.{method}
 use Rattle.gem_sound.specs.TreeOf.{tree_of}
 use Rattle.gem_object.specs.declared.body.MethodCode.{MethodCode}

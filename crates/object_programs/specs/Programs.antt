@@ -1,9 +1,9 @@
 -- Programs for accesses, for changes with what they cost, and for what comes beside them.
 use Rattle.std.specs.Prelude.{ℕ, zero, suc, Bool, true, false, ◌&&◌, List, [], ◌∷◌, Option, None, Some}
 use Rattle.gem_object.specs.declared.body.Body.{Body}
-use Rattle.gem_update.specs.Update.{updated}
-use Rattle.gem_update.specs.declared.update.Update.{Update}
-use Rattle.gem_image.specs.Image.{Contents}
+use Rattle.gem_world.specs.gem_update.Update.{updated}
+use Rattle.gem_world.specs.gem_update.declared.update.Update.{Update}
+use Rattle.gem_world.specs.gem_image.Image.{Contents}
 use Rattle.gem_world.specs.Access.{a_read, a_write}
 use Rattle.gem_world.specs.Changes.{with_body}
 use Rattle.object_programs.specs.Budget.{is_within_limits}

@@ -4,11 +4,11 @@ use Rattle.std.specs.List.{list_all, list_any}
 use Rattle.std.specs.Ordering.{nat_cmp, is_lt}
 use Rattle.std.specs.declared.cmp.Ordering.{Ordering}
 use Rattle.std.specs.Cmp.Lexicographic.{slice_cmp}
-use Rattle.texts.specs.Bytes.{Bytes as Text}
-use Rattle.profile.specs.SmallInteger.{is_small_integer}
-use Rattle.seg_rights.specs.declared.right.Right.{Right}
-use Rattle.seg_rights.specs.declared.right.Right.TheVariants.{None as NoRight}
-use Rattle.seg_rights.specs.declared.rights.Rights.{Rights}
+use Rattle.gem_object.specs.texts.Bytes.{Bytes as Text}
+use Rattle.gem_object.specs.texts.SmallInteger.{is_small_integer}
+use Rattle.gem_object.specs.seg_rights.declared.right.Right.{Right}
+use Rattle.gem_object.specs.seg_rights.declared.right.Right.TheVariants.{None as NoRight}
+use Rattle.gem_object.specs.seg_rights.declared.rights.Rights.{Rights}
 use Rattle.gem_object.specs.Order.{value_order, same_value}
 use Rattle.gem_object.specs.Spelling.{is_key}
 use Rattle.gem_object.specs.declared.value.Value.{Value}

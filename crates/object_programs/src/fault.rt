@@ -3,10 +3,9 @@ ghost use Rattle.std.specs.Prelude.{◌≡◌, Some, MatchResult};
 ghost use Rattle.std.specs.Str.{IsUtf8};
 ghost use Rattle.object_programs.specs.Fault.{fault_number, fault_text};
 
-use gem_value::Oid;
+use gem_object::{Oid, Text};
 use std::error::Error;
 use std::{fmt, str};
-use texts::Text;
 
 /// An error that ends a chunk.
 #[derive(Debug, Drop)]

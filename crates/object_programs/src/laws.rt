@@ -4,13 +4,13 @@ ghost use Rattle.std.specs.Prelude.{◌≡◌, ◌⊎◌, ◌↔◌, ◌<◌, �
 ghost use Rattle.std.specs.FinMap.{get};
 ghost use Rattle.std.specs.List.{list_all};
 ghost use Rattle.std.specs.Option.{IfSome};
-ghost use Rattle.texts.specs.Bytes.{Bytes as Text};
+ghost use Rattle.gem_object.specs.texts.Bytes.{Bytes as Text};
 ghost use Rattle.gem_object.specs.Kinds.{is_shared};
 ghost use Rattle.gem_object.specs.Spelling.{IsSpelledBody};
 ghost use Rattle.gem_object.specs.declared.body.Body.{Body};
-ghost use Rattle.gem_update.specs.Update.{updated};
-ghost use Rattle.gem_update.specs.declared.update.Update.{Update};
-ghost use Rattle.gem_image.specs.Image.{Image, IsImage, Contents, Objects, objects_in};
+ghost use Rattle.gem_world.specs.gem_update.Update.{updated};
+ghost use Rattle.gem_world.specs.gem_update.declared.update.Update.{Update};
+ghost use Rattle.gem_world.specs.gem_image.Image.{Image, IsImage, Contents, Objects, objects_in};
 ghost use Rattle.gem_world.specs.World.{Setting, World, untouched, name_of, shown, is_made, with_name, touch};
 ghost use Rattle.gem_world.specs.Access.{IsTouched, a_read, a_write, is_allowed, with_touches};
 ghost use Rattle.gem_world.specs.Changes.{with_body, in_segment, put};

@@ -2,10 +2,12 @@
 //! budgets, and what holds of all of them. Knows nothing of trees and of look-up.
 #![tactic(auto)]
 
+mod costs;
 mod fault;
 pub mod laws;
 mod limits;
 
+pub use costs::{bytes_cost, is_small};
 pub use fault::Fault;
 pub use limits::{
     ACTIVATION_LIMIT, BYTES_LIMIT, COUNTER_LIMIT, GROUPS_LIMIT, NAMES_LIMIT, PRINT_LIMIT,

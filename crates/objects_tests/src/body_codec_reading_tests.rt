@@ -1,7 +1,6 @@
 // Objects and an effect read back from their bytes, and a fault of each rule.
 use body_codec::{BodyFault, BodyRule, read_effect, read_object, write_object};
-use gem_object::{Body, Object};
-use gem_value::Oid;
+use gem_object::{Body, Object, Oid};
 use std::alloc::Global;
 use std::test::Fail;
 

@@ -1,10 +1,8 @@
 // The bytes of an object of each body, and those of an effect.
 use crate::gem_object_tests::{bag, class, dict, key_dict, plain, queue, segment, user};
 use body_codec::{write_effect, write_object};
-use gem_object::{Body, ByteString, Object};
+use gem_object::{Body, ByteString, Counter, Object, Oid};
 use gem_record::{ByName, Effect};
-use gem_value::Oid;
-use rc_counter_bag::Counter;
 use sorted_pairs::ascend;
 use std::alloc::Global;
 use std::test::Fail;

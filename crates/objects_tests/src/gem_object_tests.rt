@@ -1,17 +1,11 @@
 // Slots, sizes and references of each body, the order of values, and each change of a place.
 use gem_object::{
-    BlockRef, Body, ByteString, ClassBody, Dictionary, Kind, Method, MethodCode, Methods, Names,
-    Object, UserBody, Value, Values,
+    Bag, BlockRef, Body, ByteString, ClassBody, Counter, Dictionary, Groups, KeyDict, Kind, Method,
+    MethodCode, Methods, Names, Object, Oid, Queue, Right, Rights, Text, UserBody, Value, Values,
 };
-use gem_value::Oid;
-use rc_counter_bag::{Bag, Counter};
-use rc_dict::KeyDict;
-use rc_queue::Queue;
-use seg_rights::{Groups, Right, Rights};
 use std::alloc::{AllocError, Global};
 use std::process::Abort;
 use std::test::Fail;
-use texts::Text;
 
 pub(crate) fn text(alloc: Global, bytes: &[u8]) -> Result<Text, Fail> {
     Ok(Text::copy_of(alloc, bytes)?)

@@ -1,10 +1,8 @@
 // A record and its entry, look-ups by name, and the size of an effect.
 use gem_image::Image;
-use gem_object::{Body, Object};
+use gem_object::{Body, Counter, Object, Oid, Sequence};
 use gem_record::{ByName, Effect, Entry, OidList, TxnRecord};
 use gem_update::Update;
-use gem_value::{Oid, Sequence};
-use rc_counter_bag::Counter;
 use sorted_pairs::ascend;
 use std::alloc::{AllocError, Global};
 use std::process::Abort;

@@ -9,7 +9,7 @@ use Rattle.std.specs.FinMap.{FinMap, get, insert, find, nat_cmp-IsAntisymmetric,
 use Rattle.std.specs.Map.{lookup, set_value}
 use Rattle.std.proofs.lemmas.Map.Steps.{set_value_same}
 use Rattle.indexmap.specs.IndexMap.{insert_entry}
-use Rattle.radix_pages.proofs.Tables.{same_keys}
+use Rattle.gem_image.proofs.radix_pages_lemmas.Tables.{same_keys}
 use Rattle.gem_object.specs.declared.object.Object.{Object}
 use Rattle.gem_image.specs.Image.{Contents, contents_of}
 use Rattle.plain_state.specs.Overlay.{contents_by_name, changed_at, changed}

@@ -5,7 +5,7 @@ use Rattle.std.proofs.lemmas.List.Sums.{fold-append}
 use Rattle.std.specs.List.{list_all, list_any}
 use Rattle.std.specs.Cmp.{Equal-is}
 use Rattle.std.specs.FinMap.{get}
-use Rattle.insertion_map.specs.Pairs.{entry_of, with_pair}
+use Rattle.gem_object.specs.insertion_map.Pairs.{entry_of, with_pair}
 use Rattle.gem_object.specs.Edits.{with_value_at}
 use Rattle.gem_object.specs.Kinds.{is_shared}
 use Rattle.gem_object.specs.Order.{value_order, same_value}

@@ -4,7 +4,7 @@ use Rattle.std.proofs.lemmas.Bool.{false≢true, true≢false, and_parts, and_fr
 use Rattle.std.proofs.lemmas.List.Folds.{list_all-append}
 use Rattle.std.specs.List.{list_all, list_any}
 use Rattle.std.specs.FinMap.{get}
-use Rattle.insertion_map.specs.Pairs.{without_key}
+use Rattle.gem_object.specs.insertion_map.Pairs.{without_key}
 use Rattle.gem_object.specs.Edits.{without_value_at}
 use Rattle.gem_object.specs.Kinds.{is_shared}
 use Rattle.gem_object.specs.Order.{same_value}

@@ -16,8 +16,8 @@ use Rattle.std.proofs.lemmas.List.Kept.{IsStrictlySortedBy-dedup}
 use Rattle.std.proofs.lemmas.List.Sorted.{list_any-IsPermutation}
 use Rattle.gem_object.specs.declared.object.Object.{Object}
 use Rattle.gem_image.specs.Image.{Contents, contents_of}
-use Rattle.run_records.specs.Names.{marked, ascending}
-use Rattle.run_records.specs.Record.{uncommitted, all_uncommitted}
+use Rattle.gem_record.specs.RunNames.{marked, ascending}
+use Rattle.gem_record.specs.Record.{uncommitted, all_uncommitted}
 use Rattle.running_objects.specs.Seen.{Seen}
 use Rattle.plain_state.specs.Overlay.{contents_by_name}
 use Rattle.plain_state.specs.Lists.{is_chosen, chosen_by, all_chosen}

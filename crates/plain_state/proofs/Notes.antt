@@ -8,9 +8,9 @@ use Rattle.gem_object.specs.declared.body.Body.{Body}
 use Rattle.gem_update.specs.Update.{fits_update, updated}
 use Rattle.gem_update.specs.declared.update.Update.{Update}
 use Rattle.gem_update.specs.declared.update.Update.TheVariants as change
-use Rattle.rc_counter_bag.specs.declared.update.BagUpdate.TheVariants as bag
-use Rattle.rc_dict.specs.declared.update.DictUpdate.TheVariants as dict
-use Rattle.rc_queue.specs.declared.update.QueueUpdate.TheVariants as queue
+use Rattle.gem_object.specs.rc_counter_bag.declared.update.BagUpdate.TheVariants as bag
+use Rattle.gem_object.specs.rc_dict.declared.update.DictUpdate.TheVariants as dict
+use Rattle.gem_object.specs.rc_queue.declared.update.QueueUpdate.TheVariants as queue
 use Rattle.gem_image.specs.Image.{Contents}
 use Rattle.gem_world.specs.World.{World, before_changes, is_made}
 use Rattle.gem_world.specs.Changes.{with_body, put, note}

@@ -16,7 +16,7 @@ use Rattle.gem_object.specs.declared.body.Body.TheVariants as body
 use Rattle.gem_image.specs.Image.{Contents}
 use Rattle.gem_world.specs.World.{Setting, World, shown}
 use Rattle.gem_world.specs.Changes.{with_body}
-use Rattle.gem_sound.specs.Kernel.{KernelBody, a_class, a_dictionary, a_segment, a_user, no_slots, kernel_classes, kernel_bodies, kernel_body}
+use Rattle.object_programs.specs.gem_sound.Kernel.{KernelBody, a_class, a_dictionary, a_segment, a_user, no_slots, kernel_classes, kernel_bodies, kernel_body}
 use Rattle.object_programs.specs.Fixed.{ClassPart, class_part, Fixed, fixed_of, fixed_by}
 use Rattle.object_programs.specs.Guard.{Parts, holds_of, is_known, names_at, is_transcript, accepts_by, accepts, kernel_fits_by, kernel_fits, may_replace}
 use Rattle.object_programs.specs.Programs.{part_of}

@@ -6,10 +6,10 @@ use Rattle.sorted_pairs.specs.Place.{StandsAt, FitsAt}
 use Rattle.gem_object.specs.Order.{value_order}
 use Rattle.gem_object.specs.contracts.value.ValueOrd.TheImpl as order
 use Rattle.gem_object.specs.declared.value.Value.{Value}
-use Rattle.rc_counter_bag.specs.Bag.{with_one_more}
-use Rattle.rc_counter_bag.proofs.Edits.{with_one_more-past, with_one_more-here, with_one_more-before}
-use Rattle.rc_dict.specs.Dict.{put}
-use Rattle.rc_dict.proofs.Edits.{put-past, put-here, put-before}
+use Rattle.gem_object.specs.rc_counter_bag.Bag.{with_one_more}
+use Rattle.gem_object.proofs.rc_counter_bag_lemmas.Edits.{with_one_more-past, with_one_more-here, with_one_more-before}
+use Rattle.gem_object.specs.rc_dict.Dict.{put}
+use Rattle.gem_object.proofs.rc_dict_lemmas.Edits.{put-past, put-here, put-before}
 use Rattle.running_objects.specs.Fitting.{can_count}
 
 in_order : (value other : Value) → order.ghosts.cmp value other ≡ value_order value other

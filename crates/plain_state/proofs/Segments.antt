@@ -9,7 +9,7 @@ use Rattle.gem_object.specs.declared.value.Value.TheVariants as value
 use Rattle.gem_image.specs.Image.{Contents}
 use Rattle.gem_world.specs.World.{shown}
 use Rattle.gem_world.specs.Changes.{in_segment, put}
-use Rattle.gem_sound.specs.Sound.{names_in}
+use Rattle.object_programs.specs.gem_sound.Sound.{names_in}
 use Rattle.object_programs.specs.Fixed.{class_part, Fixed, fixed_by}
 use Rattle.object_programs.specs.Guard.{Parts, holds_of, is_there, is_segment, is_known, is_segment_at, asked_names, line_at, line_of_class, fits, may_change, may_replace}
 use Rattle.object_programs.specs.Atom.{Move, with_missing, touch_missing, replaced_where, edited_at, edited}

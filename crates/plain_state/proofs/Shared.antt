@@ -11,7 +11,7 @@ use Rattle.std.specs.Result.{result_ok}
 use Rattle.std.specs.Ordering.{is_eq, match_ordering}
 use Rattle.std.specs.Cmp.{Equal-is}
 use Rattle.std.specs.declared.cmp.Ordering.TheVariants.{Less, Equal, Greater}
-use Rattle.profile.specs.SmallInteger.{is_small_integer}
+use Rattle.gem_object.specs.texts.SmallInteger.{is_small_integer}
 use Rattle.gem_object.specs.Kinds as kinds
 use Rattle.gem_object.specs.Order.{value_order}
 use Rattle.gem_object.specs.References.{names_in, names_in_pairs, names_in_items, names_in_body}
@@ -23,19 +23,19 @@ use Rattle.gem_object.specs.declared.value.Value.TheVariants as value
 use Rattle.gem_object.specs.declared.body.Body.{Body}
 use Rattle.gem_object.specs.declared.body.Body.TheVariants as body
 use Rattle.gem_object.proofs.Ties.{ties}
-use Rattle.rc_counter_bag.specs.Bag as bags
-use Rattle.rc_counter_bag.specs.Counter as counters
-use Rattle.rc_counter_bag.specs.declared.counter.Counter.{Counter}
-use Rattle.rc_counter_bag.specs.declared.update.BagUpdate.TheVariants as bag
-use Rattle.rc_counter_bag.specs.declared.update.BagFault.TheVariants as bag_fault
-use Rattle.rc_counter_bag.proofs.Kept.{kept_first}
-use Rattle.rc_dict.specs.Dict as dicts
-use Rattle.rc_dict.specs.declared.update.DictUpdate.TheVariants as dict
-use Rattle.rc_dict.specs.declared.update.DictFault.TheVariants as dict_fault
-use Rattle.rc_queue.specs.Contents.{Contents as Line}
-use Rattle.rc_queue.specs.Update as queues
-use Rattle.rc_queue.specs.declared.update.QueueUpdate.TheVariants as queue
-use Rattle.rc_queue.specs.declared.update.QueueFault.TheVariants as queue_fault
+use Rattle.gem_object.specs.rc_counter_bag.Bag as bags
+use Rattle.gem_object.specs.rc_counter_bag.Counter as counters
+use Rattle.gem_object.specs.rc_counter_bag.declared.counter.Counter.{Counter}
+use Rattle.gem_object.specs.rc_counter_bag.declared.update.BagUpdate.TheVariants as bag
+use Rattle.gem_object.specs.rc_counter_bag.declared.update.BagFault.TheVariants as bag_fault
+use Rattle.gem_object.proofs.rc_counter_bag_lemmas.Kept.{kept_first}
+use Rattle.gem_object.specs.rc_dict.Dict as dicts
+use Rattle.gem_object.specs.rc_dict.declared.update.DictUpdate.TheVariants as dict
+use Rattle.gem_object.specs.rc_dict.declared.update.DictFault.TheVariants as dict_fault
+use Rattle.gem_object.specs.rc_queue.Contents.{Contents as Line}
+use Rattle.gem_object.specs.rc_queue.Update as queues
+use Rattle.gem_object.specs.rc_queue.declared.update.QueueUpdate.TheVariants as queue
+use Rattle.gem_object.specs.rc_queue.declared.update.QueueFault.TheVariants as queue_fault
 use Rattle.gem_update.specs.Update.{fits_update, updated}
 use Rattle.gem_update.specs.References.{values_in_update}
 use Rattle.gem_update.specs.Spelling.{HasKey, IsStorableUpdate, entries_of}
@@ -44,7 +44,7 @@ use Rattle.gem_update.specs.declared.update.Update.TheVariants as change
 use Rattle.gem_image.specs.Image.{Contents}
 use Rattle.gem_world.specs.World.{Setting, World, shown}
 use Rattle.gem_world.specs.Changes.{with_body}
-use Rattle.gem_sound.specs.Kernel.{KernelBody, a_class, a_dictionary, a_segment, a_user, no_slots, kernel_body}
+use Rattle.object_programs.specs.gem_sound.Kernel.{KernelBody, a_class, a_dictionary, a_segment, a_user, no_slots, kernel_body}
 use Rattle.object_programs.specs.Fixed.{BodyKind, body_kind, ClassPart, class_part, Fixed, fixed_of, fixed_by}
 use Rattle.object_programs.specs.Guard.{Parts, holds_of, is_known, names_at, has_slots, is_class_object, is_transcript, accepts_by, accepts, named_fit, kernel_fits_by, kernel_fits, may_replace}
 use Rattle.object_programs.specs.Methods.{methods_fit}

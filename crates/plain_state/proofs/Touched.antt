@@ -4,7 +4,7 @@ use Rattle.std.proofs.lemmas.Bool.{eqb-true}
 use Rattle.std.specs.Option.{option_or}
 use Rattle.std.specs.FinMap.{FinMap, get, insert}
 use Rattle.std.specs.Ordering.{nat_cmp}
-use Rattle.seg_rights.specs.declared.right.Right.TheVariants as right
+use Rattle.gem_object.specs.seg_rights.declared.right.Right.TheVariants as right
 use Rattle.gem_object.specs.Kinds.{is_shared}
 use Rattle.gem_update.specs.declared.update.Update.{Update}
 use Rattle.gem_image.specs.Image.{Contents}

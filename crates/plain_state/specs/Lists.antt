@@ -10,7 +10,7 @@ use Rattle.gem_update.specs.declared.update.Update.{Update}
 use Rattle.gem_image.specs.Image.{Contents}
 use Rattle.gem_world.specs.World.{Setting, World}
 use Rattle.gem_world.specs.Changes.{was_made, was_written}
-use Rattle.run_records.specs.Record.{uncommitted}
+use Rattle.gem_record.specs.Record.{uncommitted}
 use Rattle.running_objects.specs.Seen.{Seen}
 
 -- whether a changed object is one that was made, or an ordinary one that was written

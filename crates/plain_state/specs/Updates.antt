@@ -7,11 +7,11 @@ use Rattle.gem_object.specs.Spelling.{is_key}
 use Rattle.gem_object.specs.declared.value.Value.{Value}
 use Rattle.gem_object.specs.declared.body.Body.{Body}
 use Rattle.gem_object.specs.declared.body.Body.TheVariants as body
-use Rattle.rc_counter_bag.specs.Bag.{with_one_more}
-use Rattle.rc_counter_bag.specs.declared.update.BagUpdate.TheVariants as bag
-use Rattle.rc_dict.specs.Dict.{put as put_key}
-use Rattle.rc_dict.specs.declared.update.DictUpdate.TheVariants as dict
-use Rattle.rc_queue.specs.declared.update.QueueUpdate.TheVariants as queue
+use Rattle.gem_object.specs.rc_counter_bag.Bag.{with_one_more}
+use Rattle.gem_object.specs.rc_counter_bag.declared.update.BagUpdate.TheVariants as bag
+use Rattle.gem_object.specs.rc_dict.Dict.{put as put_key}
+use Rattle.gem_object.specs.rc_dict.declared.update.DictUpdate.TheVariants as dict
+use Rattle.gem_object.specs.rc_queue.declared.update.QueueUpdate.TheVariants as queue
 use Rattle.gem_update.specs.Update.{updated}
 use Rattle.gem_update.specs.declared.update.Update.{Update}
 use Rattle.gem_update.specs.declared.update.Update.TheVariants.{Bag, RcDict, Queue}

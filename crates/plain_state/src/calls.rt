@@ -4,7 +4,7 @@ ghost use Rattle.object_programs.specs.Atom.{Names, Tick, Room, Show};
 ghost use Rattle.running_objects.specs.Acted.{Acted, Accessed, Owned, Known};
 
 use crate::parts::Parts;
-use gem_value::Oid;
+use gem_object::Oid;
 use object_programs::{COUNTER_LIMIT, Fault, TRANSCRIPT_LIMIT};
 use running_objects::Stop;
 

@@ -4,8 +4,7 @@ ghost use Rattle.object_programs.specs.Fixed.{fixed_by};
 ghost use Rattle.plain_state.specs.Classes.{takes_slots, accepts_slots, is_in_kernel};
 
 use crate::parts::Parts;
-use gem_object::{Kind, Object};
-use gem_value::Oid;
+use gem_object::{Kind, Object, Oid};
 use object_guard::{Sees, class_at, has_names};
 
 impl Sees for Parts {

@@ -16,11 +16,9 @@ ghost use Rattle.plain_state.specs.Writes.{changed_to, moved_to, updated_to, add
 
 use crate::state::PlainState;
 use gem_image::Image;
-use gem_object::{Body, Object};
+use gem_object::{Body, Object, Oid, Right};
 use gem_update::{Update, UpdateFault, update_body};
-use gem_value::Oid;
 use object_guard::{all_fit, fits, same_fixed};
-use seg_rights::Right;
 use std::alloc::AllocError;
 use std::slice;
 

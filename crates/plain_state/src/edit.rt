@@ -6,8 +6,7 @@ ghost use Rattle.gem_image.specs.Image.{contents_of};
 ghost use Rattle.plain_state.specs.Edit.{edited_by};
 
 use body_growth::{Change, pair_put, pair_removed, slot_inserted, slot_removed, slot_replaced};
-use gem_object::{Body, Object, Value};
-use gem_value::Oid;
+use gem_object::{Body, Object, Oid, Value};
 use std::alloc::AllocError;
 
 /// A change of one object.
@@ -63,32 +62,12 @@ impl Edit {
     }
 }
 
-/// How many slots a Plain body has, and none of another kind.
-pub(crate) fn slot_count(body: &Body) -> usize
-    ensures { result ≡ plain_slots body.now }
-{
-    match body {
-        Body::Plain(values) => values.len(),
-        _ => 0,
-    }
-}
-
-/// How many bytes a Bytes body has, and none of another kind.
-pub(crate) fn byte_count(body: &Body) -> usize
-    ensures { result ≡ body_bytes body.now }
-{
-    match body {
-        Body::Bytes(bytes) => bytes.len(),
-        _ => 0,
-    }
-}
-
 fn set_slot(body: &mut Body, at: usize, value: Value) -> Change
     ensures set { body.new ≡ with_slot at value body.old }
     ensures changed { Changes result body.old body.new }
 {
     let change = slot_replaced(body, at, &value);
-    if at < slot_count(body) {
+    if at < body.plain_slots() {
         body.set_slot(at, value);
     }
     change
@@ -99,7 +78,7 @@ fn insert_slot(body: &mut Body, at: usize, value: Value) -> Result<Change, Alloc
     ensures changed { IfOk result (λ change. Changes change body.old body.new) }
     ensures unchanged { OnErr result (body.new ≡ body.old) }
 {
-    let at = at.min(slot_count(body));
+    let at = at.min(body.plain_slots());
     let change = slot_inserted(body, at, &value);
     body.insert_slot(at, value)?;
     Ok(change)
@@ -110,7 +89,7 @@ fn remove_slot(body: &mut Body, at: usize) -> Change
     ensures changed { Changes result body.old body.new }
 {
     let change = slot_removed(body, at);
-    if at < slot_count(body) {
+    if at < body.plain_slots() {
         body.remove_slot(at);
     }
     change
@@ -120,7 +99,7 @@ fn set_byte(body: &mut Body, at: usize, byte: u8) -> Change
     ensures set { body.new ≡ with_byte at byte body.old }
     ensures changed { Changes result body.old body.new }
 {
-    if at < byte_count(body) {
+    if at < body.byte_count() {
         body.set_byte(at, byte);
     }
     Change::none()

@@ -13,10 +13,9 @@ ghost use Rattle.plain_state.specs.Classes.{slots_in, may_insert, has_pairs};
 ghost use Rattle.plain_state.specs.declared.edit.Edit.TheVariants as edit;
 
 use crate::classes::is_in_kernel;
-use crate::edit::{Edit, byte_count, slot_count};
+use crate::edit::Edit;
 use crate::parts::Parts;
-use gem_object::{Body, Value};
-use gem_value::Oid;
+use gem_object::{Body, Oid, Value};
 use object_guard::is_storable;
 use running_objects::Stop;
 use std::alloc::AllocError;
@@ -28,7 +27,7 @@ impl Parts {
             (get self.now.seen.world.changes oid) }
     {
         match self.changes.look(oid.number()) {
-            Some(object) => at < slot_count(&object.body),
+            Some(object) => at < object.body.plain_slots(),
             None => false,
         }
     }
@@ -107,7 +106,7 @@ impl Parts {
             (get self.now.seen.world.changes oid) }
     {
         match self.changes.look(oid.number()) {
-            Some(object) => at < byte_count(&object.body),
+            Some(object) => at < object.body.byte_count(),
             None => false,
         }
     }

@@ -3,8 +3,8 @@ ghost use Rattle.std.specs.Prelude.{◌≡◌, ◌++◌, ◌∷◌, [], ℕ, con
 ghost use Rattle.gem_world.specs.Changes.{updates_on};
 ghost use Rattle.plain_state.specs.Lists.{updates_at};
 
+use gem_object::{Oid, Sequence};
 use gem_update::Update;
-use gem_value::{Oid, Sequence};
 use indexmap::IndexMap;
 use std::alloc::{AllocError, Global};
 

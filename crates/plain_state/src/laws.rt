@@ -2,7 +2,7 @@
 //! nothing.
 ghost use Rattle.std.specs.Prelude.{ℕ};
 ghost use Rattle.gem_image.specs.Image.{Image, IsImage, objects_in};
-ghost use Rattle.gem_sound.specs.Sound.{IsSoundFor};
+ghost use Rattle.object_programs.specs.gem_sound.Sound.{IsSoundFor};
 ghost use Rattle.object_programs.specs.Laws.{Stays};
 ghost use Rattle.plain_state.specs.State.{BeginsSound};
 

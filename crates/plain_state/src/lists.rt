@@ -3,17 +3,16 @@ ghost use Rattle.std.specs.Prelude.{◌≡◌, ◌&&◌, cond, not, map, IfOk};
 ghost use Rattle.std.specs.FinMap.{keys};
 ghost use Rattle.gem_object.specs.Kinds.{is_shared};
 ghost use Rattle.gem_world.specs.Changes.{written_objects, made_objects};
-ghost use Rattle.run_records.specs.Names.{ascending, touched_names, updates_by_name};
-ghost use Rattle.run_records.specs.Record.{all_uncommitted};
+ghost use Rattle.gem_record.specs.RunNames.{ascending, touched_names, updates_by_name};
+ghost use Rattle.gem_record.specs.Record.{all_uncommitted};
 ghost use Rattle.plain_state.specs.Lists.{chosen, all_chosen};
 
 use crate::groups::{group, list_groups};
 use crate::overlay::Overlay;
 use crate::parts::Parts;
 use crate::state::PlainState;
-use gem_object::Object;
+use gem_object::{Object, Oid, Sequence};
 use gem_update::Update;
-use gem_value::{Oid, Sequence};
 use std::alloc::{AllocError, Global};
 
 impl PlainState {

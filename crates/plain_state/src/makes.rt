@@ -11,8 +11,7 @@ ghost use Rattle.running_objects.specs.Acted.{Made};
 ghost use Rattle.plain_state.specs.Puts.{check_result, made};
 
 use crate::parts::Parts;
-use gem_object::Object;
-use gem_value::Oid;
+use gem_object::{Object, Oid};
 use object_guard::{all_fit, are_within_limits, objects_cost};
 use object_programs::{COUNTER_LIMIT, Fault};
 use running_objects::Stop;

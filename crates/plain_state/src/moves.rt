@@ -9,8 +9,7 @@ ghost use Rattle.running_objects.specs.Acted.{Acted};
 
 use crate::edit::Edit;
 use crate::parts::Parts;
-use gem_object::{Body, Value};
-use gem_value::Oid;
+use gem_object::{Body, Oid, Value};
 use running_objects::Stop;
 
 impl Parts {

@@ -11,8 +11,7 @@ ghost use Rattle.plain_state.specs.Keys.{has_room_for, may_put};
 
 use crate::edit::Edit;
 use crate::parts::Parts;
-use gem_object::{Body, Value};
-use gem_value::Oid;
+use gem_object::{Body, Oid, Value};
 use running_objects::Stop;
 
 impl Parts {

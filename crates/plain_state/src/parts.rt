@@ -10,16 +10,13 @@ ghost use Rattle.running_objects.specs.Acted.{stored_bytes};
 ghost use Rattle.plain_state.specs.Parts.{touched, missed, asked, held};
 
 use crate::overlay::Overlay;
-use gem_image::Image;
-use gem_object::{Body, Object};
+use gem_image::{Image, groups_of, right_on_segment, rights_of};
+use gem_object::{Body, Object, Oid, Right, Rights, Text, may_read, may_write};
 use gem_update::Update;
-use gem_value::Oid;
 use indexmap::IndexSet;
 use object_programs::{SPACE_LIMIT, UNIT_LIMIT};
-use seg_rights::{Right, Rights, may_read, may_write};
 use std::alloc::{AllocError, Global};
 use std::marker::Model;
-use texts::Text;
 
 /// A state: what it began with, what has become of the objects, and what is left.
 #[derive(Drop)]
@@ -272,10 +269,7 @@ impl Parts {
         ensures { option_copied result
             ≡ rights_at (shown_objects self.now.seen.setting self.now.seen.world) segment }
     {
-        match &self.look(segment)?.body {
-            Body::Segment(rights) => Some(rights),
-            _ => None,
-        }
+        rights_of(&self.look(segment)?.body)
     }
 
     // The groups in which the user of this name is.
@@ -283,10 +277,7 @@ impl Parts {
         ensures { option_copied result
             ≡ groups_at (shown_objects self.now.seen.setting self.now.seen.world) user }
     {
-        match &self.look(user)?.body {
-            Body::User(user) => Some(user.groups.as_slice()),
-            _ => None,
-        }
+        groups_of(&self.look(user)?.body)
     }
 }
 
@@ -299,17 +290,6 @@ fn add_name(touched: &mut IndexSet<u64>, name: u64)
     let Ok(_) = touched.insert(name) else {
         unreachable!()
     };
-}
-
-// The right that the user has on a segment that gives these rights.
-fn right_on_segment(rights: &Rights<Text>, user: Oid) -> Right
-    ensures { result ≡ right_on_segment rights.now user }
-{
-    if user.number() == rights.owner {
-        Right::Write
-    } else {
-        Right::Read
-    }
 }
 
 /// The object of this name before anything was changed: a reduced-conflict one as of the view, any

@@ -14,8 +14,7 @@ ghost use Rattle.plain_state.specs.Puts.{missed_all, lacked};
 
 use crate::edit::Edit;
 use crate::parts::Parts;
-use gem_object::{Body, Object};
-use gem_value::Oid;
+use gem_object::{Body, Object, Oid};
 use indexmap::IndexSet;
 use object_guard::{fits, missing_names, same_fixed};
 use running_objects::Stop;

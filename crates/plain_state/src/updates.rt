@@ -2,10 +2,9 @@
 ghost use Rattle.std.specs.Prelude.{◌≡◌, length, OnOk, OnErr, IfOk};
 ghost use Rattle.std.specs.List.{list_all};
 ghost use Rattle.gem_object.specs.Order.{value_order};
-ghost use Rattle.gem_object.specs.Spelling.{is_key};
 ghost use Rattle.gem_object.specs.declared.value.Value.{Value};
-ghost use Rattle.rc_counter_bag.specs.Bag.{with_one_more};
-ghost use Rattle.rc_dict.specs.Dict.{put as put_key};
+ghost use Rattle.gem_object.specs.rc_counter_bag.Bag.{with_one_more};
+ghost use Rattle.gem_object.specs.rc_dict.Dict.{put as put_key};
 ghost use Rattle.gem_image.specs.Image.{contents_of};
 ghost use Rattle.gem_update.specs.Update.{fits_update};
 ghost use Rattle.object_programs.specs.Atom.{Note};
@@ -18,13 +17,9 @@ ghost use Rattle.plain_state.specs.Parts.{SameObjects};
 ghost use Rattle.plain_state.specs.Updates.{new_values, has_key, has_room, may_update, missed_update, takes, with_update, applied, applied_noted, after_allowed_update};
 
 use crate::parts::{Parts, object_before};
-use gem_object::{Body, Object, Value};
+use gem_object::{Bag, BagUpdate, Body, DictUpdate, KeyDict, Object, Oid, QueueUpdate, Value};
 use gem_update::laws::spelling_stays;
 use gem_update::{Update, UpdateFault, update_body};
-use gem_value::Oid;
-use rc_counter_bag::{Bag, BagUpdate};
-use rc_dict::{DictUpdate, KeyDict};
-use rc_queue::QueueUpdate;
 use running_objects::Stop;
 use sorted_pairs::place;
 use std::alloc::AllocError;
@@ -195,23 +190,8 @@ fn has_key(update: &Update) -> bool
     ensures { result ≡ has_key update.now }
 {
     match update {
-        Update::RcDict(DictUpdate::Put(key, _)) => is_key(key),
+        Update::RcDict(DictUpdate::Put(key, _)) => key.is_key(),
         _ => true,
-    }
-}
-
-fn is_key(value: &Value) -> bool
-    ensures { result ≡ is_key value.now }
-{
-    match value {
-        Value::Nil => false,
-        Value::False => true,
-        Value::True => true,
-        Value::Int(_) => true,
-        Value::Char(_) => true,
-        Value::Sym(_) => true,
-        Value::Ref(_) => false,
-        Value::Block(_) => false,
     }
 }
 

@@ -11,9 +11,8 @@ ghost use Rattle.plain_state.specs.Writes.{replaced, changed_to, moved_to, updat
 
 use crate::edit::Edit;
 use crate::parts::{Parts, object_before};
-use gem_object::{Body, Object};
+use gem_object::{Body, Object, Oid};
 use gem_update::Update;
-use gem_value::Oid;
 use std::alloc::AllocError;
 
 impl Parts {

@@ -7,8 +7,8 @@ use Rattle.gem_object.specs.declared.body.ClassBody.{ClassBody}
 use Rattle.gem_object.specs.declared.body.Body.{Body}
 use Rattle.gem_object.specs.declared.body.Body.TheVariants as body
 use Rattle.gem_image.specs.Image.{Contents}
-use Rattle.gem_world.specs.Access.{Access}
-use Rattle.tree_meaning.specs.Place.{MadeBlock}
+use Rattle.object_programs.specs.gem_world.Access.{Access}
+use Rattle.prim_parts.specs.tree_meaning.Place.{MadeBlock}
 use Rattle.object_programs.specs.Atom.{Ask}
 use Rattle.object_programs.specs.Run.{Run, atom, and_then}
 use Rattle.object_programs.specs.Programs.{need, check}

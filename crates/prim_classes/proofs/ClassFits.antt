@@ -2,12 +2,12 @@
 use Rattle.std.proofs.Common.{◌≡◌, refl, sym, ap, ◌∙◌, ℕ, Bool, true, false, ◌&&◌, not, nat_lt, List, [], ◌∷◌, filter, if◌then◌else◌, Option, Some, None, Ok}
 use Rattle.std.proofs.lemmas.Bool.{false≢true, and_parts, and_from}
 use Rattle.std.specs.List.{list_all}
-use Rattle.texts.specs.Bytes.{Bytes as Text}
+use Rattle.gem_object.specs.texts.Bytes.{Bytes as Text}
 use Rattle.gem_object.specs.declared.body.ClassBody.{ClassBody}
 use Rattle.gem_object.specs.declared.body.Body.{Body}
 use Rattle.gem_object.specs.declared.body.Body.TheVariants as body
 use Rattle.gem_image.specs.Image.{Contents}
-use Rattle.tree_meaning.specs.Place.{MadeBlock}
+use Rattle.prim_parts.specs.tree_meaning.Place.{MadeBlock}
 use Rattle.object_programs.specs.Local.{Local}
 use Rattle.object_programs.specs.Fixed.{class_part, fixed_by}
 use Rattle.object_programs.specs.Guard.{Parts, is_known, is_segment_at, accepts, named_fit, kernel_fits, place_fits, fits}

@@ -9,7 +9,7 @@ use Rattle.gem_object.specs.declared.body.Body.{Body}
 use Rattle.gem_object.specs.declared.body.Body.TheVariants as body
 use Rattle.gem_object.specs.declared.object.Object.{Object}
 use Rattle.gem_image.specs.Image.{Contents, contents_of}
-use Rattle.gem_world.specs.World.{next_name}
+use Rattle.object_programs.specs.gem_world.World.{next_name}
 use Rattle.gem_sound.specs.Kernel.{class_class}
 use Rattle.object_programs.specs.Budget.{is_within_limits}
 use Rattle.object_programs.specs.Methods.{method_fits, methods_fit}

@@ -10,7 +10,7 @@ use Rattle.gem_object.specs.declared.value.Value.TheVariants.{Nil}
 use Rattle.gem_object.specs.declared.body.Body.{Body}
 use Rattle.gem_object.specs.declared.body.Body.TheVariants as body
 use Rattle.gem_image.specs.Image.{Contents, contents_of}
-use Rattle.tree_meaning.specs.Place.{MadeBlock}
+use Rattle.prim_parts.specs.tree_meaning.Place.{MadeBlock}
 use Rattle.object_programs.specs.Atom.{Make, made_by, name_check, too_large}
 use Rattle.object_programs.specs.Budget.{is_within_limits}
 use Rattle.object_programs.specs.Run.{Run, and_then}
@@ -24,8 +24,8 @@ use Rattle.running_objects.specs.declared.stop.Stop.TheVariants as stop
 use Rattle.running_objects.proofs.Running.{acted_refuses}
 use Rattle.gem_object.specs.declared.body.ClassBody.{ClassBody}
 use Rattle.gem_object.specs.declared.object.Object.{Object}
-use Rattle.texts.specs.Bytes.{Bytes as Text}
-use Rattle.seg_rights.specs.declared.rights.Rights.{Rights}
+use Rattle.gem_object.specs.texts.Bytes.{Bytes as Text}
+use Rattle.gem_object.specs.seg_rights.declared.rights.Rights.{Rights}
 use Rattle.prim_rules.specs.New.{nil_slots, new_body, sized_body, count_in, own_rights, new_of_kind}
 use Rattle.prim_rules.specs.Parts.{int_in, class_in, named_slots, default_segment, new_object_in, new_object}
 use Rattle.prim_parts.specs.Does.{Does}

@@ -1,13 +1,13 @@
 -- How an object is put into another segment.
 use Rattle.std.proofs.Common.{◌≡◌, refl, sym, ap, ◌∙◌, subst, ℕ, Bool, Result, Ok, Err}
 use Rattle.std.specs.Result.{IsErrAnd}
-use Rattle.texts.specs.Bytes.{Bytes as Text}
-use Rattle.seg_rights.specs.declared.rights.Rights.{Rights}
+use Rattle.gem_object.specs.texts.Bytes.{Bytes as Text}
+use Rattle.gem_object.specs.seg_rights.declared.rights.Rights.{Rights}
 use Rattle.gem_object.specs.declared.body.Body.{Body}
 use Rattle.gem_object.specs.declared.body.Body.TheVariants as body
 use Rattle.gem_image.specs.Image.{Contents}
-use Rattle.gem_world.specs.World.{Setting, is_made}
-use Rattle.tree_meaning.specs.Place.{MadeBlock}
+use Rattle.object_programs.specs.gem_world.World.{Setting, is_made}
+use Rattle.prim_parts.specs.tree_meaning.Place.{MadeBlock}
 use Rattle.object_programs.specs.Atom.{Made, Move}
 use Rattle.object_programs.specs.Run.{Run, atom, and_then}
 use Rattle.object_programs.specs.Programs.{check}

@@ -1,13 +1,13 @@
 -- What is printed, by what is printed of values and of objects.
 use Rattle.std.proofs.Common.{◌≡◌, sym, subst, ℕ, nat_eq, Bool, true, false, cond, List, Option, Result, Ok}
-use Rattle.texts.specs.Bytes.{Bytes as Text}
+use Rattle.gem_object.specs.texts.Bytes.{Bytes as Text}
 use Rattle.gem_object.specs.declared.value.Value.{Value}
 use Rattle.gem_object.specs.declared.value.Value.TheVariants as value
 use Rattle.gem_object.specs.declared.body.Body.{Body}
 use Rattle.gem_object.specs.declared.body.Body.TheVariants as body
 use Rattle.gem_image.specs.Image.{Contents}
 use Rattle.gem_sound.specs.declared.names.TheConstants.{ARRAY_CLASS}
-use Rattle.tree_meaning.specs.Place.{MadeBlock}
+use Rattle.prim_parts.specs.tree_meaning.Place.{MadeBlock}
 use Rattle.object_programs.specs.Run.{Run, give}
 use Rattle.object_programs.specs.Programs.{choose}
 use Rattle.running_objects.specs.Seen.{Seen}

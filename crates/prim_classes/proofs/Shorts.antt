@@ -7,10 +7,10 @@ use Rattle.std.proofs.Math.ListN.{drop_of_length-le}
 use Rattle.object_programs.specs.Programs.{check}
 use Rattle.object_programs.specs.declared.fault.Fault.{Fault}
 use Rattle.std.specs.Result.{IsErrAnd}
-use Rattle.texts.specs.Bytes.{Bytes as Text}
-use Rattle.gem_world.specs.World.{Setting}
+use Rattle.gem_object.specs.texts.Bytes.{Bytes as Text}
+use Rattle.object_programs.specs.gem_world.World.{Setting}
 use Rattle.gem_object.specs.declared.value.Value.{Value}
-use Rattle.tree_meaning.specs.Place.{MadeBlock}
+use Rattle.prim_parts.specs.tree_meaning.Place.{MadeBlock}
 use Rattle.object_programs.specs.Local.{Local}
 use Rattle.object_programs.specs.Run.{Run, give, and_then, Ending, gives, returns, fails, State, Outcome, onward, perform}
 use Rattle.running_objects.specs.Seen.{Seen, with_local}

@@ -2,12 +2,12 @@
 use Rattle.std.proofs.Common.{◌≡◌, refl, sym, ap, ◌∙◌, subst, ℕ, suc, ◌+◌, ◌*◌, ◌<◌, ◌≤◌, nat_eq, nat_le, Bool, true, false, ◌&&◌, cond, ◌==◌, List, [], ◌∷◌, length, drop, Option, Some, None, arith}
 use Rattle.std.proofs.Math.ListN.{drop_of_length-le}
 use Rattle.std.proofs.lemmas.Bool.Decides.{nat_tests}
-use Rattle.texts.specs.Bytes.{Bytes}
-use Rattle.texts.specs.NameBytes.{starts_name}
-use Rattle.st_grammar.specs.Tokens.{Kind, symbol, Token, TokenRule, Piece, end, gap, token, bad, piece, Lexes, at_end, after_gap, after_token, Stops, here, past_gap, past_token, symbol_at, symbol_name, quoted_symbol, string_end, string_bytes, later, is_second, is_operator, begins, begins_with, p3}
+use Rattle.gem_object.specs.texts.Bytes.{Bytes}
+use Rattle.gem_object.specs.texts.NameBytes.{starts_name}
+use Rattle.gem_sound.specs.st_grammar.Tokens.{Kind, symbol, Token, TokenRule, Piece, end, gap, token, bad, piece, Lexes, at_end, after_gap, after_token, Stops, here, past_gap, past_token, symbol_at, symbol_name, quoted_symbol, string_end, string_bytes, later, is_second, is_operator, begins, begins_with, p3}
 use Rattle.st_lexer.proofs.PieceCuts.{solid_symbol, no_gap}
 use Rattle.st_lexer.proofs.Sizes.{on_cond}
-use Rattle.profile.specs.declared.limits.TheConstants.{SYMBOL_LIMIT}
+use Rattle.gem_object.specs.texts.declared.limits.TheConstants.{SYMBOL_LIMIT}
 use Rattle.st_lexer.specs.Views.{IsFault}
 use Rattle.st_lexer.specs.declared.kinds.LexFault.{LexFault}
 use Rattle.st_lexer.specs.declared.kinds.LexFault.TheVariants.{Bad}

@@ -2,10 +2,10 @@
 use Rattle.std.proofs.Common.{◌≡◌, refl, sym, ap, ◌∙◌, subst, ℕ, Bool, true, false, cond, [], Option, Some, None, is_some, option_map, Ok}
 use Rattle.gem_object.specs.declared.body.UserBody.{UserBody}
 use Rattle.gem_image.specs.Image.{Contents}
-use Rattle.gem_world.specs.World.{Setting, World, shown}
-use Rattle.gem_world.specs.Access.{a_read, is_allowed, with_touches, accessed}
+use Rattle.object_programs.specs.gem_world.World.{Setting, World, shown}
+use Rattle.object_programs.specs.gem_world.Access.{a_read, is_allowed, with_touches, accessed}
 use Rattle.object_programs.proofs.Worlds.{shown_asked}
-use Rattle.tree_meaning.specs.Place.{MadeBlock}
+use Rattle.prim_parts.specs.tree_meaning.Place.{MadeBlock}
 use Rattle.object_programs.specs.Local.{Local}
 use Rattle.object_programs.specs.Fixed.{Fixed, fixed_of, fixed_by}
 use Rattle.object_programs.specs.Laws.{KeepsParts}

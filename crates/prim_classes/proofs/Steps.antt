@@ -1,8 +1,8 @@
 -- How what calls did in turn makes what a rule says.
 use Rattle.std.specs.Result.{IsErrAnd}
 use Rattle.std.proofs.Common.{◌≡◌, subst, ℕ, Result, Ok, Err}
-use Rattle.tree_meaning.specs.Place.{MadeBlock}
-use Rattle.gem_world.specs.Access.{Access}
+use Rattle.prim_parts.specs.tree_meaning.Place.{MadeBlock}
+use Rattle.object_programs.specs.gem_world.Access.{Access}
 use Rattle.gem_image.specs.Image.{Contents}
 use Rattle.object_programs.specs.Atom.{Ask}
 use Rattle.object_programs.specs.Run.{Run, give, atom, and_then}

@@ -4,7 +4,7 @@ use Rattle.gem_object.specs.declared.value.Value.{Value}
 use Rattle.gem_object.specs.declared.value.Value.TheVariants.{Sym}
 use Rattle.gem_object.specs.declared.body.ClassBody.{ClassBody}
 use Rattle.gem_object.specs.declared.body.Body.TheVariants as body
-use Rattle.texts.specs.Bytes.{Bytes as Text}
+use Rattle.gem_object.specs.texts.Bytes.{Bytes as Text}
 use Rattle.object_programs.specs.Run.{Run, give, and_then}
 use Rattle.object_programs.specs.Programs.{replace_body}
 use Rattle.gem_image.specs.Image.{Contents}

@@ -1,7 +1,7 @@
 -- How print texts are put together: what is printed of a value and of an object, and that a text
 -- isn't kept which is too long.
 use Rattle.std.specs.Prelude.{ℕ, Bool, true, false, nat_eq, cond, [], ◌∷◌, ◌++◌, Option, None, Some, codes}
-use Rattle.texts.specs.Bytes.{Bytes as Text}
+use Rattle.gem_object.specs.texts.Bytes.{Bytes as Text}
 use Rattle.gem_object.specs.declared.value.Value.{Value}
 use Rattle.gem_object.specs.declared.value.Value.TheVariants.{Nil, False, True, Int, Char, Sym, Ref, Block}
 use Rattle.gem_object.specs.declared.body.Body.{Body}

@@ -1,7 +1,7 @@
 -- The words of `assignToSegment:` by which the code is grouped.
 use Rattle.std.specs.Prelude.{ℕ, Bool, true, false, ◌||◌}
-use Rattle.texts.specs.Bytes.{Bytes as Text}
-use Rattle.seg_rights.specs.declared.rights.Rights.{Rights}
+use Rattle.gem_object.specs.texts.Bytes.{Bytes as Text}
+use Rattle.gem_object.specs.seg_rights.declared.rights.Rights.{Rights}
 use Rattle.gem_object.specs.declared.body.Body.{Body}
 use Rattle.gem_object.specs.declared.body.Body.TheVariants as body
 use Rattle.object_programs.specs.Atom.{Own, Made, Who, Move}

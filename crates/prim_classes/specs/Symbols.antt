@@ -1,6 +1,6 @@
 -- Which symbols are printed without quotes, by the tokens of their texts.
 use Rattle.std.specs.Prelude.{ℕ, Bool, true, false, ◌&&◌, nat_eq, List, [], ◌∷◌}
-use Rattle.st_grammar.specs.Tokens.{Kind, symbol, Token}
+use Rattle.gem_sound.specs.st_grammar.Tokens.{Kind, symbol, Token}
 
 abbrev pub is_symbol : Kind → Bool
 is_symbol symbol = true

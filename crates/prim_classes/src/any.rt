@@ -1,6 +1,6 @@
 //! The primitives 1 to 9, which any receiver understands.
 ghost use Rattle.std.specs.Prelude.{◌≡◌, ◌||◌, ℕ, true, not, cond, Some, None, IfOk, IfSome};
-ghost use Rattle.texts.specs.Bytes.{Bytes};
+ghost use Rattle.gem_object.specs.texts.Bytes.{Bytes};
 ghost use Rattle.gem_object.specs.Order.{same_value};
 ghost use Rattle.gem_object.specs.declared.value.Value.TheVariants.{Ref};
 ghost use Rattle.object_programs.specs.Methods.{methods_fit};
@@ -10,9 +10,8 @@ ghost use Rattle.prim_classes.specs.Prints.{short, print_string_of};
 ghost use Rattle.prim_parts.specs.Does.{Does, Computes};
 
 use crate::printing::short_text;
-use gem_object::{Body, Value};
+use gem_object::{Body, Oid, Sequence, Text, Value};
 use gem_sound::names::STRING_CLASS;
-use gem_value::{Oid, Sequence};
 use object_programs::Fault;
 use prim_parts::{
     check, class_of_value, default_segment, kernel_name, new_object, new_object_in, no_arguments,
@@ -21,7 +20,6 @@ use prim_parts::{
 use prim_rules::PrimitiveAnswer;
 use running_objects::{Objects, Stop};
 use std::alloc::{AllocError, Global};
-use texts::Text;
 
 fn is_block(value: &Value) -> bool
     ensures { result ≡ is_block value.now }

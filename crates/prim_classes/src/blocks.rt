@@ -3,8 +3,7 @@ ghost use Rattle.std.specs.Prelude.{◌≡◌, IfOk};
 ghost use Rattle.prim_rules.specs.Blocks.{value_row, row_32};
 ghost use Rattle.prim_parts.specs.Does.{Computes};
 
-use gem_object::{Value, Values};
-use gem_value::Sequence;
+use gem_object::{Sequence, Value, Values};
 use object_programs::Fault;
 use prim_parts::{block_in, check, no_arguments};
 use prim_rules::PrimitiveAnswer;

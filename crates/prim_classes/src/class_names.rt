@@ -3,28 +3,16 @@ ghost use Rattle.std.specs.Prelude.{◌≡◌, ◌+◌, nat_le, length, IfOk};
 ghost use Rattle.std.specs.List.{list_all, list_any};
 ghost use Rattle.object_programs.specs.Programs.{need};
 ghost use Rattle.object_programs.specs.declared.fault.Fault.TheVariants as fault;
-ghost use Rattle.shell_words.specs.Names.{is_name};
+ghost use Rattle.gem_object.specs.texts.Names.{is_name};
 ghost use Rattle.object_programs.specs.declared.limits.TheConstants.{NAMES_LIMIT};
 ghost use Rattle.prim_rules.specs.Classes.{begins_with_capital, class_name_in, may_have_subclasses, symbols_in, is_one_of, are_distinct, may_be_named, may_add_names};
 ghost use Rattle.prim_parts.specs.Does.{Computes, pointed};
 
-use gem_object::{Kind, Names, Value};
-use gem_value::Sequence;
+use gem_object::{Kind, Names, Sequence, Text, Value, is_name};
 use object_programs::{Fault, NAMES_LIMIT};
 use prim_parts::symbol_in;
 use running_objects::Stop;
 use std::alloc::{AllocError, Global};
-use texts::{Text, are_name_bytes, starts_name};
-
-// A letter or `_`, and then letters, digits and `_`.
-fn is_name(name: &[u8]) -> bool
-    ensures { result ≡ is_name name.now }
-{
-    let Some((first, rest)) = name.split_first() else {
-        return false;
-    };
-    starts_name(*first) && are_name_bytes(rest)
-}
 
 fn begins_with_capital(name: &[u8]) -> bool
     ensures { result ≡ begins_with_capital name.now }

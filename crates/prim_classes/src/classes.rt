@@ -1,7 +1,7 @@
 //! The primitives 54 to 60, of classes.
 ghost use Rattle.std.specs.Prelude.{◌≡◌, true, not, drop, Some, filter, map, [], IfOk, List};
 ghost use Rattle.gem_image.specs.Image.{Contents};
-ghost use Rattle.gem_world.specs.World.{next_name};
+ghost use Rattle.object_programs.specs.gem_world.World.{next_name};
 ghost use Rattle.prim_parts.specs.Entering.{HasNames};
 ghost use Rattle.gem_object.specs.declared.value.Value.{Value};
 ghost use Rattle.gem_object.specs.declared.value.Value.TheVariants.{Sym};
@@ -20,9 +20,10 @@ ghost use Rattle.prim_classes.specs.ClassWords.{told_by, listed_by, IsNew, with_
 
 use crate::blocks::copies;
 use crate::class_names::{class_name_in, may_add_names, may_have_subclasses, symbols_in};
-use gem_object::{Body, ClassBody, Kind, Method, Methods, Names, Object, Value, Values};
+use gem_object::{
+    Body, ClassBody, Kind, Method, Methods, Names, Object, Oid, Sequence, Text, Value, Values,
+};
 use gem_sound::names::{ARRAY_CLASS, CLASS_CLASS, IDENTITY_DICTIONARY_CLASS};
-use gem_value::{Oid, Sequence};
 use object_programs::Fault;
 use prim_parts::{
     all_names, check, check_kind, default_segment, kernel_name, make_and_enter, named_slots,
@@ -31,7 +32,6 @@ use prim_parts::{
 use prim_rules::PrimitiveAnswer;
 use running_objects::{Objects, Stop};
 use std::alloc::{AllocError, Global};
-use texts::Text;
 
 // What a class tells of itself.
 #[derive(Clone, Copy)]

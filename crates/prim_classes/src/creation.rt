@@ -9,21 +9,17 @@ ghost use Rattle.prim_rules.specs.Parts.{new_object};
 ghost use Rattle.prim_parts.specs.Does.{Does, Computes, IsThere};
 ghost use Rattle.prim_classes.specs.Creation.{sized_kind, body_of, may_fit, new_other, new_elements};
 
-use gem_object::{Body, Kind, Object, Value};
-use gem_value::{Oid, Sequence};
-use insertion_map::InsertionMap;
+use gem_object::{
+    Bag, Body, Counter, Groups, InsertionMap, KeyDict, Kind, Object, Oid, Queue, Right, Rights,
+    Sequence, Text, Value,
+};
 use object_programs::{BYTES_LIMIT, Fault, SLOTS_LIMIT};
 use prim_parts::{
     default_segment, int_in, named_slots, new_object, no_arguments, one_of, reference_in,
 };
 use prim_rules::PrimitiveAnswer;
-use rc_counter_bag::{Bag, Counter};
-use rc_dict::KeyDict;
-use rc_queue::Queue;
 use running_objects::{Objects, Stop};
-use seg_rights::{Groups, Right, Rights};
 use std::alloc::{AllocError, Global};
-use texts::Text;
 
 // What `new:` gives its argument's number of.
 #[derive(Clone, Copy)]

@@ -2,10 +2,10 @@
 ghost use Rattle.std.specs.Prelude.{◌≡◌, ◌++◌, [], ◌∷◌, IfOk};
 ghost use Rattle.prim_classes.specs.Prints.{short};
 
+use gem_object::Text;
 use object_programs::PRINT_LIMIT;
 use std::alloc::{AllocError, Global};
 use std::marker::Model;
-use texts::Text;
 
 /// A text that grows at its end. A contract sees its bytes.
 #[derive(Drop)]
@@ -14,7 +14,7 @@ pub struct Growing {
 }
 
 impl Model for Growing {
-    ghost use Rattle.texts.specs.Bytes.{Bytes};
+    ghost use Rattle.gem_object.specs.texts.Bytes.{Bytes};
 
     ghost Value = { Bytes };
 

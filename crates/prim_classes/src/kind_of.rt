@@ -8,8 +8,7 @@ ghost use Rattle.prim_rules.specs.Any.{class_argument, reads_up, is_kind_of_rule
 ghost use Rattle.prim_classes.specs.Superclasses.{superclass_read};
 ghost use Rattle.prim_parts.specs.Does.{Does};
 
-use gem_object::{Body, Value};
-use gem_value::Oid;
+use gem_object::{Body, Oid, Value};
 use object_programs::Fault;
 use prim_parts::{class_of_value, one_of, reference_in, truth};
 use prim_rules::PrimitiveAnswer;

@@ -7,13 +7,11 @@ ghost use Rattle.prim_classes.specs.Prints.{print_of_value, print_of_object, has
 
 use crate::growing::Growing;
 use crate::words::{decimal_text, quoted, symbol_text, with_article};
-use gem_object::{Body, Object, Value, Values};
+use gem_object::{Body, Object, Oid, Text, Value, Values};
 use gem_sound::names::ARRAY_CLASS;
-use gem_value::Oid;
 use object_programs::{Fault, PRINT_LIMIT};
 use running_objects::{Objects, Stop};
 use std::alloc::{AllocError, Global};
-use texts::Text;
 
 // What is printed of a value.
 #[derive(Drop)]

@@ -8,16 +8,13 @@ ghost use Rattle.prim_parts.specs.Does.{Does};
 ghost use Rattle.prim_classes.specs.Segments.{movable_by, may_move, rights_read, check_writer, moved};
 
 use gem_image::groups_of;
-use gem_object::{Body, Value};
+use gem_object::{Body, Groups, Oid, Rights, Text, Value, may_write};
 use gem_sound::names::SEGMENT_CLASS;
-use gem_value::Oid;
 use object_programs::Fault;
 use prim_parts::{check, check_kind, kernel_name, no_arguments, one_of, reference_in};
 use prim_rules::PrimitiveAnswer;
 use running_objects::{Objects, Stop};
-use seg_rights::{Groups, Rights, may_write};
 use std::alloc::AllocError;
-use texts::Text;
 
 // When an object may be put into another segment.
 #[derive(Clone, Copy)]

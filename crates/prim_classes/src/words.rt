@@ -1,13 +1,13 @@
 //! The texts of which print texts are made.
 ghost use Rattle.std.specs.Prelude.{◌≡◌, ◌∷◌, ◌++◌, cond, codes, IfOk, OnOk};
-ghost use Rattle.st_grammar.specs.Tokens.{begins};
+ghost use Rattle.gem_sound.specs.st_grammar.Tokens.{begins};
 ghost use Rattle.prim_rules.specs.Texts.{with_quote_doubled, quoted, symbol_text, is_symbol_token, is_vowel, with_article, decimal_text};
 ghost use Rattle.st_lexer.specs.Views.{tokens_seen};
 ghost use Rattle.prim_classes.specs.Symbols.{begins_with_symbol};
 
+use gem_object::Text;
 use st_lexer::{LexFault, Token, TokenKind, tokens};
 use std::alloc::{AllocError, Global};
-use texts::Text;
 
 // A quoted symbol is never longer: each byte of its name may stand twice.
 const SYMBOL_TOKEN_LIMIT: usize = 2_003;

@@ -1,6 +1,6 @@
 -- What is seen stays the same where a fixed part is asked for.
 use Rattle.std.proofs.Common.{sym, ap, ap₂, ℕ, Option, Result, Ok, Err, OnOk}
-use Rattle.gem_world.specs.World.{Setting, World, shown}
+use Rattle.object_programs.specs.gem_world.World.{Setting, World, shown}
 use Rattle.object_programs.specs.Atom.{Done, touch_missing}
 use Rattle.object_programs.specs.Fixed.{Fixed}
 use Rattle.running_objects.specs.Seen.{Seen}

@@ -4,9 +4,9 @@ use Rattle.std.proofs.lemmas.Bool.{false≢true}
 use Rattle.std.proofs.Common.{[], ◌≡◌, sym, ap, ◌∙◌, subst, ℕ, Bool, true, false, Option, Some, None, Result, Ok, Err}
 use Rattle.gem_object.specs.declared.value.Value.{Value}
 use Rattle.gem_object.specs.declared.body.Body.{Body}
-use Rattle.gem_image.specs.Image.{Contents}
-use Rattle.gem_world.specs.Access.{Access}
-use Rattle.tree_meaning.specs.Place.{MadeBlock}
+use Rattle.gem_sound.specs.gem_image.Image.{Contents}
+use Rattle.object_programs.specs.gem_world.Access.{Access}
+use Rattle.prim_parts.specs.tree_meaning.Place.{MadeBlock}
 use Rattle.object_programs.specs.Local.{Local}
 use Rattle.object_programs.specs.Atom.{Ask}
 use Rattle.object_programs.specs.Run.{Run, give, atom, and_then, gives, Outcome, Ending}

@@ -5,7 +5,7 @@ use Rattle.gem_object.specs.declared.value.Value.{Value}
 use Rattle.gem_object.specs.declared.value.Value.TheVariants as value
 use Rattle.gem_object.specs.declared.body.Body.{Body}
 use Rattle.gem_object.specs.declared.body.Body.TheVariants.{Plain, Bytes, Dict, Class, Segment, User, Counter, Bag, RcDict, Queue}
-use Rattle.gem_image.specs.Image.{Contents}
+use Rattle.gem_sound.specs.gem_image.Image.{Contents}
 use Rattle.object_programs.specs.Run.{give}
 use Rattle.object_programs.specs.Programs.{need, replace_body}
 use Rattle.object_programs.specs.declared.fault.Fault.TheVariants as fault

@@ -1,10 +1,10 @@
 -- How the rule of `,` for sequences goes on.
 use Rattle.std.specs.Prelude.{◌≡◌, ℕ, drop, List, ◌++◌, Option, Some}
-use Rattle.tree_meaning.specs.Place.{MadeBlock}
+use Rattle.prim_parts.specs.tree_meaning.Place.{MadeBlock}
 use Rattle.gem_object.specs.declared.kind.Kind.TheVariants.{Indexed}
 use Rattle.gem_object.specs.declared.value.Value.{Value}
 use Rattle.gem_object.specs.declared.body.Body.TheVariants.{Plain}
-use Rattle.gem_image.specs.Image.{Contents}
+use Rattle.gem_sound.specs.gem_image.Image.{Contents}
 use Rattle.object_programs.specs.Fixed.{ClassPart, same_kind}
 use Rattle.object_programs.specs.Run.{Run, give, and_then}
 use Rattle.object_programs.specs.Programs.{need, check, known}

@@ -1,7 +1,7 @@
 -- What code says of an object that it looks at, after an access or before an edit.
 use Rattle.std.specs.Prelude.{◌≡◌, ℕ, Some, Result}
-use Rattle.tree_meaning.specs.Place.{MadeBlock}
-use Rattle.gem_image.specs.Image.{Contents}
+use Rattle.prim_parts.specs.tree_meaning.Place.{MadeBlock}
+use Rattle.gem_sound.specs.gem_image.Image.{Contents}
 use Rattle.object_programs.specs.Run.{Run}
 use Rattle.running_objects.specs.Seen.{Seen, object_at}
 use Rattle.running_objects.specs.declared.stop.Stop.{Stop}

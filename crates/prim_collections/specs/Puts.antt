@@ -1,9 +1,9 @@
 -- How rules end that change a receiver, as programs over the object as it is then.
 use Rattle.std.specs.Prelude.{ℕ}
-use Rattle.tree_meaning.specs.Place.{MadeBlock}
+use Rattle.prim_parts.specs.tree_meaning.Place.{MadeBlock}
 use Rattle.gem_object.specs.Edits.{with_value_at}
 use Rattle.gem_object.specs.declared.value.Value.{Value}
-use Rattle.gem_image.specs.Image.{Contents}
+use Rattle.gem_sound.specs.gem_image.Image.{Contents}
 use Rattle.object_programs.specs.Run.{Run, and_then}
 use Rattle.object_programs.specs.Programs.{replace_body}
 use Rattle.prim_rules.specs.Receivers.{answer}

@@ -1,10 +1,10 @@
 -- How the slots of an Array or an OrderedCollection are laid out, as code tells it.
 use Rattle.std.specs.Prelude.{◌≡◌, ℕ, take, drop, length, List, Some, Result, Ok, Err}
-use Rattle.tree_meaning.specs.Place.{MadeBlock}
+use Rattle.prim_parts.specs.tree_meaning.Place.{MadeBlock}
 use Rattle.gem_object.specs.Edits.{slot_at, with_slot, with_slot_more, without_slot}
 use Rattle.gem_object.specs.declared.value.Value.{Value}
 use Rattle.gem_object.specs.declared.body.Body.TheVariants.{Plain}
-use Rattle.gem_image.specs.Image.{Contents}
+use Rattle.gem_sound.specs.gem_image.Image.{Contents}
 use Rattle.object_programs.specs.Run.{Run, give, and_then}
 use Rattle.object_programs.specs.Programs.{need, replace_body}
 use Rattle.object_programs.specs.declared.fault.Fault.TheVariants as fault

@@ -1,7 +1,7 @@
 -- The rules for two texts, where the first one is known.
 use Rattle.std.specs.Prelude.{◌++◌}
-use Rattle.texts.specs.Bytes.{Bytes as Text}
-use Rattle.tree_meaning.specs.Place.{MadeBlock}
+use Rattle.gem_object.specs.texts.Bytes.{Bytes as Text}
+use Rattle.prim_parts.specs.tree_meaning.Place.{MadeBlock}
 use Rattle.gem_object.specs.declared.value.Value.{Value}
 use Rattle.object_programs.specs.Run.{Run, give, and_then}
 use Rattle.prim_rules.specs.Parts.{truth}

@@ -5,8 +5,7 @@ ghost use Rattle.prim_rules.specs.Parts.{slots_in, bytes_in, pairs_in};
 ghost use Rattle.prim_parts.specs.Does.{IsThere, pointed};
 ghost use Rattle.prim_collections.specs.Looks.{Looks};
 
-use gem_object::{Body, Dictionary, Value};
-use gem_value::Oid;
+use gem_object::{Body, Dictionary, Oid, Value};
 use object_programs::Fault;
 use running_objects::{Objects, Stop};
 

@@ -8,8 +8,7 @@ ghost use Rattle.prim_collections.specs.Joins.{HasElements, Shows, joined_rule, 
 
 use crate::indexes::part_of;
 use crate::layout::{class_at, layout_of};
-use gem_object::{Body, Kind, Value, Values};
-use gem_value::Oid;
+use gem_object::{Body, Kind, Oid, Value, Values};
 use object_programs::Fault;
 use prim_parts::{int_in, named_slots, new_object, one_of, reference_in, two_of};
 use prim_rules::PrimitiveAnswer;

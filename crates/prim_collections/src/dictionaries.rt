@@ -9,9 +9,8 @@ use crate::bodies::pairs_at;
 use crate::indexes::size_of;
 use crate::lists::{keys_of, values_of};
 use crate::pairs::{check_key, has_key, key_argument, read_dictionary, value_at, write_dictionary};
-use gem_object::{Body, Value, Values};
+use gem_object::{Body, Oid, Value, Values};
 use gem_sound::names::ARRAY_CLASS;
-use gem_value::Oid;
 use prim_parts::{
     check_stored, kernel_name, new_object, no_arguments, put_pair, remove_pair, truth, two_of,
 };

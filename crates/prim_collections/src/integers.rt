@@ -2,7 +2,7 @@
 ghost use Rattle.std.specs.Prelude.{◌≡◌, ◌-◌, ◌^◌, min, option_map, ℕ, neg_ℤ, pos, cond};
 ghost use Rattle.prim_rules.specs.Texts.{digits_in, if_small, integer_in};
 
-use profile::{INTEGER_LIMIT, is_small_integer};
+use gem_object::{INTEGER_LIMIT, is_small_integer};
 
 /// The integer that a text says: digits, with a `-` before them where it is negative; None where it
 /// says none, or one that is none of the language's.

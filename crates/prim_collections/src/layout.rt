@@ -5,7 +5,7 @@ ghost use Rattle.prim_collections.specs.Looks.{SaysOf};
 ghost use Rattle.prim_collections.specs.Slots.{TellsLayout};
 
 use crate::bodies::slots_at;
-use gem_value::Oid;
+use gem_object::Oid;
 use prim_parts::named_slots;
 use running_objects::{Objects, Stop};
 

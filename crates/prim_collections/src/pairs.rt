@@ -11,8 +11,7 @@ ghost use Rattle.prim_collections.specs.Looks.{Looks, SaysOf};
 ghost use Rattle.prim_parts.specs.Reached.{Receives};
 
 use crate::bodies::pairs_at;
-use gem_object::Value;
-use gem_value::Oid;
+use gem_object::{Oid, Value};
 use object_programs::Fault;
 use prim_parts::{one_of, reference_in};
 use running_objects::{Objects, Stop};

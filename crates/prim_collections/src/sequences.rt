@@ -8,8 +8,7 @@ ghost use Rattle.prim_collections.specs.Slots.{slot_rule, slot_put, slot_added, 
 
 use crate::indexes::{place_in, size_of};
 use crate::layout::layout_of;
-use gem_object::{Body, Value};
-use gem_value::Oid;
+use gem_object::{Body, Oid, Value};
 use object_programs::Fault;
 use prim_parts::{
     check_stored, insert_slot, int_in, no_arguments, one_of, reference_in, remove_slot,

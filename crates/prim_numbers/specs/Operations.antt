@@ -3,7 +3,7 @@ use Rattle.std.specs.Prelude.{ℤ, ◌+ℤ◌, ◌-ℤ◌, ◌*ℤ◌, int_lt, i
 use Rattle.gem_object.specs.declared.value.Value.{Value}
 use Rattle.gem_object.specs.declared.value.Value.TheVariants.{Int}
 use Rattle.object_programs.specs.Run.{Run, give}
-use Rattle.tree_meaning.specs.Place.{MadeBlock}
+use Rattle.prim_parts.specs.tree_meaning.Place.{MadeBlock}
 use Rattle.prim_rules.specs.Parts.{truth}
 use Rattle.prim_rules.specs.Numbers.{floor_quotient, floor_remainder, bits_and, bits_or, bits_xor, shifted, in_range, divided}
 use Rattle.prim_numbers.specs.declared.operation.Division.{Division}

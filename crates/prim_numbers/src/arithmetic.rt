@@ -6,10 +6,9 @@ ghost use Rattle.prim_numbers.specs.Operations.{division_result, compares, opera
 
 use crate::bits::combine_bits;
 use crate::operation::{Comparison, Division, Operation};
-use gem_object::Value;
+use gem_object::{LARGEST_INTEGER, SMALLEST_INTEGER, Value};
 use object_programs::Fault;
 use prim_parts::truth;
-use profile::{LARGEST_INTEGER, SMALLEST_INTEGER};
 use running_objects::Stop;
 
 /// By how many places a shift moves at most: more give no other answer.

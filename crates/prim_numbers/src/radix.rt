@@ -4,8 +4,8 @@ ghost use Rattle.std.specs.Fmt.{digit_glyph, digits_onto};
 ghost use Rattle.prim_rules.specs.Texts.{radix_text};
 ghost use Rattle.prim_numbers.specs.Radix.{sign_of};
 
+use gem_object::Text;
 use std::alloc::{AllocError, Global};
-use texts::Text;
 
 /// No number has more digits.
 const MOST_DIGITS: u32 = 64;

@@ -2,9 +2,9 @@
 use Rattle.std.proofs.Common.{◌≡◌, refl, sym, ap, ◌∙◌, subst, ℕ, Option, Some, None, [], option_map, Result, Ok, Err}
 use Rattle.std.specs.Result.{IsErrAnd}
 use Rattle.std.proofs.lemmas.Result.{err_from_is_err_and}
-use Rattle.gem_image.specs.Image.{Contents}
-use Rattle.gem_world.specs.World.{Setting}
-use Rattle.gem_world.specs.Access.{Access}
+use Rattle.gem_sound.specs.gem_image.Image.{Contents}
+use Rattle.object_programs.specs.gem_world.World.{Setting}
+use Rattle.object_programs.specs.gem_world.Access.{Access}
 use Rattle.tree_meaning.specs.Place.{MadeBlock}
 use Rattle.object_programs.specs.Local.{Local}
 use Rattle.object_programs.specs.Atom.{Atom, Ask, Who}

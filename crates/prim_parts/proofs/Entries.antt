@@ -3,7 +3,7 @@ use Rattle.std.proofs.Common.{◌≡◌, refl, sym, ap, ◌∙◌, subst, ℕ, �
 use Rattle.std.proofs.lemmas.Bool.Decides.{nat_tests}
 use Rattle.std.specs.List.{sum_by, list_all}
 use Rattle.std.proofs.lemmas.List.Sums.{sum_by-cons}
-use Rattle.insertion_map.specs.Pairs.{with_pair}
+use Rattle.gem_object.specs.insertion_map.Pairs.{with_pair}
 use Rattle.gem_object.specs.Order.{same_value}
 use Rattle.gem_object.specs.Edits.{with_value_at}
 use Rattle.gem_object.specs.Sizes.{pair_size}
@@ -11,9 +11,9 @@ use Rattle.gem_object.specs.declared.value.Value.{Value}
 use Rattle.gem_object.specs.declared.value.Value.TheVariants.{Ref}
 use Rattle.gem_object.specs.declared.body.Body.{Body}
 use Rattle.gem_object.specs.declared.body.Body.TheVariants as body
-use Rattle.gem_image.specs.Image.{Contents, contents_of}
-use Rattle.gem_world.specs.World.{Setting, World, name_of, next_name, shown}
-use Rattle.gem_world.specs.Changes.{with_body, make}
+use Rattle.gem_sound.specs.gem_image.Image.{Contents, contents_of}
+use Rattle.object_programs.specs.gem_world.World.{Setting, World, name_of, next_name, shown}
+use Rattle.object_programs.specs.gem_world.Changes.{with_body, make}
 use Rattle.object_programs.specs.Budget.{is_within_limits}
 use Rattle.object_programs.specs.Laws.{AreFree}
 use Rattle.object_programs.specs.Atom.{Make, Names, Room, named_where, spent_where, Answer, says, refuses, Done, MakeCheck, too_large, no_name, no_space, no_fault, make_check, made_by, made_where, with_new}

@@ -2,9 +2,9 @@
 use Rattle.std.specs.Result.{IsErrAnd}
 use Rattle.std.proofs.Common.{◌≡◌, sym, ap, subst, ℕ, Result, Ok, Err}
 use Rattle.tree_meaning.specs.Place.{MadeBlock}
-use Rattle.gem_world.specs.World.{Setting}
-use Rattle.gem_world.specs.Access.{Access}
-use Rattle.gem_image.specs.Image.{Contents}
+use Rattle.object_programs.specs.gem_world.World.{Setting}
+use Rattle.object_programs.specs.gem_world.Access.{Access}
+use Rattle.gem_sound.specs.gem_image.Image.{Contents}
 use Rattle.object_programs.specs.Atom.{Ask}
 use Rattle.object_programs.specs.Run.{Run, atom, and_then, State, Outcome, onward, perform}
 use Rattle.running_objects.specs.Seen.{Seen}

@@ -7,9 +7,9 @@ use Rattle.gem_object.specs.Sizes.{fields_size}
 use Rattle.gem_object.specs.declared.body.Body.{Body}
 use Rattle.gem_update.specs.Update.{updated}
 use Rattle.gem_update.specs.declared.update.Update.{Update}
-use Rattle.gem_image.specs.Image.{Contents}
-use Rattle.gem_world.specs.World.{Setting, World, shown}
-use Rattle.gem_world.specs.Changes.{with_body}
+use Rattle.gem_sound.specs.gem_image.Image.{Contents}
+use Rattle.object_programs.specs.gem_world.World.{Setting, World, shown}
+use Rattle.object_programs.specs.gem_world.Changes.{with_body}
 use Rattle.tree_meaning.specs.Place.{MadeBlock}
 use Rattle.object_programs.specs.Local.{Local}
 use Rattle.object_programs.specs.Atom.{Put, Note, Room, spent_where}

@@ -2,7 +2,7 @@
 use Rattle.std.specs.Prelude.{◌≡◌, ℕ, true, is_some, Result, Ok, Err}
 use Rattle.std.specs.Borrow.{Bor}
 use Rattle.tree_meaning.specs.Place.{MadeBlock}
-use Rattle.gem_world.specs.World.{Setting}
+use Rattle.object_programs.specs.gem_world.World.{Setting}
 use Rattle.object_programs.specs.Local.{Local}
 use Rattle.object_programs.specs.Run.{Run, State, perform}
 use Rattle.running_objects.specs.Seen.{Seen, object_at, with_local, Keeps}

@@ -2,7 +2,7 @@
 use Rattle.std.specs.Prelude.{◌≡◌, ℕ, Some, Result}
 use Rattle.gem_object.specs.declared.body.Body.{Body}
 use Rattle.gem_update.specs.declared.update.Update.{Update}
-use Rattle.gem_image.specs.Image.{Contents}
+use Rattle.gem_sound.specs.gem_image.Image.{Contents}
 use Rattle.object_programs.specs.Programs.{replace_body, update}
 use Rattle.object_programs.specs.declared.fault.Fault.{Fault}
 use Rattle.running_objects.specs.Seen.{Seen, object_at}

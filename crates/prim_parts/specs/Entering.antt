@@ -3,8 +3,8 @@ use Rattle.std.specs.Prelude.{◌≡◌, ◌+◌, ◌≤◌, ℕ, length, map, L
 use Rattle.std.specs.List.{list_all}
 use Rattle.gem_object.specs.declared.value.Value.{Value}
 use Rattle.gem_object.specs.declared.object.Object.{Object}
-use Rattle.gem_image.specs.Image.{Contents, contents_of}
-use Rattle.gem_world.specs.World.{next_name}
+use Rattle.gem_sound.specs.gem_image.Image.{Contents, contents_of}
+use Rattle.object_programs.specs.gem_world.World.{next_name}
 use Rattle.object_programs.specs.Budget.{is_within_limits}
 use Rattle.object_programs.specs.declared.limits.TheConstants.{COUNTER_LIMIT}
 use Rattle.prim_rules.specs.Receivers.{Receiver}
@@ -14,7 +14,7 @@ use Rattle.running_objects.specs.declared.stop.Stop.{Stop}
 use Rattle.prim_parts.specs.Does.{Does}
 use Rattle.gem_object.specs.Edits.{with_value_at}
 use Rattle.gem_object.specs.declared.value.Value.TheVariants.{Ref}
-use Rattle.gem_world.specs.Changes.{with_body}
+use Rattle.object_programs.specs.gem_world.Changes.{with_body}
 use Rattle.tree_meaning.specs.Place.{MadeBlock}
 use Rattle.object_programs.specs.Atom.{Make, Put}
 use Rattle.object_programs.specs.Run.{Run, give, atom, and_then}

@@ -7,8 +7,8 @@ use Rattle.gem_update.specs.Update.{updated}
 use Rattle.gem_update.specs.declared.update.Update.{Update}
 use Rattle.body_growth.specs.declared.change.Change.{Change}
 use Rattle.body_growth.specs.Changes.{Changes}
-use Rattle.gem_image.specs.Image.{Contents}
-use Rattle.gem_world.specs.Changes.{with_body}
+use Rattle.gem_sound.specs.gem_image.Image.{Contents}
+use Rattle.object_programs.specs.gem_world.Changes.{with_body}
 use Rattle.tree_meaning.specs.Place.{MadeBlock}
 use Rattle.object_programs.specs.Atom.{Room}
 use Rattle.object_programs.specs.Budget.{is_small, is_within_limits}

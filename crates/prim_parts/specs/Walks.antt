@@ -1,7 +1,7 @@
 -- The classes from one up to the last superclass, by fixed parts alone.
 use Rattle.std.specs.Prelude.{ℕ, zero, suc, Bool, nat_eq, length, sum_by, List, [], ◌∷◌, Option, Some, None}
 use Rattle.std.specs.List.{list_any, flat_map}
-use Rattle.texts.specs.Bytes.{Bytes as Text}
+use Rattle.gem_object.specs.texts.Bytes.{Bytes as Text}
 use Rattle.gem_object.specs.declared.body.ClassBody.{ClassBody}
 use Rattle.object_programs.specs.Fixed.{ClassPart, fixed_by}
 use Rattle.object_programs.specs.Guard.{Parts}

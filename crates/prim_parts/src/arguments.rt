@@ -6,11 +6,9 @@ ghost use Rattle.prim_rules.specs.Parts.{int_in, character_in, symbol_in, refere
 ghost use Rattle.prim_rules.specs.Receivers.{check_stored};
 ghost use Rattle.prim_parts.specs.Does.{Computes, pointed, pointed_two, pointed_three};
 
-use gem_object::{BlockRef, Value};
-use gem_value::Oid;
+use gem_object::{BlockRef, Oid, Text, Value};
 use object_programs::Fault;
 use running_objects::Stop;
-use texts::Text;
 
 /// What is there, or the error.
 pub fn need<T>(fault: Fault, found: Option<T>) -> Result<T, Stop>

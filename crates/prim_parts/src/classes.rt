@@ -3,11 +3,9 @@ ghost use Rattle.std.specs.Prelude.{◌≡◌, ◌≤◌, option_map, option_cop
 ghost use Rattle.object_programs.specs.Programs.{part_of};
 ghost use Rattle.prim_parts.specs.Walks.{part_of_class, parts_seen, classes_up, has_class, count_names, names_of};
 
-use gem_object::{Body, ClassBody, Names};
-use gem_value::{Oid, Sequence};
+use gem_object::{Body, ClassBody, Names, Oid, Sequence, Text};
 use running_objects::Objects;
 use std::alloc::{AllocError, Global};
-use texts::Text;
 
 /// More classes than there are names are never gone through.
 pub(crate) const CHAIN_LIMIT: u64 = 1 << 48;

@@ -4,7 +4,7 @@
 //! in a bag or a key in a sorted dictionary.
 ghost use Rattle.std.specs.Prelude.{◌≡◌, true, Some};
 ghost use Rattle.gem_object.specs.Edits.{with_slot, with_slot_more, without_slot, with_byte, with_value_at, without_value_at};
-ghost use Rattle.gem_image.specs.Image.{Contents};
+ghost use Rattle.gem_sound.specs.gem_image.Image.{Contents};
 ghost use Rattle.object_programs.specs.Methods.{methods_fit};
 ghost use Rattle.prim_rules.specs.Dictionaries.{pair_growth};
 ghost use Rattle.prim_parts.specs.Does.{Does, Computes};
@@ -12,14 +12,13 @@ ghost use Rattle.prim_parts.specs.Edits.{Replaces, Updates};
 ghost use Rattle.prim_parts.specs.Limits.{TellsLimits, limits_of_update, room_where};
 ghost use Rattle.running_objects.specs.Seen.{object_at};
 
-use crate::limits::{is_small, stays_within};
+use crate::limits::stays_within;
 use body_growth::{
     Change, body_updated, pair_put, pair_removed, slot_inserted, slot_removed, slot_replaced,
 };
-use gem_object::{Body, Value};
+use gem_object::{Body, Oid, Value};
 use gem_update::Update;
-use gem_value::Oid;
-use object_programs::Fault;
+use object_programs::{Fault, is_small};
 use running_objects::{Objects, Stop};
 
 /// A value comes into a slot. Where there is no such slot nothing changes.

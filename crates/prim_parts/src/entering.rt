@@ -1,7 +1,7 @@
 //! New objects that are put into a dictionary.
 ghost use Rattle.std.specs.Prelude.{◌≡◌, ◌<◌, ℕ, length, true, Some};
 ghost use Rattle.std.specs.List.{list_all};
-ghost use Rattle.gem_image.specs.Image.{Contents, contents_of};
+ghost use Rattle.gem_sound.specs.gem_image.Image.{Contents, contents_of};
 ghost use Rattle.object_programs.specs.Budget.{is_within_limits};
 ghost use Rattle.object_programs.specs.Methods.{methods_fit};
 ghost use Rattle.running_objects.specs.Seen.{object_at};
@@ -10,11 +10,9 @@ ghost use Rattle.prim_parts.specs.Entering.{entry_room, Enters, MadeAndEntered};
 
 use crate::arguments::check;
 use crate::edits::{pair_growth, stays_small};
-use crate::limits::is_small;
 use body_growth::pair_put;
-use gem_object::{Object, Value};
-use gem_value::Oid;
-use object_programs::Fault;
+use gem_object::{Object, Oid, Value};
+use object_programs::{Fault, is_small};
 use running_objects::{Objects, Stop};
 
 // Whether all objects are within the limits of objects.

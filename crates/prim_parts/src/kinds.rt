@@ -7,12 +7,11 @@ ghost use Rattle.prim_parts.specs.Does.{Does, IsThere};
 
 use crate::arguments::check;
 use crate::classes::{CHAIN_LIMIT, count_names, has_class, push_names};
-use gem_object::{Names, Value};
+use gem_object::{Names, Oid, Value};
 use gem_sound::names::{
     BLOCK_CLASS, CHARACTER_CLASS, FALSE_CLASS, SMALL_INTEGER_CLASS, SYMBOL_CLASS, TRUE_CLASS,
     UNDEFINED_OBJECT_CLASS,
 };
-use gem_value::Oid;
 use object_programs::Fault;
 use running_objects::{Objects, Stop};
 use std::alloc::{AllocError, Global};

@@ -26,4 +26,5 @@ pub use kinds::{
     is_under, kernel_name, named_slots,
 };
 pub use making::{default_segment, new_object, new_object_in, new_string};
+pub use prim_rules::PrimitiveAnswer;
 pub use strings::{string_bytes, text_of_argument, text_of_receiver};

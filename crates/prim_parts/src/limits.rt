@@ -1,11 +1,9 @@
-//! Whether a body is within the limits of objects, and whether it is after a change.
+//! Whether a body is within the limits of objects after a change.
 ghost use Rattle.std.specs.Prelude.{◌≡◌, ◌&&◌, ◌+◌, ◌-◌, nat_le};
 ghost use Rattle.body_growth.specs.Changes.{counted};
 ghost use Rattle.object_programs.specs.declared.limits.TheConstants.{BYTES_LIMIT, SLOTS_LIMIT};
-ghost use Rattle.object_programs.specs.Budget.{is_small};
 
 use body_growth::Change;
-use gem_object::Body;
 use object_programs::{BYTES_LIMIT, SLOTS_LIMIT};
 
 // Whether an object may have so many slots, and so many bytes in its fields where it is stored.
@@ -13,13 +11,6 @@ fn are_within_limits(slots: u64, bytes: u64) -> bool
     ensures { result ≡ (nat_le slots SLOTS_LIMIT && nat_le (17 + bytes) BYTES_LIMIT) }
 {
     slots <= SLOTS_LIMIT && bytes.saturating_add(17) <= BYTES_LIMIT
-}
-
-// Whether an object with this body is within the limits of objects. The time is that of its size.
-pub(crate) fn is_small(body: &Body) -> bool
-    ensures { result ≡ is_small body.now }
-{
-    are_within_limits(body.slots(), body.size())
 }
 
 // Whether a body is within the limits after the change that has so many slots and bytes before.

@@ -10,13 +10,11 @@ ghost use Rattle.prim_rules.specs.Parts.{user_in};
 ghost use Rattle.prim_parts.specs.Does.{Does, Computes};
 
 use crate::kinds::kernel_name;
-use gem_object::{Body, Object, Value};
+use gem_object::{Body, Object, Oid, Sequence, Text, Value};
 use gem_sound::names::STRING_CLASS;
-use gem_value::{Oid, Sequence};
 use object_programs::Fault;
 use running_objects::{Objects, Stop};
 use std::alloc::Global;
-use texts::Text;
 
 /// The segment in which the user's new objects lie: the profile is read, E10 where the user may
 /// not.

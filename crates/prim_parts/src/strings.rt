@@ -7,13 +7,11 @@ ghost use Rattle.prim_rules.specs.Parts.{bytes_in};
 ghost use Rattle.prim_parts.specs.Does.{Does, Computes};
 
 use crate::kinds::{check_kind, kernel_name};
-use gem_object::{Body, Value};
+use gem_object::{Body, Oid, Text, Value};
 use gem_sound::names::STRING_CLASS;
-use gem_value::Oid;
 use object_programs::Fault;
 use running_objects::{Objects, Stop};
 use std::alloc::Global;
-use texts::Text;
 
 /// The bytes of the String of this name, which is read: E10 where the user may not, E5 where it is
 /// no String.

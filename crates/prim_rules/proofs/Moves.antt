@@ -1,11 +1,11 @@
 -- What `assignToSegment:` asks of its argument.
 use Rattle.std.specs.Prelude.{◌≡◌, ℕ, Bool, true, false, Option}
 use Rattle.std.proofs.Common.{ap, ◌∙◌}
-use Rattle.texts.specs.Bytes.{Bytes as Text}
-use Rattle.seg_rights.specs.declared.rights.Rights.{Rights}
-use Rattle.gem_image.specs.Image.{Contents}
-use Rattle.gem_world.specs.World.{Setting, shown, touch}
-use Rattle.gem_world.specs.Access.{a_read, accessed}
+use Rattle.gem_object.specs.texts.Bytes.{Bytes as Text}
+use Rattle.gem_object.specs.seg_rights.declared.rights.Rights.{Rights}
+use Rattle.object_programs.specs.gem_image.Image.{Contents}
+use Rattle.object_programs.specs.gem_world.World.{Setting, shown, touch}
+use Rattle.object_programs.specs.gem_world.Access.{a_read, accessed}
 use Rattle.object_programs.specs.Atom.{Own, Who}
 use Rattle.object_programs.specs.Run.{atom, and_then, gives, fails, State, Outcome, perform}
 use Rattle.object_programs.specs.Programs.{need, check, read}

@@ -8,10 +8,10 @@ use Rattle.gem_object.specs.declared.kind.Kind.TheVariants.{Indexed}
 use Rattle.gem_object.specs.declared.value.Value.{Value}
 use Rattle.gem_object.specs.declared.value.Value.TheVariants.{Nil, False, True}
 use Rattle.gem_object.specs.declared.body.Body.TheVariants.{Plain}
-use Rattle.gem_image.specs.Image.{Contents}
-use Rattle.gem_world.specs.World.{Setting, World, before_changes, shown, touch}
-use Rattle.gem_world.specs.Changes.{with_body, put}
-use Rattle.gem_world.specs.Access.{a_read, a_write, is_allowed, touches_of, with_touches, after_allowed, accessed}
+use Rattle.object_programs.specs.gem_image.Image.{Contents}
+use Rattle.object_programs.specs.gem_world.World.{Setting, World, before_changes, shown, touch}
+use Rattle.object_programs.specs.gem_world.Changes.{with_body, put}
+use Rattle.object_programs.specs.gem_world.Access.{a_read, a_write, is_allowed, touches_of, with_touches, after_allowed, accessed}
 use Rattle.object_programs.specs.Fixed.{ClassPart, fixed_of, fixed_by}
 use Rattle.object_programs.specs.Budget.{is_within_limits}
 use Rattle.object_programs.specs.Atom.{Kind, edited}

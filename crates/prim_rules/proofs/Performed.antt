@@ -5,13 +5,13 @@ use Rattle.std.proofs.Common.{ap, ap₂, ◌∙◌}
 use Rattle.std.proofs.Math.Nat.{sub-zero}
 use Rattle.std.proofs.Math.Dec.{leb-zero}
 use Rattle.gem_object.specs.declared.body.Body.{Body}
-use Rattle.gem_world.specs.Changes.{with_body}
+use Rattle.object_programs.specs.gem_world.Changes.{with_body}
 use Rattle.object_programs.specs.Budget.{is_within_limits}
 use Rattle.object_programs.specs.Programs.{need, check, read, replace_body}
 use Rattle.object_programs.specs.declared.fault.Fault.TheVariants as fault
-use Rattle.gem_image.specs.Image.{Contents}
-use Rattle.gem_world.specs.World.{Setting, shown, with_name}
-use Rattle.gem_world.specs.Access.{Access, a_read, is_allowed, accessed}
+use Rattle.object_programs.specs.gem_image.Image.{Contents}
+use Rattle.object_programs.specs.gem_world.World.{Setting, shown, with_name}
+use Rattle.object_programs.specs.gem_world.Access.{Access, a_read, is_allowed, accessed}
 use Rattle.object_programs.specs.Fixed.{Fixed, fixed_by}
 use Rattle.object_programs.specs.Atom.{Ask, Kind, Put, Room, access_answer, access_fault, touch_missing, spent_where, edited}
 use Rattle.object_programs.specs.Run.{Run, give, atom, and_then, gives, fails, State, Outcome, end_of, outcome_of, onward, perform}

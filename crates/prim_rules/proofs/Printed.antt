@@ -1,13 +1,13 @@
 -- The print text of an object, where the user may read it, and where not.
 use Rattle.std.specs.Prelude.{◌≡◌, ℕ, Bool, false, [], ◌∷◌, ◌++◌, codes}
 use Rattle.std.proofs.Common.{ap, ◌∙◌}
-use Rattle.texts.specs.Bytes.{Bytes as Text}
+use Rattle.gem_object.specs.texts.Bytes.{Bytes as Text}
 use Rattle.gem_object.specs.declared.value.Value.{Value}
 use Rattle.gem_object.specs.declared.value.Value.TheVariants.{Ref}
 use Rattle.gem_object.specs.declared.body.Body.TheVariants.{Bytes}
-use Rattle.gem_image.specs.Image.{Contents}
-use Rattle.gem_world.specs.World.{Setting}
-use Rattle.gem_world.specs.Access.{a_read, is_allowed}
+use Rattle.object_programs.specs.gem_image.Image.{Contents}
+use Rattle.object_programs.specs.gem_world.World.{Setting}
+use Rattle.object_programs.specs.gem_world.Access.{a_read, is_allowed}
 use Rattle.object_programs.specs.Run.{Run, and_then, give, gives, fails, State, perform}
 use Rattle.object_programs.specs.Programs.{need, check, read}
 use Rattle.object_programs.specs.declared.fault.Fault.TheVariants as fault
@@ -17,7 +17,7 @@ use Rattle.prim_rules.specs.Printing.{is_short, named_text, body_text, element_t
 use Rattle.prim_rules.specs.Any.{print_string_rule}
 use Rattle.prim_rules.specs.Worked.{NoBlocks, after, MayAccess, array_in, class_called}
 use Rattle.prim_rules.proofs.Performed.{goes_on, ends_there, access_gives, access_fails, no_segment}
-use Rattle.gem_sound.specs.declared.names.TheConstants.{ARRAY_CLASS, STRING_CLASS}
+use Rattle.object_programs.specs.gem_sound.declared.names.TheConstants.{ARRAY_CLASS, STRING_CLASS}
 
 abbrev object_text : Contents → Run NoBlocks Text
 object_text object = body_text slots_text object.class object.body

@@ -5,7 +5,7 @@ use Rattle.std.proofs.Common.{refl, sym, ap, ◌∙◌, arith}
 use Rattle.std.proofs.Math.Bool.{false≢true}
 use Rattle.std.proofs.Math.Nat.{min-eq_left, min-eq_right, pow-le-pow_right, zero-lt-suc, zero-mul, div-eq_of_lt, le_of_lt, lt_of_lt_of_le}
 use Rattle.std.proofs.lemmas.Bool.{leb-true, leb-false, lt-leb}
-use Rattle.profile.specs.SmallInteger.{is_small_integer}
+use Rattle.gem_object.specs.texts.SmallInteger.{is_small_integer}
 use Rattle.prim_rules.specs.Numbers.{most_shift, shifted}
 
 abbrev is_zero : ℤ → Bool

@@ -2,7 +2,7 @@
 use Rattle.std.specs.Prelude.{◌≡◌, ℕ, suc, ◌+◌, if◌then◌else◌, Bool, true, false, List, [], ◌∷◌, length, sum_by}
 use Rattle.std.proofs.Common.{refl, sym, ap, ◌∙◌}
 use Rattle.std.proofs.lemmas.List.Sums.{sum_by-cons}
-use Rattle.insertion_map.specs.Pairs.{with_pair}
+use Rattle.gem_object.specs.insertion_map.Pairs.{with_pair}
 use Rattle.gem_object.specs.Order.{same_value}
 use Rattle.gem_object.specs.Sizes.{pair_size}
 use Rattle.gem_object.specs.declared.value.Value.{Value}

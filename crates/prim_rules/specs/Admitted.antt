@@ -2,10 +2,10 @@
 -- the kernel.
 use Rattle.std.specs.Prelude.{◌≡◌, ℕ, ◌+◌, ◌^◌, Bool, true, List, [], Option, None, Some}
 use Rattle.gem_object.specs.declared.body.Body.{Body}
-use Rattle.gem_image.specs.Image.{Contents}
-use Rattle.gem_world.specs.World.{Setting, shown}
-use Rattle.gem_world.specs.Access.{Access, is_allowed}
-use Rattle.gem_sound.specs.Kernel.{class_class, transcript_class, KernelClass, kernel_class, KernelBody, a_class, a_dictionary, a_segment, a_user, no_slots, kernel_body}
+use Rattle.object_programs.specs.gem_image.Image.{Contents}
+use Rattle.object_programs.specs.gem_world.World.{Setting, shown}
+use Rattle.object_programs.specs.gem_world.Access.{Access, is_allowed}
+use Rattle.object_programs.specs.gem_sound.Kernel.{class_class, transcript_class, KernelClass, kernel_class, KernelBody, a_class, a_dictionary, a_segment, a_user, no_slots, kernel_body}
 use Rattle.object_programs.specs.Fixed.{BodyKind, PlainKind, DictKind, ClassKind, SegmentKind, UserKind, Fixed}
 use Rattle.object_programs.specs.Guard.{with_parts, all_fit}
 use Rattle.object_programs.specs.Run.{State}

@@ -1,16 +1,16 @@
 -- The rules of the primitives 1 to 9, which any receiver understands.
 use Rattle.std.specs.Prelude.{ℕ, zero, suc, Bool, true, false, not, ◌||◌, nat_eq, List, Option, None, Some, is_some, option_and_then}
-use Rattle.texts.specs.Bytes.{Bytes as Text}
-use Rattle.seg_rights.specs.Right.{allows_write}
-use Rattle.seg_rights.specs.declared.rights.Rights.{Rights}
+use Rattle.gem_object.specs.texts.Bytes.{Bytes as Text}
+use Rattle.gem_object.specs.seg_rights.Right.{allows_write}
+use Rattle.gem_object.specs.seg_rights.declared.rights.Rights.{Rights}
 use Rattle.gem_object.specs.Kinds.{is_shared}
 use Rattle.gem_object.specs.Order.{same_value}
 use Rattle.gem_object.specs.declared.value.Value.{Value}
 use Rattle.gem_object.specs.declared.value.Value.TheVariants.{Nil, Ref, Block}
 use Rattle.gem_object.specs.declared.body.Body.{Body}
 use Rattle.gem_object.specs.declared.body.Body.TheVariants.{Plain, Bytes, Dict, Segment, User}
-use Rattle.gem_image.specs.Image.{Contents}
-use Rattle.gem_image.specs.Rights.{groups_of, right_by}
+use Rattle.object_programs.specs.gem_image.Image.{Contents}
+use Rattle.object_programs.specs.gem_image.Rights.{groups_of, right_by}
 use Rattle.object_programs.specs.Guard.{chain_limit}
 use Rattle.object_programs.specs.Atom.{Own, Made, Who, Move}
 use Rattle.object_programs.specs.Run.{Run, give, fail, atom, and_then}
@@ -20,7 +20,7 @@ use Rattle.prim_rules.specs.declared.answer.PrimitiveAnswer.{PrimitiveAnswer}
 use Rattle.prim_rules.specs.Parts.{is_block, truth, reference_in, class_in, segment_in, one_of, no_arguments, class_of_value, check_kind, default_segment, new_object, new_object_in, answers}
 use Rattle.prim_rules.specs.Texts.{text_of_argument}
 use Rattle.prim_rules.specs.Printing.{is_short, whole_text}
-use Rattle.gem_sound.specs.declared.names.TheConstants.{SEGMENT_CLASS, STRING_CLASS}
+use Rattle.object_programs.specs.gem_sound.declared.names.TheConstants.{SEGMENT_CLASS, STRING_CLASS}
 
 -- whether objects of this body can be copied
 abbrev pub is_copied : Body → Bool

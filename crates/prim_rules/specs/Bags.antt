@@ -1,13 +1,13 @@
 -- The rules of RcIdentityBag.
 use Rattle.std.specs.Prelude.{ℕ, pos, List, replicate}
 use Rattle.std.specs.List.{flat_map}
-use Rattle.profile.specs.SmallInteger.{is_small_integer}
-use Rattle.rc_counter_bag.specs.Bag.{count}
-use Rattle.rc_counter_bag.specs.declared.update.BagUpdate.TheVariants.{Add, Remove}
+use Rattle.gem_object.specs.texts.SmallInteger.{is_small_integer}
+use Rattle.gem_object.specs.rc_counter_bag.Bag.{count}
+use Rattle.gem_object.specs.rc_counter_bag.declared.update.BagUpdate.TheVariants.{Add, Remove}
 use Rattle.gem_object.specs.Order.{value_order}
 use Rattle.gem_object.specs.declared.value.Value.{Value}
 use Rattle.gem_object.specs.declared.value.Value.TheVariants.{Int}
-use Rattle.gem_update.specs.declared.update.Update.TheVariants as change
+use Rattle.object_programs.specs.gem_update.declared.update.Update.TheVariants as change
 use Rattle.object_programs.specs.Run.{Run, and_then}
 use Rattle.object_programs.specs.Programs.{need, check}
 use Rattle.object_programs.specs.declared.fault.Fault.TheVariants as fault

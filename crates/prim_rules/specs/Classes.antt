@@ -2,8 +2,8 @@
 use Rattle.std.specs.Prelude.{ℕ, ◌+◌, Bool, true, false, ◌&&◌, not, cond, nat_le, bytes_eq, length, drop, List, [], ◌∷◌, map, Option, None, Some, option_map, option_and_then}
 use Rattle.std.specs.List.{list_all, list_any, filter, flat_map}
 use Rattle.std.specs.Char.{is_ascii_uppercase}
-use Rattle.texts.specs.Bytes.{Bytes as Text}
-use Rattle.shell_words.specs.Names.{is_name}
+use Rattle.gem_object.specs.texts.Bytes.{Bytes as Text}
+use Rattle.gem_object.specs.texts.Names.{is_name}
 use Rattle.gem_object.specs.declared.value.Value.{Value}
 use Rattle.gem_object.specs.declared.value.Value.TheVariants.{Nil, Sym, Ref}
 use Rattle.gem_object.specs.declared.kind.Kind.{Kind}
@@ -11,9 +11,9 @@ use Rattle.gem_object.specs.declared.kind.Kind.TheVariants as kind
 use Rattle.gem_object.specs.declared.body.Method.{Method}
 use Rattle.gem_object.specs.declared.body.ClassBody.{ClassBody}
 use Rattle.gem_object.specs.declared.body.Body.TheVariants as body
-use Rattle.gem_image.specs.Image.{Contents}
-use Rattle.gem_sound.specs.Kernel.{class_class}
-use Rattle.gem_sound.specs.Sound.{has_named_slots}
+use Rattle.object_programs.specs.gem_image.Image.{Contents}
+use Rattle.object_programs.specs.gem_sound.Kernel.{class_class}
+use Rattle.object_programs.specs.gem_sound.Sound.{has_named_slots}
 use Rattle.object_programs.specs.declared.limits.TheConstants.{NAMES_LIMIT}
 use Rattle.object_programs.specs.Run.{Run, give, and_then}
 use Rattle.object_programs.specs.Programs.{need, check, read, known, classes_above}
@@ -22,7 +22,7 @@ use Rattle.prim_rules.specs.Parts.{symbol_in, reference_in, slots_in, pairs_in, 
 use Rattle.prim_rules.specs.Receivers.{read_receiver, write_receiver, argument_as, answer, replaced_by, tells, lists}
 use Rattle.prim_rules.specs.Making.{Entered, make_and_enter}
 use Rattle.prim_rules.specs.declared.answer.PrimitiveAnswer.{PrimitiveAnswer}
-use Rattle.gem_sound.specs.declared.names.TheConstants.{ARRAY_CLASS, IDENTITY_DICTIONARY_CLASS}
+use Rattle.object_programs.specs.gem_sound.declared.names.TheConstants.{ARRAY_CLASS, IDENTITY_DICTIONARY_CLASS}
 
 -- a name that a class may have: an identifier with a capital first
 abbrev pub begins_with_capital : Text → Bool

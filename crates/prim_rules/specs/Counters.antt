@@ -2,7 +2,7 @@
 use Rattle.std.specs.Prelude.{List}
 use Rattle.gem_object.specs.declared.value.Value.{Value}
 use Rattle.gem_object.specs.declared.value.Value.TheVariants.{Int}
-use Rattle.gem_update.specs.declared.update.Update.TheVariants as change
+use Rattle.object_programs.specs.gem_update.declared.update.Update.TheVariants as change
 use Rattle.object_programs.specs.Run.{Run, and_then}
 use Rattle.object_programs.specs.declared.fault.Fault.TheVariants as fault
 use Rattle.prim_rules.specs.Parts.{int_in}

@@ -6,9 +6,9 @@ use Rattle.std.specs.BTreeMap.{insert_entry}
 use Rattle.std.specs.BTreeSet.{insert_key}
 use Rattle.std.specs.Map.{remove_entry}
 use Rattle.std.specs.Set.{remove_key}
-use Rattle.texts.specs.Bytes.{Bytes as Text}
-use Rattle.seg_rights.specs.declared.right.Right.{Right}
-use Rattle.seg_rights.specs.declared.right.Right.TheVariants.{None as NoRight, Read, Write}
+use Rattle.gem_object.specs.texts.Bytes.{Bytes as Text}
+use Rattle.gem_object.specs.seg_rights.declared.right.Right.{Right}
+use Rattle.gem_object.specs.seg_rights.declared.right.Right.TheVariants.{None as NoRight, Read, Write}
 use Rattle.object_programs.specs.declared.limits.TheConstants.{GROUPS_LIMIT}
 
 abbrev pub are_few_groups : {X : Type 0} → List X → Bool

@@ -5,8 +5,8 @@ use Rattle.gem_object.specs.Edits.{with_value_at}
 use Rattle.gem_object.specs.declared.value.Value.{Value}
 use Rattle.gem_object.specs.declared.value.Value.TheVariants.{Ref}
 use Rattle.gem_object.specs.declared.body.Body.{Body}
-use Rattle.gem_image.specs.Image.{Contents}
-use Rattle.gem_world.specs.Changes.{with_body}
+use Rattle.object_programs.specs.gem_image.Image.{Contents}
+use Rattle.object_programs.specs.gem_world.Changes.{with_body}
 use Rattle.object_programs.specs.Budget.{is_within_limits}
 use Rattle.object_programs.specs.Atom.{Names, Room, Put}
 use Rattle.object_programs.specs.Run.{Run, give, atom, and_then}

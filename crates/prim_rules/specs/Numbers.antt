@@ -2,7 +2,7 @@
 use Rattle.std.specs.Prelude.{ℕ, suc, ◌-◌, ◌^◌, min, ℤ, pos, negsuc, neg_ℤ, ◌+ℤ◌, ◌-ℤ◌, ◌*ℤ◌, int_lt, int_le, int_div, int_rem, unsigned_abs, bit_and, bit_or, bit_xor, Bool, not, ◌&&◌, List}
 use Rattle.std.specs.Int.{bit_at, int_div_euclid, int_shr}
 use Rattle.std.specs.Ordering.{int_eq}
-use Rattle.profile.specs.SmallInteger.{is_small_integer}
+use Rattle.gem_object.specs.texts.SmallInteger.{is_small_integer}
 use Rattle.gem_object.specs.declared.value.Value.{Value}
 use Rattle.gem_object.specs.declared.value.Value.TheVariants.{Int, Char}
 use Rattle.object_programs.specs.Run.{Run, give, and_then}

@@ -1,8 +1,9 @@
 -- What the rules of primitives share: what an argument is, what a body holds, and new objects.
 use Rattle.std.specs.Prelude.{ℕ, ℤ, Bool, true, false, nat_eq, length, sum_by, List, [], ◌∷◌, Option, None, Some}
 use Rattle.std.specs.List.{list_any}
-use Rattle.texts.specs.Bytes.{Bytes as Text}
-use Rattle.seg_rights.specs.declared.rights.Rights.{Rights}
+use Rattle.gem_object.specs.texts.Bytes.{Bytes as Text}
+pub use Rattle.gem_object.specs.References.{reference_of as reference_in}
+use Rattle.gem_object.specs.seg_rights.declared.rights.Rights.{Rights}
 use Rattle.gem_object.specs.declared.value.Value.{Value}
 use Rattle.gem_object.specs.declared.value.Value.TheVariants.{Nil, False, True, Int, Char, Sym, Ref, Block}
 use Rattle.gem_object.specs.declared.value.BlockRef.{BlockRef}
@@ -10,7 +11,7 @@ use Rattle.gem_object.specs.declared.body.ClassBody.{ClassBody}
 use Rattle.gem_object.specs.declared.body.UserBody.{UserBody}
 use Rattle.gem_object.specs.declared.body.Body.{Body}
 use Rattle.gem_object.specs.declared.body.Body.TheVariants as body
-use Rattle.gem_sound.specs.declared.names.TheConstants.{UNDEFINED_OBJECT_CLASS, TRUE_CLASS, FALSE_CLASS, CHARACTER_CLASS, SMALL_INTEGER_CLASS, BLOCK_CLASS, SYMBOL_CLASS}
+use Rattle.object_programs.specs.gem_sound.declared.names.TheConstants.{UNDEFINED_OBJECT_CLASS, TRUE_CLASS, FALSE_CLASS, CHARACTER_CLASS, SMALL_INTEGER_CLASS, BLOCK_CLASS, SYMBOL_CLASS}
 use Rattle.object_programs.specs.Atom.{Who}
 use Rattle.object_programs.specs.Run.{Run, give, atom, and_then}
 use Rattle.object_programs.specs.Programs.{need, check, read, known, classes_above, make_object}
@@ -30,10 +31,6 @@ character_in _ = None
 abbrev pub symbol_in : Value → Option Text
 symbol_in (Sym name) = Some name
 symbol_in _ = None
-
-abbrev pub reference_in : Value → Option ℕ
-reference_in (Ref name) = Some name
-reference_in _ = None
 
 abbrev pub block_in : Value → Option BlockRef
 block_in (Block block) = Some block

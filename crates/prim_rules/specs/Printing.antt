@@ -1,18 +1,18 @@
 -- The print text of a value.
 use Rattle.std.specs.Prelude.{ℕ, Bool, nat_eq, nat_le, length, List, [], ◌∷◌, ◌++◌, codes}
-use Rattle.texts.specs.Bytes.{Bytes as Text}
+use Rattle.gem_object.specs.texts.Bytes.{Bytes as Text}
 use Rattle.gem_object.specs.declared.value.Value.{Value}
 use Rattle.gem_object.specs.declared.value.Value.TheVariants.{Nil, False, True, Int, Char, Sym, Ref, Block}
 use Rattle.gem_object.specs.declared.body.Body.{Body}
 use Rattle.gem_object.specs.declared.body.Body.TheVariants.{Plain, Bytes, Class}
-use Rattle.gem_image.specs.Image.{Contents}
+use Rattle.object_programs.specs.gem_image.Image.{Contents}
 use Rattle.object_programs.specs.Run.{Run, give, and_then}
 use Rattle.object_programs.specs.Programs.{choose, need, check, read}
 use Rattle.object_programs.specs.declared.limits.TheConstants.{PRINT_LIMIT}
 use Rattle.object_programs.specs.declared.fault.Fault.TheVariants as fault
 use Rattle.prim_rules.specs.Parts.{class_in}
 use Rattle.prim_rules.specs.Texts.{quoted, symbol_text, with_article, decimal_text}
-use Rattle.gem_sound.specs.declared.names.TheConstants.{ARRAY_CLASS}
+use Rattle.object_programs.specs.gem_sound.declared.names.TheConstants.{ARRAY_CLASS}
 
 abbrev pub is_short : Text → Bool
 is_short text = nat_le (length text) PRINT_LIMIT

@@ -1,10 +1,10 @@
 -- The rules of RcQueue.
 use Rattle.std.specs.Prelude.{List, [], ◌∷◌}
-use Rattle.rc_queue.specs.Contents.{Contents as QueueContents}
-use Rattle.rc_queue.specs.declared.update.QueueUpdate.TheVariants.{Add, Remove}
+use Rattle.gem_object.specs.rc_queue.Contents.{Contents as QueueContents}
+use Rattle.gem_object.specs.rc_queue.declared.update.QueueUpdate.TheVariants.{Add, Remove}
 use Rattle.gem_object.specs.declared.value.Value.{Value}
 use Rattle.gem_object.specs.declared.value.Value.TheVariants.{Nil}
-use Rattle.gem_update.specs.declared.update.Update.TheVariants as change
+use Rattle.object_programs.specs.gem_update.declared.update.Update.TheVariants as change
 use Rattle.object_programs.specs.Run.{Run, and_then}
 use Rattle.object_programs.specs.Programs.{need}
 use Rattle.object_programs.specs.declared.fault.Fault.TheVariants as fault

@@ -1,11 +1,11 @@
 -- The rules of RcKeyValueDictionary. A key is an integer, a Character, a Symbol or a Boolean.
 use Rattle.std.specs.Prelude.{ℕ, cond, List, map, is_some}
-use Rattle.rc_dict.specs.Dict.{entry}
-use Rattle.rc_dict.specs.declared.update.DictUpdate.TheVariants.{Put, Remove}
+use Rattle.gem_object.specs.rc_dict.Dict.{entry}
+use Rattle.gem_object.specs.rc_dict.declared.update.DictUpdate.TheVariants.{Put, Remove}
 use Rattle.gem_object.specs.Order.{value_order}
 use Rattle.gem_object.specs.Spelling.{is_key}
 use Rattle.gem_object.specs.declared.value.Value.{Value}
-use Rattle.gem_update.specs.declared.update.Update.TheVariants as change
+use Rattle.object_programs.specs.gem_update.declared.update.Update.TheVariants as change
 use Rattle.object_programs.specs.Run.{Run, give, and_then}
 use Rattle.object_programs.specs.Programs.{need, check}
 use Rattle.object_programs.specs.declared.fault.Fault.TheVariants as fault

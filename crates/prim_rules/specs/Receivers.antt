@@ -1,12 +1,12 @@
 -- What the rules of classes, dictionaries, segments, users and reduced-conflict objects share:
 -- their receivers and arguments, and how they end.
 use Rattle.std.specs.Prelude.{ℕ, ℤ, ◌-◌, not, length, List, Option, None, Some}
-use Rattle.rc_queue.specs.Contents.{Contents as QueueContents}
+use Rattle.gem_object.specs.rc_queue.Contents.{Contents as QueueContents}
 use Rattle.gem_object.specs.declared.value.Value.{Value}
 use Rattle.gem_object.specs.declared.body.Body.{Body}
 use Rattle.gem_object.specs.declared.body.Body.TheVariants as body
-use Rattle.gem_update.specs.declared.update.Update.{Update}
-use Rattle.gem_image.specs.Image.{Contents}
+use Rattle.object_programs.specs.gem_update.declared.update.Update.{Update}
+use Rattle.object_programs.specs.gem_image.Image.{Contents}
 use Rattle.object_programs.specs.Run.{Run, give, and_then}
 use Rattle.object_programs.specs.Programs.{need, check, read, write, replace_body, update}
 use Rattle.object_programs.specs.declared.fault.Fault.{Fault}
@@ -14,7 +14,7 @@ use Rattle.object_programs.specs.declared.fault.Fault.TheVariants as fault
 use Rattle.prim_rules.specs.Parts.{reference_in, is_block, one_of, no_arguments, new_object, answers}
 use Rattle.prim_rules.specs.declared.answer.PrimitiveAnswer.{PrimitiveAnswer}
 use Rattle.prim_rules.specs.declared.answer.PrimitiveAnswer.TheVariants.{Gives}
-use Rattle.gem_sound.specs.declared.names.TheConstants.{ARRAY_CLASS}
+use Rattle.object_programs.specs.gem_sound.declared.names.TheConstants.{ARRAY_CLASS}
 
 -- what the body of a reduced-conflict object holds, where it is of this kind: the value of a
 -- counter, the items of a bag with their occurrences, the pairs of a dictionary, and a queue

@@ -1,9 +1,9 @@
 -- The rules of Segment: its owner, and the rights that it gives on the objects in it.
 use Rattle.std.specs.Prelude.{cond, bytes_eq, codes, List, Option, None, Some, option_and_then}
-use Rattle.texts.specs.Bytes.{Bytes as Text}
-use Rattle.seg_rights.specs.declared.right.Right.{Right}
-use Rattle.seg_rights.specs.declared.right.Right.TheVariants.{None as NoRight, Read, Write}
-use Rattle.seg_rights.specs.declared.rights.Rights.{Rights}
+use Rattle.gem_object.specs.texts.Bytes.{Bytes as Text}
+use Rattle.gem_object.specs.seg_rights.declared.right.Right.{Right}
+use Rattle.gem_object.specs.seg_rights.declared.right.Right.TheVariants.{None as NoRight, Read, Write}
+use Rattle.gem_object.specs.seg_rights.declared.rights.Rights.{Rights}
 use Rattle.gem_object.specs.declared.value.Value.{Value}
 use Rattle.gem_object.specs.declared.value.Value.TheVariants.{Sym, Ref}
 use Rattle.gem_object.specs.declared.body.Body.TheVariants as body

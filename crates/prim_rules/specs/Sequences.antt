@@ -4,7 +4,7 @@ use Rattle.gem_object.specs.declared.kind.Kind.TheVariants.{Indexed}
 use Rattle.gem_object.specs.declared.value.Value.{Value}
 use Rattle.gem_object.specs.declared.value.Value.TheVariants.{Nil, Int}
 use Rattle.gem_object.specs.declared.body.Body.TheVariants.{Plain}
-use Rattle.gem_image.specs.Image.{Contents}
+use Rattle.object_programs.specs.gem_image.Image.{Contents}
 use Rattle.object_programs.specs.Fixed.{same_kind}
 use Rattle.object_programs.specs.Run.{Run, give, and_then}
 use Rattle.object_programs.specs.Programs.{need, check, read, write, known, replace_body}

@@ -2,8 +2,8 @@
 use Rattle.std.specs.Prelude.{ℕ, ℤ, pos, Bool, false, bytes_eq, nat_le, length, slice_get, slice_set, List, ◌++◌, Option, None, Some}
 use Rattle.std.specs.Ordering.{nat_cmp, is_lt}
 use Rattle.std.specs.Cmp.Lexicographic.{slice_cmp}
-use Rattle.texts.specs.Bytes.{Bytes as Text}
-use Rattle.profile.specs.declared.limits.TheConstants.{SYMBOL_LIMIT}
+use Rattle.gem_object.specs.texts.Bytes.{Bytes as Text}
+use Rattle.gem_object.specs.texts.declared.limits.TheConstants.{SYMBOL_LIMIT}
 use Rattle.gem_object.specs.declared.value.Value.{Value}
 use Rattle.gem_object.specs.declared.value.Value.TheVariants.{Nil, False, Int, Char, Sym, Ref}
 use Rattle.gem_object.specs.declared.body.Body.TheVariants.{Bytes}
@@ -14,7 +14,7 @@ use Rattle.prim_rules.specs.declared.answer.PrimitiveAnswer.{PrimitiveAnswer}
 use Rattle.prim_rules.specs.Indexes.{place_in, part_of}
 use Rattle.prim_rules.specs.Parts.{int_in, character_in, reference_in, bytes_in, truth, one_of, two_of, no_arguments, is_kind_of, answers}
 use Rattle.prim_rules.specs.Texts.{string_bytes, text_of_receiver, text_of_argument, new_string, integer_in}
-use Rattle.gem_sound.specs.declared.names.TheConstants.{STRING_CLASS}
+use Rattle.object_programs.specs.gem_sound.declared.names.TheConstants.{STRING_CLASS}
 
 -- whether a value is the Symbol of this text
 abbrev pub is_symbol : Text → Value → Bool

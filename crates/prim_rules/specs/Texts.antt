@@ -5,9 +5,9 @@ use Rattle.std.specs.List.{list_all, list_any}
 use Rattle.std.specs.Char.{is_ascii_digit}
 use Rattle.std.specs.Fmt.{signed_decimal, digits}
 use Rattle.std.specs.Str.Parse.{digits_value}
-use Rattle.texts.specs.Bytes.{Bytes as Text}
-use Rattle.profile.specs.SmallInteger.{is_small_integer}
-use Rattle.st_grammar.specs.Tokens.{Piece, token, symbol, piece, begins, begins_with}
+use Rattle.gem_object.specs.texts.Bytes.{Bytes as Text}
+use Rattle.gem_object.specs.texts.SmallInteger.{is_small_integer}
+use Rattle.object_programs.specs.st_grammar.Tokens.{Piece, token, symbol, piece, begins, begins_with}
 use Rattle.gem_object.specs.declared.value.Value.{Value}
 use Rattle.gem_object.specs.declared.value.Value.TheVariants.{Sym, Ref}
 use Rattle.gem_object.specs.declared.body.Body.TheVariants as body
@@ -15,7 +15,7 @@ use Rattle.object_programs.specs.Run.{Run, give, fail, and_then}
 use Rattle.object_programs.specs.Programs.{need, read}
 use Rattle.object_programs.specs.declared.fault.Fault.TheVariants as fault
 use Rattle.prim_rules.specs.Parts.{bytes_in, check_kind, new_object}
-use Rattle.gem_sound.specs.declared.names.TheConstants.{STRING_CLASS}
+use Rattle.object_programs.specs.gem_sound.declared.names.TheConstants.{STRING_CLASS}
 
 -- a text in single quotes, where each quote in it is doubled
 abbrev pub with_quote_doubled : ℕ → Text

@@ -1,15 +1,15 @@
 -- The rules of UserProfile and of System: users, their groups, and new users.
 use Rattle.std.specs.Prelude.{ℕ, ◌+◌, codes, not, is_some, bytes_eq, cond, List, [], ◌∷◌, map, Option, None, Some, option_and_then}
 use Rattle.std.specs.List.{list_any}
-use Rattle.texts.specs.Bytes.{Bytes as Text}
-use Rattle.shell_words.specs.Names.{is_user_name}
-use Rattle.seg_rights.specs.declared.right.Right.TheVariants.{Read, Write}
+use Rattle.gem_object.specs.texts.Bytes.{Bytes as Text}
+use Rattle.gem_object.specs.texts.Names.{is_user_name}
+use Rattle.gem_object.specs.seg_rights.declared.right.Right.TheVariants.{Read, Write}
 use Rattle.gem_object.specs.Edits.{value_at}
 use Rattle.gem_object.specs.declared.value.Value.{Value}
 use Rattle.gem_object.specs.declared.value.Value.TheVariants.{Sym, Ref}
 use Rattle.gem_object.specs.declared.body.UserBody.{UserBody}
 use Rattle.gem_object.specs.declared.body.Body.TheVariants as body
-use Rattle.gem_image.specs.Image.{Contents}
+use Rattle.object_programs.specs.gem_image.Image.{Contents}
 use Rattle.object_programs.specs.Atom.{Who}
 use Rattle.object_programs.specs.Run.{Run, atom, and_then}
 use Rattle.object_programs.specs.Programs.{need, check}
@@ -19,7 +19,7 @@ use Rattle.prim_rules.specs.Receivers.{items_added, Receiver, write_receiver, ar
 use Rattle.prim_rules.specs.Groups.{are_few_groups, with_group, without_group}
 use Rattle.prim_rules.specs.Making.{Entered, make_and_enter}
 use Rattle.prim_rules.specs.declared.answer.PrimitiveAnswer.{PrimitiveAnswer}
-use Rattle.gem_sound.specs.declared.names.TheConstants.{ALL_USERS, DATA_CURATOR_SEGMENT, SEGMENT_CLASS, SYMBOL_DICTIONARY_CLASS, USER_PROFILE_CLASS}
+use Rattle.object_programs.specs.gem_sound.declared.names.TheConstants.{ALL_USERS, DATA_CURATOR_SEGMENT, SEGMENT_CLASS, SYMBOL_DICTIONARY_CLASS, USER_PROFILE_CLASS}
 
 -- the user in these groups
 abbrev pub in_groups : List Text → UserBody → UserBody

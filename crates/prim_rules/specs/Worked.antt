@@ -1,16 +1,16 @@
 -- How worked rows are said: what a rule comes to, and the objects in worked rows.
 use Rattle.std.specs.Prelude.{◌≡◌, ℕ, pos, neg_ℤ, true, false, nat_eq, List, [], ◌∷◌, Option, Some, None, codes}
-use Rattle.texts.specs.Bytes.{Bytes as Text}
-use Rattle.seg_rights.specs.declared.rights.Rights.{Rights}
+use Rattle.gem_object.specs.texts.Bytes.{Bytes as Text}
+use Rattle.gem_object.specs.seg_rights.declared.rights.Rights.{Rights}
 use Rattle.gem_object.specs.declared.value.Value.{Value}
 use Rattle.gem_object.specs.declared.value.Value.TheVariants.{Nil, False, True, Int}
 use Rattle.gem_object.specs.declared.kind.Kind.{Kind}
 use Rattle.gem_object.specs.declared.kind.Kind.TheVariants as kind
 use Rattle.gem_object.specs.declared.body.ClassBody.{ClassBody}
 use Rattle.gem_object.specs.declared.body.Body.TheVariants.{Plain, Bytes, Class, Segment, User}
-use Rattle.gem_image.specs.Image.{Contents}
-use Rattle.gem_world.specs.World.{Setting, World, shown}
-use Rattle.gem_world.specs.Access.{Access, is_allowed, accessed}
+use Rattle.object_programs.specs.gem_image.Image.{Contents}
+use Rattle.object_programs.specs.gem_world.World.{Setting, World, shown}
+use Rattle.object_programs.specs.gem_world.Access.{Access, is_allowed, accessed}
 use Rattle.object_programs.specs.Fixed.{ClassKind, Fixed, fixed_by}
 use Rattle.object_programs.specs.Run.{Run, Ending, gives, fails, State, perform}
 use Rattle.object_programs.specs.declared.fault.Fault.{Fault}

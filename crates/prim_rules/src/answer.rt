@@ -1,7 +1,6 @@
 //! What a primitive answers.
 
-use gem_object::{BlockRef, Value};
-use gem_value::Sequence;
+use gem_object::{BlockRef, Sequence, Value};
 
 /// What a primitive comes to: a value, or a block that is to be evaluated.
 #[derive(Debug, Drop)]

@@ -1,15 +1,15 @@
 //! What follows from the rules of the primitives from 54 on. Each law is the contract of a function
 //! that does nothing.
 ghost use Rattle.std.specs.Prelude.{◌≡◌, ℕ, ℤ, pos, ◌+ℤ◌, ◌+◌, ◌-◌, nat_le, true, false, codes, replicate, map, length, List, [], ◌∷◌, ◌++◌, Some, None};
-ghost use Rattle.texts.specs.Bytes.{Bytes as Text};
+ghost use Rattle.gem_object.specs.texts.Bytes.{Bytes as Text};
 ghost use Rattle.std.specs.List.{list_all};
-ghost use Rattle.shell_words.specs.Names.{is_user_name};
-ghost use Rattle.profile.specs.SmallInteger.{is_small_integer};
-ghost use Rattle.seg_rights.specs.declared.right.Right.{Right};
-ghost use Rattle.seg_rights.specs.declared.right.Right.TheVariants.{Read, Write};
-ghost use Rattle.seg_rights.specs.declared.rights.Rights.{Rights};
-ghost use Rattle.rc_counter_bag.specs.Bag.{with_one_less};
-ghost use Rattle.rc_dict.specs.Dict.{entry};
+ghost use Rattle.gem_object.specs.texts.Names.{is_user_name};
+ghost use Rattle.gem_object.specs.texts.SmallInteger.{is_small_integer};
+ghost use Rattle.gem_object.specs.seg_rights.declared.right.Right.{Right};
+ghost use Rattle.gem_object.specs.seg_rights.declared.right.Right.TheVariants.{Read, Write};
+ghost use Rattle.gem_object.specs.seg_rights.declared.rights.Rights.{Rights};
+ghost use Rattle.gem_object.specs.rc_counter_bag.Bag.{with_one_less};
+ghost use Rattle.gem_object.specs.rc_dict.Dict.{entry};
 ghost use Rattle.gem_object.specs.Order.{value_order};
 ghost use Rattle.gem_object.specs.Slots.{slots_of};
 ghost use Rattle.gem_object.specs.Sizes.{fields_size};
@@ -21,10 +21,10 @@ ghost use Rattle.gem_object.specs.declared.value.Value.TheVariants.{Nil, True, I
 ghost use Rattle.gem_object.specs.declared.value.BlockRef.{BlockRef};
 ghost use Rattle.gem_object.specs.declared.body.UserBody.{UserBody};
 ghost use Rattle.gem_object.specs.declared.body.Body.TheVariants as body;
-ghost use Rattle.gem_update.specs.declared.update.Update.TheVariants as change;
-ghost use Rattle.gem_world.specs.World.{Setting, name_of};
-ghost use Rattle.gem_world.specs.Changes.{with_body};
-ghost use Rattle.gem_world.specs.Access.{a_read, a_write, accessed};
+ghost use Rattle.object_programs.specs.gem_update.declared.update.Update.TheVariants as change;
+ghost use Rattle.object_programs.specs.gem_world.World.{Setting, name_of};
+ghost use Rattle.object_programs.specs.gem_world.Changes.{with_body};
+ghost use Rattle.object_programs.specs.gem_world.Access.{a_read, a_write, accessed};
 ghost use Rattle.object_programs.specs.Spelled.{is_nil};
 ghost use Rattle.object_programs.specs.Atom.{objects_cost, edited, after_update};
 ghost use Rattle.object_programs.specs.Budget.{is_within_limits, may_write};
@@ -48,7 +48,7 @@ ghost use Rattle.prim_rules.specs.RcDicts.{row_89, row_91};
 ghost use Rattle.prim_rules.specs.Queues.{row_95};
 ghost use Rattle.prim_rules.specs.LaterRules.{later_rule};
 ghost use Rattle.prim_rules.specs.declared.answer.PrimitiveAnswer.TheVariants.{Gives};
-ghost use Rattle.gem_sound.specs.declared.names.TheConstants.{ALL_USERS, DATA_CURATOR_SEGMENT, SEGMENT_CLASS, SYMBOL_DICTIONARY_CLASS, USER_PROFILE_CLASS};
+ghost use Rattle.object_programs.specs.gem_sound.declared.names.TheConstants.{ALL_USERS, DATA_CURATOR_SEGMENT, SEGMENT_CLASS, SYMBOL_DICTIONARY_CLASS, USER_PROFILE_CLASS};
 
 /// Which names a class may have, and which names of instance variables it may add.
 pub fn names_of_new_classes()

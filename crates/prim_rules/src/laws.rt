@@ -2,17 +2,17 @@
 //! contract of a function that does nothing.
 ghost use Rattle.std.specs.Prelude.{◌≡◌, ◌+◌, ◌-◌, ◌%◌, ◌^◌, min, max, ℕ, suc, ℤ, pos, negsuc, neg_ℤ, ◌+ℤ◌, ◌*ℤ◌, ◌≤ℤ◌, ◌<ℤ◌, ◌∷◌, [], List, map, take, Some, None, is_some, option_map, codes, true, false, Bool, ◌||◌, nat_eq};
 ghost use Rattle.std.specs.Int.{int_shr};
-ghost use Rattle.profile.specs.SmallInteger.{is_small_integer};
-ghost use Rattle.texts.specs.Bytes.{Bytes as Text};
-ghost use Rattle.op_table.specs.Prims.{primitives};
-ghost use Rattle.seg_rights.specs.declared.rights.Rights.{Rights};
+ghost use Rattle.gem_object.specs.texts.SmallInteger.{is_small_integer};
+ghost use Rattle.gem_object.specs.texts.Bytes.{Bytes as Text};
+ghost use Rattle.object_programs.specs.op_table.Prims.{primitives};
+ghost use Rattle.gem_object.specs.seg_rights.declared.rights.Rights.{Rights};
 ghost use Rattle.gem_object.specs.declared.value.Value.{Value};
 ghost use Rattle.gem_object.specs.declared.value.Value.TheVariants.{Nil, False, True, Char, Sym, Ref, Block};
 ghost use Rattle.gem_object.specs.declared.body.Body.{Body};
 ghost use Rattle.gem_object.specs.declared.body.Body.TheVariants.{Plain, Bytes, Counter, Segment};
-ghost use Rattle.gem_world.specs.World.{Setting, shown};
-ghost use Rattle.gem_world.specs.Access.{a_read, a_write, is_allowed, accessed};
-ghost use Rattle.gem_world.specs.Changes.{with_body};
+ghost use Rattle.object_programs.specs.gem_world.World.{Setting, shown};
+ghost use Rattle.object_programs.specs.gem_world.Access.{a_read, a_write, is_allowed, accessed};
+ghost use Rattle.object_programs.specs.gem_world.Changes.{with_body};
 ghost use Rattle.object_programs.specs.Atom.{edited};
 ghost use Rattle.object_programs.specs.Run.{State, give, and_then, gives, fails, perform};
 ghost use Rattle.object_programs.specs.Programs.{make_object};
@@ -30,7 +30,7 @@ ghost use Rattle.prim_rules.specs.Strings.{row_42, row_43, row_49, row_50, row_5
 ghost use Rattle.prim_rules.specs.New.{new_body, sized_body, own_rights, new_segment, row_52, row_53};
 ghost use Rattle.prim_rules.specs.FirstRules.{first_rules};
 ghost use Rattle.prim_rules.specs.Worked.{int, minus, NoBlocks, AlwaysEnds, Answers, Refuses, Prints, MayAccess, HasPair, string_in, array_in, class_in, class_called, class_under, segment_of, profile_in, after, ends, prints};
-ghost use Rattle.gem_sound.specs.declared.names.TheConstants.{ARRAY_CLASS};
+ghost use Rattle.object_programs.specs.gem_sound.declared.names.TheConstants.{ARRAY_CLASS};
 
 use gem_object::Kind;
 

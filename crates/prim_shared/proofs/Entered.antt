@@ -1,12 +1,12 @@
 -- The objects of a new user, as they are where its names are drawn.
 use Rattle.std.proofs.Common.{◌≡◌, refl, sym, ap, ◌∙◌, ℕ, suc, ◌+◌, ◌^◌, ◌<◌, arith, Bool, true, ◌&&◌, not, List, [], ◌∷◌, map, length, Option, Some, is_some, option_and_then}
 use Rattle.std.specs.List.{list_all}
-use Rattle.texts.specs.Bytes.{Bytes as Text}
+use Rattle.gem_object.specs.texts.Bytes.{Bytes as Text}
 use Rattle.gem_object.specs.Edits.{value_at}
 use Rattle.gem_object.specs.declared.value.Value.TheVariants.{Sym}
 use Rattle.gem_object.specs.declared.object.Object.{Object}
-use Rattle.gem_image.specs.Image.{Contents, contents_of}
-use Rattle.gem_world.specs.World.{next_name}
+use Rattle.gem_sound.specs.gem_image.Image.{Contents, contents_of}
+use Rattle.object_programs.specs.gem_world.World.{next_name}
 use Rattle.object_programs.specs.Budget.{is_within_limits}
 use Rattle.object_programs.specs.Methods.{methods_fit}
 use Rattle.prim_rules.specs.Users.{user_segment, user_globals, user_profile, user_entry}

@@ -1,8 +1,8 @@
 -- The front of a queue that is removed.
 use Rattle.std.proofs.Common.{◌≡◌, subst, List, [], ◌∷◌, Some, Result}
 use Rattle.std.specs.List.{slice_get}
-use Rattle.rc_queue.specs.Contents.{Contents as QueueContents}
-use Rattle.rc_queue.specs.declared.update.QueueUpdate.TheVariants.{Remove}
+use Rattle.gem_object.specs.rc_queue.Contents.{Contents as QueueContents}
+use Rattle.gem_object.specs.rc_queue.declared.update.QueueUpdate.TheVariants.{Remove}
 use Rattle.gem_object.specs.declared.value.Value.{Value}
 use Rattle.gem_update.specs.declared.update.Update.TheVariants as change
 use Rattle.object_programs.specs.declared.fault.Fault.TheVariants as fault

@@ -1,9 +1,9 @@
 -- Whether a body is of a kind.
 use Rattle.std.proofs.Common.{◌≡◌, refl, sym, ap, ◌∙◌, ℕ, true, false, List, is_some}
-use Rattle.texts.specs.Bytes.{Bytes as Text}
-use Rattle.seg_rights.specs.declared.rights.Rights.{Rights}
-use Rattle.rc_queue.specs.Contents.{Contents as QueueContents}
-use Rattle.rc_counter_bag.specs.declared.counter.Counter.{Counter}
+use Rattle.gem_object.specs.texts.Bytes.{Bytes as Text}
+use Rattle.gem_object.specs.seg_rights.declared.rights.Rights.{Rights}
+use Rattle.gem_object.specs.rc_queue.Contents.{Contents as QueueContents}
+use Rattle.gem_object.specs.rc_counter_bag.declared.counter.Counter.{Counter}
 use Rattle.gem_object.specs.declared.value.Value.{Value}
 use Rattle.gem_object.specs.declared.body.UserBody.{UserBody}
 use Rattle.gem_object.specs.declared.body.Body.{Body}

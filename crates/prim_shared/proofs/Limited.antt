@@ -1,9 +1,9 @@
 -- A change of a number of groups, which is tested first.
 use Rattle.std.proofs.Common.{◌≡◌, ℕ, Bool, nat_le, Result, Ok, Err}
-use Rattle.tree_meaning.specs.Place.{MadeBlock}
+use Rattle.prim_parts.specs.tree_meaning.Place.{MadeBlock}
 use Rattle.gem_object.specs.declared.value.Value.{Value}
 use Rattle.gem_object.specs.declared.body.Body.{Body}
-use Rattle.gem_image.specs.Image.{Contents}
+use Rattle.gem_sound.specs.gem_image.Image.{Contents}
 use Rattle.object_programs.specs.Run.{Run, and_then}
 use Rattle.object_programs.specs.Programs.{check, replace_body}
 use Rattle.object_programs.specs.declared.fault.Fault.TheVariants as fault

@@ -10,7 +10,7 @@ use Rattle.gem_object.specs.declared.value.Value.{Value}
 use Rattle.gem_object.specs.declared.value.Value.TheVariants.{Sym}
 use Rattle.gem_object.specs.declared.body.Body.{Body}
 use Rattle.gem_object.specs.declared.body.Body.TheVariants as body
-use Rattle.gem_image.specs.Image.{Contents}
+use Rattle.gem_sound.specs.gem_image.Image.{Contents}
 use Rattle.gem_sound.specs.declared.names.TheConstants.{ARRAY_CLASS}
 use Rattle.object_programs.specs.Atom.{Make, made_by, name_check, too_large}
 use Rattle.object_programs.specs.declared.fault.Fault.TheVariants as fault

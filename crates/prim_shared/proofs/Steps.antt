@@ -3,11 +3,11 @@ use Rattle.std.specs.Result.{IsErrAnd}
 use Rattle.std.proofs.lemmas.Bool.{false≢true}
 use Rattle.std.proofs.lemmas.Result.{err_from_is_err_and}
 use Rattle.std.proofs.Common.{◌≡◌, refl, sym, ap, ◌∙◌, subst, ℕ, true, false, Option, Some, None, is_some, option_and_then, Result, Ok, Err}
-use Rattle.tree_meaning.specs.Place.{MadeBlock}
+use Rattle.prim_parts.specs.tree_meaning.Place.{MadeBlock}
 use Rattle.gem_object.specs.declared.value.Value.{Value}
 use Rattle.gem_object.specs.declared.body.Body.{Body}
-use Rattle.gem_image.specs.Image.{Contents}
-use Rattle.gem_world.specs.Access.{Access}
+use Rattle.gem_sound.specs.gem_image.Image.{Contents}
+use Rattle.object_programs.specs.gem_world.Access.{Access}
 use Rattle.object_programs.specs.Atom.{Ask}
 use Rattle.object_programs.specs.Run.{Run, atom, and_then}
 use Rattle.object_programs.specs.Programs.{need}

@@ -2,14 +2,14 @@
 use Rattle.std.proofs.lemmas.Bool.{false≢true, and_parts}
 use Rattle.std.proofs.Common.{◌≡◌, refl, sym, ap, ◌∙◌, ℕ, true, false, nat_lt, List, Option, Some, None, is_some, option_map}
 use Rattle.std.specs.List.{list_all}
-use Rattle.texts.specs.Bytes.{Bytes as Text}
-use Rattle.seg_rights.specs.declared.rights.Rights.{Rights}
-use Rattle.rc_counter_bag.specs.declared.counter.Counter.{Counter}
+use Rattle.gem_object.specs.texts.Bytes.{Bytes as Text}
+use Rattle.gem_object.specs.seg_rights.declared.rights.Rights.{Rights}
+use Rattle.gem_object.specs.rc_counter_bag.declared.counter.Counter.{Counter}
 use Rattle.gem_object.specs.declared.value.Value.{Value}
 use Rattle.gem_object.specs.declared.body.UserBody.{UserBody}
 use Rattle.gem_object.specs.declared.body.Body.{Body}
 use Rattle.gem_object.specs.declared.body.Body.TheVariants as body
-use Rattle.gem_image.specs.Image.{Contents}
+use Rattle.gem_sound.specs.gem_image.Image.{Contents}
 use Rattle.gem_sound.specs.Sound.{names_in}
 use Rattle.object_programs.specs.Fixed.{class_part}
 use Rattle.object_programs.specs.Guard.{Parts, is_known, is_segment_at, accepts, named_fit, kernel_fits, place_fits, fits}

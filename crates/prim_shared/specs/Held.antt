@@ -1,8 +1,8 @@
 -- How code goes on with a receiver that was read or written.
 use Rattle.std.specs.Prelude.{◌≡◌, ℕ, Option, Some, option_and_then, Result}
-use Rattle.tree_meaning.specs.Place.{MadeBlock}
+use Rattle.prim_parts.specs.tree_meaning.Place.{MadeBlock}
 use Rattle.gem_object.specs.declared.body.Body.{Body}
-use Rattle.gem_image.specs.Image.{Contents}
+use Rattle.gem_sound.specs.gem_image.Image.{Contents}
 use Rattle.object_programs.specs.Run.{Run}
 use Rattle.prim_rules.specs.Receivers.{Receiver}
 use Rattle.running_objects.specs.Seen.{Seen, object_at}

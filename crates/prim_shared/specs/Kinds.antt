@@ -1,8 +1,8 @@
 -- What the body of a receiver holds, by the kind of receivers for which a rule is.
 use Rattle.std.specs.Prelude.{ℕ, ℤ, List, Option}
-use Rattle.texts.specs.Bytes.{Bytes as Text}
-use Rattle.seg_rights.specs.declared.rights.Rights.{Rights}
-use Rattle.rc_queue.specs.Contents.{Contents as QueueContents}
+use Rattle.gem_object.specs.texts.Bytes.{Bytes as Text}
+use Rattle.gem_object.specs.seg_rights.declared.rights.Rights.{Rights}
+use Rattle.gem_object.specs.rc_queue.Contents.{Contents as QueueContents}
 use Rattle.gem_object.specs.declared.value.Value.{Value}
 use Rattle.gem_object.specs.declared.body.UserBody.{UserBody}
 use Rattle.gem_object.specs.declared.body.Body.{Body}

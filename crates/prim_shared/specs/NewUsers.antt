@@ -1,6 +1,6 @@
 -- The names of the objects of a new user.
 use Rattle.std.specs.Prelude.{◌≡◌, ◌+◌}
-use Rattle.gem_world.specs.World.{next_name}
+use Rattle.object_programs.specs.gem_world.World.{next_name}
 use Rattle.running_objects.specs.Seen.{Seen}
 use Rattle.prim_shared.specs.declared.new_users.NewNames.{NewNames}
 

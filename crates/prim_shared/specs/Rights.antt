@@ -1,7 +1,7 @@
 -- Rights that a segment gives to others than groups.
-use Rattle.texts.specs.Bytes.{Bytes as Text}
-use Rattle.seg_rights.specs.declared.right.Right.{Right}
-use Rattle.seg_rights.specs.declared.rights.Rights.{Rights}
+use Rattle.gem_object.specs.texts.Bytes.{Bytes as Text}
+use Rattle.gem_object.specs.seg_rights.declared.right.Right.{Right}
+use Rattle.gem_object.specs.seg_rights.declared.rights.Rights.{Rights}
 use Rattle.prim_rules.specs.Segments.{with_owner_right, with_world_right}
 use Rattle.prim_shared.specs.declared.segments.Holder.{Holder}
 use Rattle.prim_shared.specs.declared.segments.Holder.TheVariants as holder

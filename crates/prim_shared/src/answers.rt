@@ -1,7 +1,7 @@
 //! How rules end.
 ghost use Rattle.std.specs.Prelude.{◌≡◌, true, false, List, Some};
 ghost use Rattle.gem_object.specs.declared.value.Value.{Value};
-ghost use Rattle.gem_image.specs.Image.{Contents};
+ghost use Rattle.gem_sound.specs.gem_image.Image.{Contents};
 ghost use Rattle.object_programs.specs.Methods.{methods_fit};
 ghost use Rattle.object_programs.specs.Run.{and_then};
 ghost use Rattle.object_programs.specs.Programs.{replace_body, update};
@@ -10,10 +10,9 @@ ghost use Rattle.running_objects.specs.Seen.{object_at};
 ghost use Rattle.prim_parts.specs.Does.{Does};
 ghost use Rattle.prim_shared.specs.Told.{fits_array};
 
-use gem_object::{Body, Value, Values};
+use gem_object::{Body, Oid, Value, Values};
 use gem_sound::names::ARRAY_CLASS;
 use gem_update::Update;
-use gem_value::Oid;
 use object_programs::Fault;
 use prim_parts::{default_segment, kernel_name, new_object, replace_body, update};
 use prim_rules::PrimitiveAnswer;

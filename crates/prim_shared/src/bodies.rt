@@ -5,14 +5,8 @@ ghost use Rattle.prim_rules.specs.Parts.{segment_in, user_in};
 ghost use Rattle.prim_rules.specs.Receivers.{occurrences_in, shared_pairs_in, queue_in};
 ghost use Rattle.prim_shared.specs.Held.{held_of};
 
-use gem_object::{Body, UserBody, Value};
-use gem_value::Oid;
-use rc_counter_bag::Bag;
-use rc_dict::KeyDict;
-use rc_queue::Queue;
+use gem_object::{Bag, Body, KeyDict, Oid, Queue, Rights, Text, UserBody, Value};
 use running_objects::Objects;
-use seg_rights::Rights;
-use texts::Text;
 
 /// The rights that the segment of this name gives; None where the object is no segment.
 pub fn rights_of<O: Objects>(objects: &O, name: Oid) -> Option<&Rights<Text>>

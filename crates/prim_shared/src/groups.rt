@@ -8,11 +8,10 @@ ghost use Rattle.std.specs.BTreeMap.{insert_entry};
 ghost use Rattle.std.specs.Map.{remove_entry};
 ghost use Rattle.prim_rules.specs.Groups.{with_group, without_group, with_right};
 
+use gem_object::{Right, Text};
 use object_programs::GROUPS_LIMIT;
-use seg_rights::Right;
 use std::alloc::{AllocError, Global};
 use std::cmp::Ordering;
-use texts::Text;
 
 /// Whether so many groups are no more than may be.
 pub fn are_few(count: usize) -> bool

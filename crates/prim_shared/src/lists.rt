@@ -3,11 +3,8 @@ ghost use Rattle.std.specs.Prelude.{◌≡◌, ◌++◌, map, replicate, IfOk, O
 ghost use Rattle.gem_object.specs.declared.value.Value.TheVariants.{Sym};
 ghost use Rattle.prim_rules.specs.Bags.{items_of};
 
-use gem_object::{Value, Values};
-use gem_value::Sequence;
-use rc_queue::Queue;
+use gem_object::{Queue, Sequence, Text, Value, Values};
 use std::alloc::{AllocError, Global};
-use texts::Text;
 
 /// Symbols of these texts.
 pub fn symbols_of(alloc: Global, texts: &[Text]) -> Result<Values, AllocError>

@@ -3,8 +3,8 @@ ghost use Rattle.std.specs.Prelude.{◌≡◌, ◌+◌, ◌^◌, ◌<◌, [], �
 ghost use Rattle.gem_object.specs.Edits.{value_at};
 ghost use Rattle.gem_object.specs.declared.value.Value.{Value};
 ghost use Rattle.gem_object.specs.declared.value.Value.TheVariants.{Sym};
-ghost use Rattle.gem_image.specs.Image.{contents_of};
-ghost use Rattle.gem_world.specs.World.{next_name};
+ghost use Rattle.gem_sound.specs.gem_image.Image.{contents_of};
+ghost use Rattle.object_programs.specs.gem_world.World.{next_name};
 ghost use Rattle.object_programs.specs.Programs.{check};
 ghost use Rattle.object_programs.specs.Run.{and_then};
 ghost use Rattle.object_programs.specs.declared.fault.Fault.TheVariants as fault;
@@ -19,18 +19,17 @@ ghost use Rattle.prim_shared.specs.NewUsers.{AreDrawn};
 
 use crate::receivers::{ReceiverKind, write_receiver};
 use crate::user_names::user_name_argument;
-use gem_object::{Body, Dictionary, Object, UserBody, Value};
+use gem_object::{
+    Body, Dictionary, Groups, Object, Oid, Right, Rights, Sequence, Text, UserBody, Value,
+};
 use gem_sound::names::{
     ALL_USERS, DATA_CURATOR_SEGMENT, SEGMENT_CLASS, SYMBOL_DICTIONARY_CLASS, USER_PROFILE_CLASS,
 };
-use gem_value::{Oid, Sequence};
 use object_programs::Fault;
 use prim_parts::{check, kernel_name, make_and_enter, reference_in};
 use prim_rules::PrimitiveAnswer;
 use running_objects::{Objects, Stop};
-use seg_rights::{Groups, Right, Rights};
 use std::alloc::{AllocError, Global};
-use texts::Text;
 
 /// The names of the objects of a new user.
 #[derive(Clone, Copy)]

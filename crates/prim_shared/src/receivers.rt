@@ -6,8 +6,7 @@ ghost use Rattle.prim_shared.specs.Kinds.{held_in};
 ghost use Rattle.prim_shared.specs.Held.{held_of};
 ghost use Rattle.prim_parts.specs.Reached.{Receives};
 
-use gem_object::{Body, Value};
-use gem_value::Oid;
+use gem_object::{Body, Oid, Value};
 use object_programs::Fault;
 use prim_parts::reference_in;
 use running_objects::{Objects, Stop};

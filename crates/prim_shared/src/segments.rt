@@ -14,15 +14,12 @@ use crate::answers::answer_replaced;
 use crate::bodies::rights_of;
 use crate::groups::{are_few, items_added, same_entries, with_right};
 use crate::receivers::{ReceiverKind, write_receiver};
-use gem_object::{Body, Value};
-use gem_value::Oid;
+use gem_object::{Body, Groups, Oid, Right, Rights, Text, Value};
 use object_programs::Fault;
 use prim_parts::{check, one_of, symbol_in, two_of};
 use prim_rules::PrimitiveAnswer;
 use running_objects::{Objects, Stop};
-use seg_rights::{Groups, Right, Rights};
 use std::alloc::{AllocError, Global};
-use texts::Text;
 
 /// Who has a right in a segment that isn't a group's.
 #[derive(Clone, Copy)]

@@ -1,10 +1,9 @@
 //! The primitives 84 to 87, 89 to 92, 94 and 95, of reduced-conflict objects.
 ghost use Rattle.std.specs.Prelude.{◌≡◌, pos, is_some, option_copied, option_map, option_and_then, slice_get, IfOk};
-ghost use Rattle.profile.specs.SmallInteger.{is_small_integer};
-ghost use Rattle.rc_counter_bag.specs.Bag.{count};
-ghost use Rattle.rc_dict.specs.Dict.{entry};
+ghost use Rattle.gem_object.specs.texts.SmallInteger.{is_small_integer};
+ghost use Rattle.gem_object.specs.rc_counter_bag.Bag.{count};
+ghost use Rattle.gem_object.specs.rc_dict.Dict.{entry};
 ghost use Rattle.gem_object.specs.Order.{value_order};
-ghost use Rattle.gem_object.specs.Spelling.{is_key};
 ghost use Rattle.gem_object.specs.declared.value.Value.TheVariants.{Int};
 ghost use Rattle.gem_update.specs.declared.update.Update.TheVariants as change;
 ghost use Rattle.object_programs.specs.Programs.{need, check};
@@ -23,16 +22,11 @@ ghost use Rattle.prim_shared.specs.Held.{held_of, GoesOn, SaysOf};
 use crate::answers::answer_updated;
 use crate::bodies::{bag_of, dictionary_of, queue_of};
 use crate::receivers::{ReceiverKind, read_receiver, write_receiver};
-use gem_object::Value;
+use gem_object::{BagUpdate, DictUpdate, LARGEST_INTEGER, Oid, QueueUpdate, Value};
 use gem_update::Update;
-use gem_value::Oid;
 use object_programs::Fault;
 use prim_parts::{check, check_stored, int_in, no_arguments, one_of, truth, two_of};
 use prim_rules::PrimitiveAnswer;
-use profile::LARGEST_INTEGER;
-use rc_counter_bag::BagUpdate;
-use rc_dict::DictUpdate;
-use rc_queue::QueueUpdate;
 use running_objects::{Objects, Stop};
 use std::alloc::AllocError;
 
@@ -133,23 +127,12 @@ fn answer_number(number: u64) -> Result<PrimitiveAnswer, Stop>
     Err(Stop::Fails(Fault::IntegerRange))
 }
 
-// Whether a value may be a key.
-fn is_key(value: &Value) -> bool
-    ensures { result ≡ is_key value.now }
-{
-    match value {
-        Value::False | Value::True => true,
-        Value::Int(_) | Value::Char(_) | Value::Sym(_) => true,
-        Value::Nil | Value::Ref(_) | Value::Block(_) => false,
-    }
-}
-
 // The one argument, which is a key; E5 where it is none.
 fn shared_key_argument(arguments: &[Value]) -> Result<&Value, Stop>
     ensures { Computes (shared_key_argument arguments.now) (pointed result) }
 {
     let key = one_of(arguments)?;
-    check(Fault::ArgumentKind, is_key(key))?;
+    check(Fault::ArgumentKind, key.is_key())?;
     Ok(key)
 }
 
@@ -221,7 +204,7 @@ pub fn row_90<O: Objects>(
 {
     let name = write_receiver(objects, ReceiverKind::SharedDictionary, receiver)?;
     let pair = two_of(arguments)?;
-    check(Fault::ArgumentKind, is_key(pair.0))?;
+    check(Fault::ArgumentKind, pair.0.is_key())?;
     check_stored(pair.1)?;
     let growth = entry_growth(objects, name, pair.0);
     let change = Update::RcDict(DictUpdate::Put(pair.0.clone()?, pair.1.clone()?));

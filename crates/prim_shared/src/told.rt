@@ -12,15 +12,12 @@ ghost use Rattle.prim_shared.specs.Told.{kind_told, said_by, kind_listed, listed
 use crate::answers::{answer_array, refuse_array};
 use crate::lists::{items_of, keys_of, symbols_of, waiting_in};
 use crate::receivers::{ReceiverKind, read_receiver};
-use gem_object::{Body, UserBody, Value, Values};
-use gem_value::Oid;
+use gem_object::{Body, Oid, Right, Rights, Text, UserBody, Value, Values};
 use object_programs::{Fault, SLOTS_LIMIT};
 use prim_parts::no_arguments;
 use prim_rules::PrimitiveAnswer;
 use running_objects::{Objects, Stop};
-use seg_rights::{Right, Rights};
 use std::alloc::{AllocError, Global};
-use texts::Text;
 
 /// What is told of a receiver.
 #[derive(Clone, Copy)]

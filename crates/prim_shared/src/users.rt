@@ -15,14 +15,12 @@ use crate::answers::answer_replaced;
 use crate::bodies::user_of;
 use crate::groups::{are_few, is_among, items_added, with_group, without_group};
 use crate::receivers::{ReceiverKind, write_receiver};
-use gem_object::{Body, UserBody, Value};
-use gem_value::{Oid, Sequence};
+use gem_object::{Body, Oid, Sequence, Text, UserBody, Value};
 use object_programs::Fault;
 use prim_parts::{check, no_arguments, one_of, reference_in, symbol_in};
 use prim_rules::PrimitiveAnswer;
 use running_objects::{Objects, Stop};
 use std::alloc::{AllocError, Global};
-use texts::Text;
 
 // The text of the symbol that the one argument is; E5 where it is none.
 fn symbol_argument(arguments: &[Value]) -> Result<&Text, Stop>

@@ -2,7 +2,7 @@
 use Rattle.std.proofs.Common.{◌≡◌, Some, ℤ, ◌+ℤ◌, List, arith}
 use Rattle.std.proofs.lemmas.Int.{ints}
 use Rattle.std.proofs.lemmas.Option.{cond_some, option_and_then_some}
-use Rattle.profile.specs.SmallInteger.{is_small_integer}
+use Rattle.texts.specs.SmallInteger.{is_small_integer}
 use Rattle.rc_counter_bag.specs.Counter.{small_integer, total, updated, merged}
 use Rattle.rc_counter_bag.specs.Turns.{raised_twice, sums_merged}
 

@@ -1,6 +1,6 @@
 -- What an update leaves of a counter, and what a merge of updates does.
 use Rattle.std.specs.Prelude.{if◌then◌else◌, ℤ, pos, ◌+ℤ◌, List, fold, Option, Some, None}
-use Rattle.profile.specs.SmallInteger.{is_small_integer}
+use Rattle.texts.specs.SmallInteger.{is_small_integer}
 
 -- the number, where it is a SmallInteger
 abbrev pub small_integer : ℤ → Option ℤ

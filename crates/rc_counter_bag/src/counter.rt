@@ -2,9 +2,9 @@
 ghost use Rattle.std.specs.Prelude.{◌≡◌, ◌*◌, ◌^◌, length, pos, neg_ℤ, ◌≤ℤ◌, Some, None, MatchResult};
 ghost use Rattle.rc_counter_bag.specs.Counter.{small_integer, updated, merged, total};
 
-use profile::{LARGEST_INTEGER, SMALLEST_INTEGER};
 use std::error::Error;
 use std::fmt;
+use texts::{LARGEST_INTEGER, SMALLEST_INTEGER};
 
 /// A number that sessions raise and lower side by side.
 #[derive(Clone, Copy, Debug, PartialEq, Eq)]

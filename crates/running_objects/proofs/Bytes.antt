@@ -3,7 +3,7 @@ use Rattle.std.proofs.Common.{◌≡◌, ℕ, ◌*◌, ◌^◌, ◌<◌, ◌≤�
 use Rattle.std.specs.List.{list_all, sum_by}
 use Rattle.std.proofs.lemmas.Bool.{false≢true, and_parts, ltb-true, leb-true}
 use Rattle.std.proofs.lemmas.List.Sums.{sum_by-cons}
-use Rattle.texts.specs.Bytes.{Bytes as Text}
+use Rattle.gem_object.specs.texts.Bytes.{Bytes as Text}
 use Rattle.gem_object.specs.Sizes.{text_size, value_size, pair_size, occurrences_size, grant_size, method_size, methods_size, names_size, fields_size}
 use Rattle.gem_object.specs.declared.value.Value.{Value}
 use Rattle.gem_object.specs.declared.value.Value.TheVariants.{Nil, False, True, Int, Char, Sym, Ref, Block}
@@ -12,7 +12,7 @@ use Rattle.gem_object.specs.declared.body.MethodCode.TheVariants.{Source, Primit
 use Rattle.gem_object.specs.declared.body.Method.{Method}
 use Rattle.gem_object.specs.declared.body.Body.{Body}
 use Rattle.gem_object.specs.declared.body.Body.TheVariants.{Plain, Bytes, Dict, Class, Segment, User, Counter, Bag, RcDict, Queue}
-use Rattle.gem_image.specs.Image.{Contents}
+use Rattle.object_programs.specs.gem_image.Image.{Contents}
 use Rattle.object_programs.specs.Spelled.{is_plain_byte, is_oid, is_text, is_superclass, is_storable, are_storable, is_storable_pair, is_code, is_method, are_methods, is_spelled}
 use Rattle.running_objects.specs.Seen.{Seen, object_at, IsSoundState}
 use Rattle.running_objects.proofs.Edits.{old_rest}

@@ -7,7 +7,7 @@ use Rattle.std.proofs.lemmas.List.Folds.{list_all-append}
 use Rattle.std.specs.List.{list_all}
 use Rattle.std.specs.Cmp.Lexicographic.{pointwise}
 use Rattle.std.specs.Prelude.{bytes_eq}
-use Rattle.texts.specs.Bytes.{Bytes as Text}
+use Rattle.gem_object.specs.texts.Bytes.{Bytes as Text}
 use Rattle.gem_object.specs.Kinds as kinds
 use Rattle.gem_object.specs.References.{names_in as names_in_values, names_in_pairs, names_in_body}
 use Rattle.gem_object.specs.declared.kind.Kind.{Kind}
@@ -16,9 +16,9 @@ use Rattle.gem_object.specs.declared.value.Value.{Value}
 use Rattle.gem_object.specs.declared.value.Value.TheVariants as value
 use Rattle.gem_object.specs.declared.body.Body.{Body}
 use Rattle.gem_object.specs.declared.body.Body.TheVariants as body
-use Rattle.gem_image.specs.Image.{Contents}
-use Rattle.gem_world.specs.World.{Setting, World, shown}
-use Rattle.gem_world.specs.Changes.{with_body}
+use Rattle.object_programs.specs.gem_image.Image.{Contents}
+use Rattle.object_programs.specs.gem_world.World.{Setting, World, shown}
+use Rattle.object_programs.specs.gem_world.Changes.{with_body}
 use Rattle.object_programs.specs.Kernel.{KernelBody, a_class, a_dictionary, a_segment, a_user, no_slots, kernel_body}
 use Rattle.object_programs.specs.Sound.{names_in}
 use Rattle.object_programs.specs.Fixed.{BodyKind, PlainKind, BytesKind, DictKind, ClassKind, SegmentKind, UserKind, CounterKind, BagKind, RcDictKind, QueueKind, ClassPart, class_part, Fixed, fixed_of, fixed_by, same_body_kind, same_number, same_part, same_fixed}

@@ -6,13 +6,13 @@ use Rattle.std.specs.FinMap.{FinMap, get, insert}
 use Rattle.std.specs.List.{list_all}
 use Rattle.std.specs.Option.{option_to_list}
 use Rattle.std.proofs.lemmas.List.Folds.{list_all-append}
-use Rattle.radix_pages.proofs.Tables.{same_keys, get-insert_same, get-insert_other}
+use Rattle.object_programs.proofs.radix_pages_lemmas.Tables.{same_keys, get-insert_same, get-insert_other}
 use Rattle.gem_object.specs.References.{names_in_body}
 use Rattle.gem_object.specs.declared.body.Body.{Body}
 use Rattle.gem_object.specs.declared.body.Body.TheVariants as body
-use Rattle.gem_image.specs.Image.{Contents}
-use Rattle.gem_world.specs.World.{Setting, World, shown, with_name}
-use Rattle.gem_world.specs.Changes.{with_body, put}
+use Rattle.object_programs.specs.gem_image.Image.{Contents}
+use Rattle.object_programs.specs.gem_world.World.{Setting, World, shown, with_name}
+use Rattle.object_programs.specs.gem_world.Changes.{with_body, put}
 use Rattle.object_programs.specs.Sound.{names_in}
 use Rattle.object_programs.specs.Fixed.{ClassPart, class_part, Fixed, fixed_of, fixed_by}
 use Rattle.object_programs.specs.Guard.{Parts, holds_of, is_there, is_known, asked_names, line_above, line_of_class, line_of_part, line_within, line_at, chain_limit, fits, may_change, may_replace}

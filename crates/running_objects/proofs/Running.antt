@@ -3,9 +3,9 @@ use Rattle.std.proofs.Common.{◌≡◌, refl, sym, ap, ◌∙◌, subst, ℕ, O
 use Rattle.std.specs.Option.{unwrap_or}
 use Rattle.gem_object.specs.declared.value.Value.{Value}
 use Rattle.gem_object.specs.declared.body.Body.{Body}
-use Rattle.gem_image.specs.Image.{Contents}
-use Rattle.gem_world.specs.Access.{Access}
-use Rattle.gem_world.specs.World.{Setting}
+use Rattle.object_programs.specs.gem_image.Image.{Contents}
+use Rattle.object_programs.specs.gem_world.Access.{Access}
+use Rattle.object_programs.specs.gem_world.World.{Setting}
 use Rattle.object_programs.specs.Budget.{Budget}
 use Rattle.object_programs.specs.Local.{Local}
 use Rattle.object_programs.specs.Laws.{Falls, AreSound}

@@ -3,9 +3,9 @@ use Rattle.std.specs.Prelude.{◌≡◌, ◌-◌, ◌^◌, ℕ, min, map, List, 
 use Rattle.gem_object.specs.Sizes.{fields_size}
 use Rattle.gem_object.specs.declared.body.Body.{Body}
 use Rattle.gem_object.specs.declared.object.Object.{Object}
-use Rattle.gem_image.specs.Image.{Contents, contents_of}
-use Rattle.gem_world.specs.World.{next_name}
-use Rattle.gem_world.specs.Access.{Access}
+use Rattle.object_programs.specs.gem_image.Image.{Contents, contents_of}
+use Rattle.object_programs.specs.gem_world.World.{next_name}
+use Rattle.object_programs.specs.gem_world.Access.{Access}
 use Rattle.object_programs.specs.Fixed.{fixed_by}
 use Rattle.object_programs.specs.Atom.{Atom, Ask, Own, Kind, Put, Make, says, refuses, Done, done}
 use Rattle.running_objects.specs.Seen.{Seen, object_at, Keeps}

@@ -3,12 +3,12 @@ use Rattle.std.specs.Prelude.{ℕ, List, refl}
 use Rattle.std.specs.Coded.{Coded, code_by, coded×, coded_ℕ, coded_list}
 use Rattle.std.specs.Ordering.{nat_cmp}
 use Rattle.std.specs.FinMap.{FinMap, code}
-use Rattle.texts.specs.Bytes.{Bytes as Text}
+use Rattle.gem_object.specs.texts.Bytes.{Bytes as Text}
 use Rattle.gem_object.specs.declared.body.Body.{Body}
 use Rattle.gem_object.specs.declared.object.Object.{Object}
 use Rattle.gem_update.specs.declared.update.Update.{Update}
-use Rattle.gem_image.specs.Image.{Image, Contents}
-use Rattle.gem_world.specs.World.{Setting, World}
+use Rattle.object_programs.specs.gem_image.Image.{Image, Contents}
+use Rattle.object_programs.specs.gem_world.World.{Setting, World}
 use Rattle.object_programs.specs.Budget.{Budget}
 use Rattle.running_objects.specs.Seen.{Seen}
 

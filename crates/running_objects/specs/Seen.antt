@@ -1,7 +1,7 @@
 -- What a running transaction shows of its state, and what is kept whatever becomes of it.
 use Rattle.std.specs.Prelude.{◌≡◌, ℕ, Option}
-use Rattle.gem_image.specs.Image.{Contents}
-use Rattle.gem_world.specs.World.{Setting, World, shown}
+use Rattle.object_programs.specs.gem_image.Image.{Contents}
+use Rattle.object_programs.specs.gem_world.World.{Setting, World, shown}
 use Rattle.object_programs.specs.Budget.{Budget, whole_budget}
 use Rattle.object_programs.specs.Local.{Local}
 use Rattle.object_programs.specs.Run.{State}

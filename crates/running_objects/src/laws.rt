@@ -3,9 +3,9 @@
 ghost use Rattle.std.specs.Prelude.{◌≡◌, ◌<◌, ℕ, length, slice_set, List, ◌∷◌, Some, Result, Ok, Err};
 ghost use Rattle.gem_object.specs.declared.value.Value.{Value};
 ghost use Rattle.gem_object.specs.declared.body.Body.TheVariants as body;
-ghost use Rattle.gem_image.specs.Image.{Contents};
-ghost use Rattle.gem_world.specs.World.{Setting, World, shown};
-ghost use Rattle.gem_world.specs.Changes.{with_body};
+ghost use Rattle.object_programs.specs.gem_image.Image.{Contents};
+ghost use Rattle.object_programs.specs.gem_world.World.{Setting, World, shown};
+ghost use Rattle.object_programs.specs.gem_world.Changes.{with_body};
 ghost use Rattle.object_programs.specs.Fixed.{fixed_by};
 ghost use Rattle.object_programs.specs.Guard.{may_replace};
 ghost use Rattle.object_programs.specs.Laws.{AreSound};

@@ -8,5 +8,6 @@ mod objects;
 mod stop;
 
 pub use chunks::RunsChunks;
+pub use object_programs::{ACTIVATION_LIMIT, Fault};
 pub use objects::Objects;
 pub use stop::Stop;

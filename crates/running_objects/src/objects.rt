@@ -2,9 +2,9 @@
 ghost use Rattle.std.specs.Prelude.{◌≡◌, ◌<◌, ℕ, true, List, Option, map, SomeIff, IfSome, option_map, option_copied, Some, None};
 ghost use Rattle.std.specs.List.{list_all};
 ghost use Rattle.gem_object.specs.Edits.{with_slot, with_slot_more, without_slot, with_byte, with_value_at, without_value_at};
-ghost use Rattle.gem_image.specs.Image.{contents_of};
-ghost use Rattle.gem_world.specs.World.{is_made, next_name};
-ghost use Rattle.gem_world.specs.Access.{a_read, a_write};
+ghost use Rattle.object_programs.specs.gem_image.Image.{contents_of};
+ghost use Rattle.object_programs.specs.gem_world.World.{is_made, next_name};
+ghost use Rattle.object_programs.specs.gem_world.Access.{a_read, a_write};
 ghost use Rattle.object_programs.specs.Methods.{methods_fit};
 ghost use Rattle.object_programs.specs.Atom.{Put, Move, Note, Names, Tick, Room, Show};
 ghost use Rattle.object_programs.specs.declared.limits.TheConstants.{COUNTER_LIMIT};
@@ -12,9 +12,8 @@ ghost use Rattle.running_objects.specs.Seen.{Seen, object_at, IsSoundState};
 ghost use Rattle.running_objects.specs.Acted.{Acted, Accessed, Owned, Known, Edited, Made, stored_bytes};
 
 use crate::stop::Stop;
-use gem_object::{Body, Object, Value};
+use gem_object::{Body, Object, Oid, Value};
 use gem_update::Update;
-use gem_value::Oid;
 
 /// The objects of a running transaction, with its budget. Code that is written over this trait runs
 /// on any state that has it.

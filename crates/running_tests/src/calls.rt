@@ -2,20 +2,20 @@
 ghost use Rattle.std.specs.Prelude.{◌≡◌, ◌<◌};
 
 use chunk_tables::{note, told};
-use gem_object::{BlockRef, Value};
+use gem_object::{BlockRef, Text, Value};
 use kernel_state::begin;
 use object_programs::Fault;
 use plain_state::PlainState;
 use prim_rules::PrimitiveAnswer;
 use radix_pages::Steps;
 use running_objects::Stop;
+use st_commands::{Command, print_value};
 use st_parser::parse_chunk;
-use st_plain::{Command, call_primitive, print_value, run_chunk, run_command};
+use st_plain::{run_chunk, run_command};
 use std::alloc::{AllocError, Global};
 use std::marker::Brand;
 use std::sync::ledger::{Blank, Ledger};
 use std::test::Fail;
-use texts::Text;
 
 /// Whether the tree of `3 + 4` runs to 7.
 fn chunk_runs(alloc: Global, state: &mut PlainState) -> bool {
@@ -36,7 +36,7 @@ fn value_prints(alloc: Global, state: &mut PlainState) -> bool {
 /// Whether primitive 10 adds 3 and 4.
 fn primitive_adds(alloc: Global, state: &mut PlainState) -> bool {
     let arguments = [Value::Int(4)];
-    let called = call_primitive(alloc, state, 10, &Value::Int(3), &arguments);
+    let called = prim_calls::call(alloc, state, 10, &Value::Int(3), &arguments);
     matches!(called, Ok(PrimitiveAnswer::Gives(Value::Int(7))))
 }
 
@@ -46,7 +46,7 @@ fn primitive_evaluates(alloc: Global, state: &mut PlainState) -> bool {
         number: 5,
         params: 0,
     };
-    match call_primitive(alloc, state, 28, &Value::Block(block), &[]) {
+    match prim_calls::call(alloc, state, 28, &Value::Block(block), &[]) {
         Ok(PrimitiveAnswer::Evaluates(answer, arguments)) => {
             answer.number == 5 && arguments.is_empty()
         }
@@ -56,7 +56,7 @@ fn primitive_evaluates(alloc: Global, state: &mut PlainState) -> bool {
 
 /// Whether there is no primitive of this number.
 fn primitive_is_none(alloc: Global, state: &mut PlainState, number: u8) -> bool {
-    let called = call_primitive(alloc, state, number, &Value::Int(3), &[]);
+    let called = prim_calls::call(alloc, state, number, &Value::Int(3), &[]);
     matches!(called, Err(Stop::Fails(Fault::ArgumentKind)))
 }
 

@@ -1,6 +1,5 @@
 //! Room: running. Tests the primitives (`prim_numbers`, `prim_classes`, `prim_collections`,
-//! `prim_shared`, by `prim_calls`), `st_outside` and `st_plain`, on a `plain_state` and on a
-//! `session_view`.
+//! `prim_shared`, by `prim_calls`), `st_outside`, `st_commands` and `st_plain`, on a `plain_state`.
 #![tactic(auto)]
 
 #[cfg(test)]

@@ -5,18 +5,18 @@ use chunk_tables::{
     ANY, BLOCKS, CLASSES, DICTIONARIES, FORMS, LIMITS, NAMES_LEFT, NUMBERS, RIGHTS, SCRIPTS,
     SEQUENCES, SHARED, STRINGS, note, told,
 };
+use gem_object::Text;
 use kernel_state::{Begins, begin};
 use plain_state::PlainState;
 use radix_pages::Steps;
-use session_view::View;
-use st_plain::{install_source, run_text};
+use st_commands::install_source;
+use st_plain::run_text;
 use std::alloc::{AllocError, Global};
 use std::marker::Brand;
 use std::sync::ledger::{Blank, Ledger};
 use std::test::Fail;
 use std::thread;
 use std::thread::Builder;
-use texts::Text;
 
 /// The bytes of stack of a thread that runs chunks: 2,000 activations fill 14 to 34 MiB.
 const STACK: usize = 256 << 20;
@@ -245,26 +245,10 @@ fn lines_by_brand<S: Begins>(alloc: Global) -> Result<String, AllocError> {
     wrong_lines::<S, Brand>(alloc, Blank::new(1))
 }
 
-/// The rows that aren't replied to as they should be, on a plain state or on a view.
-fn rows_of_both(alloc: Global) -> Result<String, AllocError> {
-    let mut wrong = rows_by_brand::<PlainState>(alloc)?;
-    let of_view = rows_by_brand::<View>(alloc)?;
-    wrong.push_str(of_view.as_str())?;
-    Ok(wrong)
-}
-
-/// The lines of scripts that aren't replied to as they should be, on a plain state or on a view.
-fn lines_of_both(alloc: Global) -> Result<String, AllocError> {
-    let mut wrong = lines_by_brand::<PlainState>(alloc)?;
-    let of_view = lines_by_brand::<View>(alloc)?;
-    wrong.push_str(of_view.as_str())?;
-    Ok(wrong)
-}
-
 #[test]
 fn rows(rt: HostRuntime) -> Result<(), Fail> {
     let wrong = thread::scope(thread::scope_env(), &rt, |scope| {
-        let work = || rows_of_both(rt.alloc());
+        let work = || rows_by_brand::<PlainState>(rt.alloc());
         match Builder::new().stack_size(STACK).spawn_scoped(scope, work) {
             Ok(child) => child.join(&rt),
             Err(_) => Err(AllocError),
@@ -277,7 +261,7 @@ fn rows(rt: HostRuntime) -> Result<(), Fail> {
 #[test]
 fn scripts(rt: HostRuntime) -> Result<(), Fail> {
     let wrong = thread::scope(thread::scope_env(), &rt, |scope| {
-        let work = || lines_of_both(rt.alloc());
+        let work = || lines_by_brand::<PlainState>(rt.alloc());
         match Builder::new().stack_size(STACK).spawn_scoped(scope, work) {
             Ok(child) => child.join(&rt),
             Err(_) => Err(AllocError),

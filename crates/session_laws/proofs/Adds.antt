@@ -1,20 +1,20 @@
 -- What the replies to one command add to the session's events, and to what their reader knows.
 use Rattle.std.proofs.Common.{◌≡◌, ◌⊎◌, inl, inr, ◌∙◌, refl, sym, ap, subst, ℕ, ◌+◌, Bool, true, false, true≢false, cond, is_some, List, [], ◌∷◌, ◌++◌, map, append-nil}
-use Rattle.texts.specs.Bytes.{Bytes as Text}
-use Rattle.gem_object.specs.declared.value.Value.TheVariants.{Ref}
-use Rattle.gem_world.specs.World.{Setting, World, is_made}
-use Rattle.gem_world.specs.Access.{is_allowed}
-use Rattle.gem_record.specs.declared.record.Entry.{Entry}
-use Rattle.lock_table.specs.Locks.{LockSet}
-use Rattle.lock_table.specs.declared.lock.LockKind.{LockKind}
-use Rattle.gem_language.specs.Commands.{Command as ObjectCommand, run_chunk, install_method, Reply as ObjectReply, not_read, failed, ran, printed, installed}
-use Rattle.gem_language.specs.Transaction.{Said, said_of, command_outcome}
-use Rattle.gem_replies.specs.declared.reply.Line.{Line}
-use Rattle.gem_replies.specs.declared.reply.Line.TheVariants.{NoMemory, NotCommitted, NoRight, Spoiled, Unchanged, Refused, Committed, Aborted, Denied, Locked, NotHeld, Unlocked, Logout as LoggedOut}
-use Rattle.gem_replies.specs.declared.reply.Reply.{Reply}
-use Rattle.shell_words.specs.Script.{is_logout}
-use Rattle.shell_words.specs.declared.script.Command.{Command}
-use Rattle.shell_words.specs.declared.script.Command.TheVariants.{Chunk, Method, Commit, Abort, Logout, Lock, Unlock}
+use Rattle.gem_meaning.specs.texts.Bytes.{Bytes as Text}
+use Rattle.gem_meaning.specs.gem_object.declared.value.Value.TheVariants.{Ref}
+use Rattle.gem_meaning.specs.gem_world.World.{Setting, World, is_made}
+use Rattle.gem_meaning.specs.gem_world.Access.{is_allowed}
+use Rattle.gem_meaning.specs.gem_record.declared.record.Entry.{Entry}
+use Rattle.gem_meaning.specs.lock_table.Locks.{LockSet}
+use Rattle.gem_meaning.specs.lock_table.declared.lock.LockKind.{LockKind}
+use Rattle.gem_meaning.specs.gem_language.Commands.{Command as ObjectCommand, run_chunk, install_method, Reply as ObjectReply, not_read, failed, ran, printed, installed}
+use Rattle.gem_meaning.specs.gem_language.Transaction.{Said, said_of, command_outcome}
+use Rattle.gem_meaning.specs.gem_replies.declared.reply.Line.{Line}
+use Rattle.gem_meaning.specs.gem_replies.declared.reply.Line.TheVariants.{NoMemory, NotCommitted, NoRight, Spoiled, Unchanged, Refused, Committed, Aborted, Denied, Locked, NotHeld, Unlocked, Logout as LoggedOut}
+use Rattle.gem_meaning.specs.gem_replies.declared.reply.Reply.{Reply}
+use Rattle.gem_meaning.specs.shell_words.Script.{is_logout}
+use Rattle.gem_meaning.specs.shell_words.declared.script.Command.{Command}
+use Rattle.gem_meaning.specs.shell_words.declared.script.Command.TheVariants.{Chunk, Method, Commit, Abort, Logout, Lock, Unlock}
 use Rattle.gem_meaning.specs.declared.event.What.{What}
 use Rattle.gem_meaning.specs.declared.event.What.TheVariants.{Placed, Held, Dropped, Left}
 use Rattle.gem_meaning.specs.Lines.{show_lines, reply_line, said_lines}

@@ -1,10 +1,10 @@
 -- A session's events are those that its replies claim.
 use Rattle.std.proofs.Common.{◌≡◌, ◌⊎◌, inl, inr, ◌∙◌, refl, sym, ap, subst, ℕ, ◌+◌, Bool, true, false, cond, Option, Some, None, List, [], ◌∷◌, ◌++◌, map, take, append-nil, append_assoc}
 use Rattle.std.proofs.lemmas.List.{map-append}
-use Rattle.gem_replies.specs.declared.reply.Line.{Line}
-use Rattle.gem_replies.specs.declared.reply.Reply.{Reply}
-use Rattle.shell_words.specs.Script.{SessionCommands, is_logout}
-use Rattle.shell_words.specs.declared.script.Command.{Command}
+use Rattle.gem_meaning.specs.gem_replies.declared.reply.Line.{Line}
+use Rattle.gem_meaning.specs.gem_replies.declared.reply.Reply.{Reply}
+use Rattle.gem_meaning.specs.shell_words.Script.{SessionCommands, is_logout}
+use Rattle.gem_meaning.specs.shell_words.declared.script.Command.{Command}
 use Rattle.gem_meaning.specs.Opened.{Opened}
 use Rattle.gem_meaning.specs.Names.{user_in}
 use Rattle.gem_meaning.specs.Events.{Event, Told, after_events, events_of, OthersCame}

@@ -4,9 +4,9 @@ use Rattle.std.specs.List.{filter, fold}
 use Rattle.std.specs.FinMap.{get-empty}
 use Rattle.std.proofs.lemmas.Bool.{cond-true, ne_eqb}
 use Rattle.std.proofs.lemmas.Bool.Decides.{eqb_tells}
-use Rattle.lock_table.specs.Locks.{LockSet, holding_cmp, holding, kind_held, after_held, after_dropped}
-use Rattle.lock_table.specs.declared.lock.LockKind.{LockKind}
-use Rattle.lock_table.proofs.Changes.{held_this, held_others, dropped_this, dropped_others, left_others}
+use Rattle.gem_meaning.specs.lock_table.Locks.{LockSet, holding_cmp, holding, kind_held, after_held, after_dropped}
+use Rattle.gem_meaning.specs.lock_table.declared.lock.LockKind.{LockKind}
+use Rattle.gem_meaning.proofs.lock_table_lemmas.Changes.{held_this, held_others, dropped_this, dropped_others, left_others}
 use Rattle.gem_meaning.specs.declared.event.What.TheVariants.{Placed, Held, Dropped, Left}
 use Rattle.gem_meaning.specs.Opened.{Opened}
 use Rattle.gem_meaning.specs.Events.{Event, Standing, after_event, after_events, events_of, OthersCame}

@@ -4,9 +4,9 @@ use Rattle.std.specs.List.{filter}
 use Rattle.std.proofs.lemmas.Bool.{ne_eqb}
 use Rattle.std.proofs.lemmas.List.{map-append}
 use Rattle.std.proofs.lemmas.List.Elements.{filter-append}
-use Rattle.gem_replies.specs.declared.reply.Line.{Line}
-use Rattle.gem_replies.specs.declared.reply.Reply.{Reply}
-use Rattle.shell_words.specs.declared.script.Command.{Command}
+use Rattle.gem_meaning.specs.gem_replies.declared.reply.Line.{Line}
+use Rattle.gem_meaning.specs.gem_replies.declared.reply.Reply.{Reply}
+use Rattle.gem_meaning.specs.shell_words.declared.script.Command.{Command}
 use Rattle.gem_meaning.specs.Events.{Told}
 use Rattle.gem_meaning.specs.State.{SessionState}
 use Rattle.gem_meaning.specs.Session.{CommandsSay, reply_with, replies_with}

@@ -2,20 +2,20 @@
 -- short of memory, are one: each is the replay of the script.
 use Rattle.std.proofs.Common.{◌≡◌, ◌∙◌, refl, sym, ap, ap₂, subst, ℕ, ◌+◌, ◌-◌, ◌≤◌, ◌<◌, Option, Some, None, List, [], ◌∷◌, ◌++◌, length, take, drop, arith, add-sub_of_le, drop-drop, take-add, take-append-drop, take_at, drop_at, append-nil}
 use Rattle.std.specs.List.{AllByRecursion}
-use Rattle.texts.specs.Bytes.{Bytes as Text}
-use Rattle.gem_record.specs.declared.record.Entry.{Entry}
-use Rattle.gem_replies.specs.declared.reply.Line.TheVariants.{NoUser, Login}
-use Rattle.gem_replies.specs.declared.reply.Reply.{Reply}
-use Rattle.gem_replies.specs.declared.reply.Transcript.{Transcript}
-use Rattle.shell_words.specs.Script.{SessionCommands}
-use Rattle.shell_words.specs.declared.script.Command.{Command}
+use Rattle.gem_meaning.specs.texts.Bytes.{Bytes as Text}
+use Rattle.gem_meaning.specs.gem_record.declared.record.Entry.{Entry}
+use Rattle.gem_meaning.specs.gem_replies.declared.reply.Line.TheVariants.{NoUser, Login}
+use Rattle.gem_meaning.specs.gem_replies.declared.reply.Reply.{Reply}
+use Rattle.gem_meaning.specs.gem_replies.declared.reply.Transcript.{Transcript}
+use Rattle.gem_meaning.specs.shell_words.Script.{SessionCommands}
+use Rattle.gem_meaning.specs.shell_words.declared.script.Command.{Command}
 use Rattle.gem_meaning.specs.Opened.{Opened, base_serial}
 use Rattle.gem_meaning.specs.Names.{user_in}
 use Rattle.gem_meaning.specs.Events.{Event, Told, after_events, events_of, entries_of, OthersCame}
 use Rattle.gem_meaning.specs.State.{SessionState, first_transaction}
 use Rattle.gem_meaning.specs.Session.{SaysOf, Says, until_logout, reply_with, not_logged_in}
 use Rattle.gem_meaning.specs.Serial.{IsOfScript}
-use Rattle.gem_replies.specs.declared.reply.RunBook.{RunBook}
+use Rattle.gem_meaning.specs.gem_replies.declared.reply.RunBook.{RunBook}
 use Rattle.gem_meaning.specs.Legal.{AreTranscripts, IsLegal, HadMemory, NeverShort, events_before, IsTurn, AreInTurn}
 use Rattle.history_laws.proofs.Turns.{all_take, all_weaker, IsOf, AreOf, own_are_of, none_are_of, all_before, none_before}
 use Rattle.session_laws.proofs.Own.{of_both, came_others}

@@ -2,8 +2,8 @@
 use Rattle.std.proofs.Common.{◌≡◌, ℕ, ◌==◌, List, [], ◌∷◌, ◌++◌, take, drop, refl, sym, ap, ◌∙◌, append-nil, append_assoc, eq-eqb, take-append-drop}
 use Rattle.std.proofs.lemmas.Bool.{cond-true}
 use Rattle.std.proofs.lemmas.List.Elements.{filter-append}
-use Rattle.gem_record.specs.declared.record.Entry.{Entry}
-use Rattle.lock_table.specs.declared.lock.LockKind.{LockKind}
+use Rattle.gem_meaning.specs.gem_record.declared.record.Entry.{Entry}
+use Rattle.gem_meaning.specs.lock_table.declared.lock.LockKind.{LockKind}
 use Rattle.gem_meaning.specs.declared.event.What.{What}
 use Rattle.gem_meaning.specs.declared.event.What.TheVariants.{Placed, Held, Dropped, Left}
 use Rattle.gem_meaning.specs.Events.{Event, events_of, OthersCame}

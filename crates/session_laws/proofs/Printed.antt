@@ -4,15 +4,15 @@ use Rattle.std.specs.List.{slice_get, AllByRecursion}
 use Rattle.std.specs.Option.{option_map}
 use Rattle.std.proofs.lemmas.Option.{same_Some, slice_get-get_or}
 use Rattle.std.proofs.lemmas.List.{length_push, get_or_at, take-take, append_cancel_left}
-use Rattle.gem_record.specs.declared.record.Entry.{Entry}
-use Rattle.gem_language.specs.Commands.{Command as ObjectCommand, run_chunk, install_method}
-use Rattle.gem_language.specs.Transaction.{Transaction}
-use Rattle.gem_replies.specs.declared.reply.Line.TheVariants.{Login}
-use Rattle.gem_replies.specs.declared.reply.Reply.{Reply}
-use Rattle.gem_replies.specs.declared.reply.Transcript.{Transcript}
-use Rattle.shell_words.specs.Script.{SessionCommands, is_logout}
-use Rattle.shell_words.specs.declared.script.Command.{Command}
-use Rattle.shell_words.specs.declared.script.Command.TheVariants.{Chunk, Method, Commit, Abort, Logout, Lock, Unlock}
+use Rattle.gem_meaning.specs.gem_record.declared.record.Entry.{Entry}
+use Rattle.gem_meaning.specs.gem_language.Commands.{Command as ObjectCommand, run_chunk, install_method}
+use Rattle.gem_meaning.specs.gem_language.Transaction.{Transaction}
+use Rattle.gem_meaning.specs.gem_replies.declared.reply.Line.TheVariants.{Login}
+use Rattle.gem_meaning.specs.gem_replies.declared.reply.Reply.{Reply}
+use Rattle.gem_meaning.specs.gem_replies.declared.reply.Transcript.{Transcript}
+use Rattle.gem_meaning.specs.shell_words.Script.{SessionCommands, is_logout}
+use Rattle.gem_meaning.specs.shell_words.declared.script.Command.{Command}
+use Rattle.gem_meaning.specs.shell_words.declared.script.Command.TheVariants.{Chunk, Method, Commit, Abort, Logout, Lock, Unlock}
 use Rattle.gem_meaning.specs.declared.event.What.{What}
 use Rattle.gem_meaning.specs.declared.event.What.TheVariants.{Placed, Left}
 use Rattle.gem_meaning.specs.Commands.{object_command, is_run}
@@ -24,7 +24,7 @@ use Rattle.gem_meaning.specs.Serial.{IsPlaced, IsSerialFrom, IsSerial, IsOfScrip
 use Rattle.gem_meaning.specs.State.{SessionState, entry_to, first_transaction, place_between}
 use Rattle.gem_meaning.specs.Locks.{leaving}
 use Rattle.gem_meaning.specs.Session.{CommandsSay, reply_with, replies_with, until_logout, SaysOf, Says}
-use Rattle.gem_replies.specs.declared.reply.RunBook.{RunBook}
+use Rattle.gem_meaning.specs.gem_replies.declared.reply.RunBook.{RunBook}
 use Rattle.gem_meaning.specs.Legal.{IsLegal, IsTranscript, AreTranscripts}
 use Rattle.gem_meaning.specs.Claims.{Reader, at_login, lines_of}
 use Rattle.session_laws.specs.Places.{runs_before}

@@ -3,18 +3,18 @@
 -- memory, is this one.
 use Rattle.std.specs.Prelude.{ℕ, ◌+◌, Bool, true, false, nat_lt, List, [], ◌∷◌, ◌++◌, length, Option, Some, None, is_some}
 use Rattle.std.specs.FinMap.{len}
-use Rattle.gem_value.specs.declared.conflict.Conflict.{Conflict}
-use Rattle.lock_table.specs.LockKind.{kind_granted}
-use Rattle.lock_table.specs.Locks.{kind_held, denied_for, after_left}
-use Rattle.lock_table.specs.declared.lock.LockKind.{LockKind}
-use Rattle.gem_language.specs.Commands.{Command as ObjectCommand}
-use Rattle.gem_replies.specs.declared.reply.Line.{Line}
-use Rattle.gem_replies.specs.declared.reply.Line.TheVariants.{NoUser, Login, Unchanged, Refused, Committed, Aborted, Denied, Locked, NotHeld, Unlocked, Logout as LoggedOut}
-use Rattle.gem_replies.specs.declared.reply.Reply.{Reply}
-use Rattle.gem_replies.specs.declared.reply.Transcript.{Transcript}
-use Rattle.shell_words.specs.Script.{SessionCommands}
-use Rattle.shell_words.specs.declared.script.Command.{Command}
-use Rattle.shell_words.specs.declared.script.Command.TheVariants.{Chunk, Method, Commit, Abort, Logout, Lock, Unlock}
+use Rattle.gem_meaning.specs.gem_value.declared.conflict.Conflict.{Conflict}
+use Rattle.gem_meaning.specs.lock_table.LockKind.{kind_granted}
+use Rattle.gem_meaning.specs.lock_table.Locks.{kind_held, denied_for, after_left}
+use Rattle.gem_meaning.specs.lock_table.declared.lock.LockKind.{LockKind}
+use Rattle.gem_meaning.specs.gem_language.Commands.{Command as ObjectCommand}
+use Rattle.gem_meaning.specs.gem_replies.declared.reply.Line.{Line}
+use Rattle.gem_meaning.specs.gem_replies.declared.reply.Line.TheVariants.{NoUser, Login, Unchanged, Refused, Committed, Aborted, Denied, Locked, NotHeld, Unlocked, Logout as LoggedOut}
+use Rattle.gem_meaning.specs.gem_replies.declared.reply.Reply.{Reply}
+use Rattle.gem_meaning.specs.gem_replies.declared.reply.Transcript.{Transcript}
+use Rattle.gem_meaning.specs.shell_words.Script.{SessionCommands}
+use Rattle.gem_meaning.specs.shell_words.declared.script.Command.{Command}
+use Rattle.gem_meaning.specs.shell_words.declared.script.Command.TheVariants.{Chunk, Method, Commit, Abort, Logout, Lock, Unlock}
 use Rattle.gem_meaning.specs.declared.event.What.TheVariants.{Placed, Held, Dropped}
 use Rattle.gem_meaning.specs.Commands.{object_command}
 use Rattle.gem_meaning.specs.Opened.{Opened, base_serial}
@@ -25,7 +25,7 @@ use Rattle.gem_meaning.specs.Runs.{setting_of, lines_in, next_in}
 use Rattle.gem_meaning.specs.Commits.{conflicts_found}
 use Rattle.gem_meaning.specs.Locks.{Target, replies as by_itself, asks, unlock_target, lock_target, kind_asked, is_clean, leaving}
 use Rattle.gem_meaning.specs.Session.{reply_with, replies_with, until_logout, not_logged_in}
-use Rattle.gem_replies.specs.declared.reply.RunBook.{RunBook}
+use Rattle.gem_meaning.specs.gem_replies.declared.reply.RunBook.{RunBook}
 
 -- the number that stands after these events
 abbrev pub number_after : Opened → List Event → ℕ

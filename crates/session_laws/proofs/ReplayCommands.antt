@@ -2,17 +2,17 @@
 use Rattle.std.proofs.Common.{◌≡◌, ◌≢◌, ◌↔◌, inl, inr, ◌∙◌, refl, sym, ap, ap₂, subst, ℕ, ◌+◌, ◌-◌, ◌≤◌, Bool, true, false, true≢false, IsTrue, is_some, Option, Some, None, List, [], ◌∷◌, ◌++◌, take, drop, append-nil, arith, ltb-true, ltb-false, add-sub_of_le, drop-drop, take-add}
 use Rattle.std.specs.List.{AllByRecursion}
 use Rattle.std.specs.FinMap.{len}
-use Rattle.gem_value.specs.declared.conflict.Conflict.{Conflict}
-use Rattle.gem_world.specs.World.{Setting, World}
-use Rattle.gem_language.specs.Commands.{Command as ObjectCommand, run_chunk, install_method}
-use Rattle.lock_table.specs.Locks.{kind_held, denied_for, after_left}
-use Rattle.lock_table.specs.declared.lock.LockKind.{LockKind}
-use Rattle.lock_table.proofs.Counts.{left_fewer, left_none}
-use Rattle.gem_replies.specs.declared.reply.Line.{Line}
-use Rattle.gem_replies.specs.declared.reply.Line.TheVariants.{NoMemory, Spoiled, Unchanged, Refused, Committed, Aborted, Denied, Locked, NotHeld, Unlocked, Logout as LoggedOut}
-use Rattle.gem_replies.specs.declared.reply.Reply.{Reply}
-use Rattle.shell_words.specs.declared.script.Command.{Command}
-use Rattle.shell_words.specs.declared.script.Command.TheVariants.{Chunk, Method, Commit, Abort, Logout, Lock, Unlock}
+use Rattle.gem_meaning.specs.gem_value.declared.conflict.Conflict.{Conflict}
+use Rattle.gem_meaning.specs.gem_world.World.{Setting, World}
+use Rattle.gem_meaning.specs.gem_language.Commands.{Command as ObjectCommand, run_chunk, install_method}
+use Rattle.gem_meaning.specs.lock_table.Locks.{kind_held, denied_for, after_left}
+use Rattle.gem_meaning.specs.lock_table.declared.lock.LockKind.{LockKind}
+use Rattle.gem_meaning.proofs.lock_table_lemmas.Counts.{left_fewer, left_none}
+use Rattle.gem_meaning.specs.gem_replies.declared.reply.Line.{Line}
+use Rattle.gem_meaning.specs.gem_replies.declared.reply.Line.TheVariants.{NoMemory, Spoiled, Unchanged, Refused, Committed, Aborted, Denied, Locked, NotHeld, Unlocked, Logout as LoggedOut}
+use Rattle.gem_meaning.specs.gem_replies.declared.reply.Reply.{Reply}
+use Rattle.gem_meaning.specs.shell_words.declared.script.Command.{Command}
+use Rattle.gem_meaning.specs.shell_words.declared.script.Command.TheVariants.{Chunk, Method, Commit, Abort, Logout, Lock, Unlock}
 use Rattle.gem_meaning.specs.declared.event.What.TheVariants.{Placed, Held, Dropped, Left}
 use Rattle.gem_meaning.specs.Effect.{IsUnchanged}
 use Rattle.gem_meaning.specs.Events.{Event, Told, Standing, after_events, events_of}

@@ -5,17 +5,17 @@ use Rattle.std.proofs.lemmas.Bool.{cases_lt}
 use Rattle.std.proofs.lemmas.Option.{none-some, same_Some, slice_get_within, get_or_from_slice_get}
 use Rattle.std.proofs.lemmas.List.{take-append-drop, take-take, take_more, drop-append-le, length-take}
 use Rattle.std.proofs.lemmas.List.Elements.{filter_map-append}
-use Rattle.gem_image.specs.Image.{Image}
-use Rattle.gem_record.specs.declared.record.Entry.{Entry}
-use Rattle.gem_world.specs.World.{Setting, World, untouched}
-use Rattle.gem_language.specs.Commands.{Command as ObjectCommand, run_chunk, install_method}
-use Rattle.gem_language.specs.Transaction.{Said, Transaction, transaction, said_of, command_outcome, after_both}
-use Rattle.gem_language.proofs.Lists.{goes_on as run_goes_on}
-use Rattle.gem_replies.specs.declared.reply.Line.{Line}
-use Rattle.gem_replies.specs.declared.reply.Line.TheVariants.{NoMemory, Login, Spoiled, Unchanged, Refused, Committed, Aborted}
-use Rattle.gem_replies.specs.declared.reply.Reply.{Reply}
-use Rattle.shell_words.specs.declared.script.Command.{Command}
-use Rattle.shell_words.specs.declared.script.Command.TheVariants.{Chunk, Method, Commit, Abort, Logout, Lock, Unlock}
+use Rattle.gem_meaning.specs.gem_image.Image.{Image}
+use Rattle.gem_meaning.specs.gem_record.declared.record.Entry.{Entry}
+use Rattle.gem_meaning.specs.gem_world.World.{Setting, World, untouched}
+use Rattle.gem_meaning.specs.gem_language.Commands.{Command as ObjectCommand, run_chunk, install_method}
+use Rattle.gem_meaning.specs.gem_language.Transaction.{Said, Transaction, transaction, said_of, command_outcome, after_both}
+use Rattle.gem_meaning.proofs.gem_language_lemmas.Lists.{goes_on as run_goes_on}
+use Rattle.gem_meaning.specs.gem_replies.declared.reply.Line.{Line}
+use Rattle.gem_meaning.specs.gem_replies.declared.reply.Line.TheVariants.{NoMemory, Login, Spoiled, Unchanged, Refused, Committed, Aborted}
+use Rattle.gem_meaning.specs.gem_replies.declared.reply.Reply.{Reply}
+use Rattle.gem_meaning.specs.shell_words.declared.script.Command.{Command}
+use Rattle.gem_meaning.specs.shell_words.declared.script.Command.TheVariants.{Chunk, Method, Commit, Abort, Logout, Lock, Unlock}
 use Rattle.gem_meaning.specs.Commands.{object_command, object_commands}
 use Rattle.gem_meaning.specs.Lines.{said_lines}
 use Rattle.gem_meaning.specs.Opened.{commands_of, entry_commands, entry_setting, run_at}

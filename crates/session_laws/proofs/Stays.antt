@@ -1,10 +1,10 @@
 -- What a session says stays true when events of other sessions follow.
 use Rattle.std.proofs.Common.{◌≡◌, ℕ, ◌+◌, ◌≤◌, ◌<◌, Option, Some, None, List, [], ◌∷◌, ◌++◌, length, take, drop, sym, ap, subst, ◌∙◌, arith, length-append}
 use Rattle.std.proofs.lemmas.List.{take-append-le, drop-append-le}
-use Rattle.shell_words.specs.Script.{SessionCommands}
-use Rattle.shell_words.specs.declared.script.Command.{Command}
-use Rattle.gem_replies.specs.declared.reply.Reply.{Reply}
-use Rattle.gem_replies.specs.declared.reply.Transcript.{Transcript}
+use Rattle.gem_meaning.specs.shell_words.Script.{SessionCommands}
+use Rattle.gem_meaning.specs.shell_words.declared.script.Command.{Command}
+use Rattle.gem_meaning.specs.gem_replies.declared.reply.Reply.{Reply}
+use Rattle.gem_meaning.specs.gem_replies.declared.reply.Transcript.{Transcript}
 use Rattle.gem_meaning.specs.Names.{user_in}
 use Rattle.gem_meaning.specs.Events.{Event, Told, told_more, after_events, events_of}
 use Rattle.gem_meaning.specs.State.{SessionState, first_transaction}

@@ -1,7 +1,7 @@
 -- Where a command stands among those of its transaction that do something to objects.
 use Rattle.std.specs.Prelude.{ℕ, ◌-◌, List, length}
-use Rattle.shell_words.specs.Script.{SessionCommands}
-use Rattle.gem_record.specs.declared.record.Entry.{Entry}
+use Rattle.gem_meaning.specs.shell_words.Script.{SessionCommands}
+use Rattle.gem_meaning.specs.gem_record.declared.record.Entry.{Entry}
 use Rattle.gem_meaning.specs.Commands.{object_commands}
 use Rattle.gem_meaning.specs.Opened.{entry_commands}
 

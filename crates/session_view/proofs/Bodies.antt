@@ -6,10 +6,10 @@ use Rattle.std.specs.FinMap.{get, get-empty}
 use Rattle.gem_object.specs.Kinds.{is_shared}
 use Rattle.gem_object.specs.declared.body.Body.{Body}
 use Rattle.gem_image.specs.Image.{Image, Contents, objects_in}
-use Rattle.gem_world.specs.World.{Setting, World, as_of, before_changes, are_shared, touch, is_made, is_private, with_name, next_name}
+use Rattle.gem_record.specs.gem_world.World.{Setting, World, as_of, before_changes, are_shared, touch, is_made, is_private, with_name, next_name}
 use Rattle.gem_update.specs.declared.update.Update.{Update}
-use Rattle.gem_world.specs.Changes.{with_body, in_segment, note, make}
-use Rattle.radix_pages.proofs.Tables.{get-insert_same, get-insert_other}
+use Rattle.gem_record.specs.gem_world.Changes.{with_body, in_segment, note, make}
+use Rattle.gem_image.proofs.radix_pages_lemmas.Tables.{get-insert_same, get-insert_other}
 use Rattle.object_programs.proofs.Worlds.{shown_asked, put_here, put_elsewhere}
 use Rattle.running_objects.specs.Seen.{Seen, object_at}
 use Rattle.plain_state.specs.Parts.{in_world, asked}

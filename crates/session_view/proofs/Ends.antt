@@ -2,13 +2,13 @@
 -- what is seen: so the tests see another state, with the same.
 use Rattle.std.proofs.Common.{◌≡◌, ◌∙◌, refl, sym, ap, ℕ, ◌<◌, ◌≤◌, Bool, true, false, cond, Option, Some, None, is_some}
 use Rattle.std.proofs.lemmas.Bool.{false≢true, lt-ltb, le-ltb}
-use Rattle.seg_rights.specs.Right.{allows_write}
-use Rattle.seg_rights.specs.declared.right.Right.{Right}
+use Rattle.gem_object.specs.seg_rights.Right.{allows_write}
+use Rattle.gem_object.specs.seg_rights.declared.right.Right.{Right}
 use Rattle.gem_object.specs.declared.body.Body.{Body}
 use Rattle.gem_update.specs.declared.update.Update.{Update}
 use Rattle.gem_image.specs.Rights.{right_in}
-use Rattle.gem_world.specs.World.{shown_objects}
-use Rattle.gem_world.specs.Access.{a_write, is_allowed}
+use Rattle.gem_record.specs.gem_world.World.{shown_objects}
+use Rattle.gem_record.specs.gem_world.Access.{a_write, is_allowed}
 use Rattle.object_programs.specs.Guard.{holds_of}
 use Rattle.object_programs.specs.declared.limits.TheConstants.{COUNTER_LIMIT}
 use Rattle.running_objects.specs.Seen.{Seen}

@@ -7,9 +7,9 @@ use Rattle.gem_object.specs.declared.object.Object.{Object}
 use Rattle.gem_update.specs.declared.update.Update.{Update}
 use Rattle.gem_image.specs.Image.{Contents}
 use Rattle.gem_record.specs.Names.{Ascend, AscendByName}
-use Rattle.gem_world.specs.Changes.{updates_on}
-use Rattle.run_records.specs.Names.{ascending}
-use Rattle.run_records.specs.Record.{all_uncommitted}
+use Rattle.gem_record.specs.gem_world.Changes.{updates_on}
+use Rattle.gem_record.specs.RunNames.{ascending}
+use Rattle.gem_record.specs.Record.{all_uncommitted}
 use Rattle.plain_state.proofs.Listing.{ascending_sorted, filtered_sorted}
 
 pub names_ascend : (names listed : List ℕ) → listed ≡ ascending names → Ascend listed

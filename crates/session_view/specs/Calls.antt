@@ -1,12 +1,12 @@
 -- How the calls of a view end: which fault is due, and what is seen afterwards.
 use Rattle.std.specs.Prelude.{◌≡◌, ◌⊎◌, ℕ, Bool, not, cond, nat_lt, Option, None, Some, Result, Ok, Err}
-use Rattle.seg_rights.specs.Right.{allows_write}
+use Rattle.gem_object.specs.seg_rights.Right.{allows_write}
 use Rattle.gem_object.specs.Kinds.{is_shared}
 use Rattle.gem_object.specs.declared.body.Body.{Body}
 use Rattle.gem_update.specs.declared.update.Update.{Update}
 use Rattle.gem_image.specs.Rights.{right_in}
-use Rattle.gem_world.specs.World.{shown_objects}
-use Rattle.gem_world.specs.Access.{a_read, a_write, is_allowed}
+use Rattle.gem_record.specs.gem_world.World.{shown_objects}
+use Rattle.gem_record.specs.gem_world.Access.{a_read, a_write, is_allowed}
 use Rattle.object_programs.specs.Guard.{holds_of}
 use Rattle.object_programs.specs.Budget.{is_small}
 use Rattle.object_programs.specs.declared.limits.TheConstants.{COUNTER_LIMIT}

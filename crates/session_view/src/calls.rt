@@ -1,8 +1,7 @@
 //! What a view does: looks, changes, moves, makes and updates. A call touches what an access
 //! touches, and then it is refused, or done.
 ghost use Rattle.std.specs.Prelude.{◌≡◌, ◌≤◌, ◌<◌, ◌+◌, true, IfOk};
-ghost use Rattle.gem_world.specs.World.{next_name};
-ghost use Rattle.object_programs.specs.Budget.{is_small};
+ghost use Rattle.gem_record.specs.gem_world.World.{next_name};
 ghost use Rattle.object_programs.specs.Fixed.{fixed_by};
 ghost use Rattle.object_programs.specs.Guard.{is_segment_at};
 ghost use Rattle.object_programs.specs.declared.limits.TheConstants.{COUNTER_LIMIT};
@@ -12,12 +11,10 @@ ghost use Rattle.session_view.specs.Calls.{EndsBy, fault_in, look_fault, change_
 
 use crate::fault::ViewFault;
 use crate::view::View;
-use gem_object::{Body, Object};
+use gem_object::{Body, Object, Oid, may_write};
 use gem_update::Update;
-use gem_value::Oid;
-use object_programs::{BYTES_LIMIT, COUNTER_LIMIT, SLOTS_LIMIT};
+use object_programs::{COUNTER_LIMIT, is_small};
 use running_objects::Objects;
-use seg_rights::may_write;
 
 impl View {
     /// Looks at an ordinary object, or at one that was made in the transaction, which is then asked
@@ -208,11 +205,4 @@ impl View {
             None => false,
         }
     }
-}
-
-// Whether an object with this body is within the limits of objects.
-fn is_small(body: &Body) -> bool
-    ensures { result ≡ is_small body.now }
-{
-    body.slots() <= SLOTS_LIMIT && body.size() <= BYTES_LIMIT - 17
 }

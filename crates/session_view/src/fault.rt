@@ -2,7 +2,7 @@
 ghost use Rattle.std.specs.Prelude.{◌≡◌};
 ghost use Rattle.session_view.specs.declared.fault.ViewFault.TheVariants as fault;
 
-use gem_value::Oid;
+use gem_object::Oid;
 use std::alloc::AllocError;
 
 /// Why a call of a view has no answer. Bodies, names and updates are then as before; touches that

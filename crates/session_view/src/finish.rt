@@ -1,14 +1,13 @@
 //! The record of a transaction.
 ghost use Rattle.std.specs.Prelude.{◌≡◌, IfOk};
-ghost use Rattle.gem_world.specs.Changes.{written_objects, made_objects};
-ghost use Rattle.run_records.specs.Names.{touched_names, updates_by_name};
-ghost use Rattle.run_records.specs.Record.{all_uncommitted, record_of};
+ghost use Rattle.gem_record.specs.gem_world.Changes.{written_objects, made_objects};
+ghost use Rattle.gem_record.specs.RunNames.{touched_names, updates_by_name};
+ghost use Rattle.gem_record.specs.Record.{all_uncommitted, record_of};
 
 use crate::view::View;
-use gem_object::Object;
+use gem_object::{Object, Sequence};
 use gem_record::{ByName, OidList, TxnRecord};
 use gem_update::Update;
-use gem_value::Sequence;
 use plain_state::PlainState;
 use running_objects::Objects;
 use std::alloc::AllocError;
@@ -20,7 +19,7 @@ impl View {
     /// # Errors
     ///
     /// `AllocError` where memory ran out.
-    #[tactic(auto, unfolding(run_records::specs::Record::record_of))]
+    #[tactic(auto, unfolding(gem_record::specs::Record::record_of))]
     pub fn finish(
         &self,
         session: u32,

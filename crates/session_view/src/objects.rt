@@ -1,8 +1,7 @@
 //! What programs do on a view.
 use crate::view::View;
-use gem_object::{Body, Object, Value};
+use gem_object::{Body, Object, Oid, Value};
 use gem_update::Update;
-use gem_value::Oid;
 use running_objects::{Objects, RunsChunks, Stop};
 
 impl Objects for View {

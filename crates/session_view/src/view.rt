@@ -1,8 +1,8 @@
 //! The view: a plain state over one image, with the number of commits in the image.
 ghost use Rattle.std.specs.Prelude.{◌≡◌, ◌≤◌, ◌<◌, ℕ, true, option_map, option_copied, IfOk, OnOk};
 ghost use Rattle.gem_image.specs.Image.{contents_of};
-ghost use Rattle.gem_world.specs.World.{is_made};
-ghost use Rattle.gem_world.specs.Access.{right_at};
+ghost use Rattle.gem_record.specs.gem_world.World.{is_made};
+ghost use Rattle.gem_record.specs.gem_world.Access.{right_at};
 ghost use Rattle.object_programs.specs.Fixed.{fixed_by};
 ghost use Rattle.object_programs.specs.Guard.{is_segment_at};
 ghost use Rattle.object_programs.specs.Methods.{methods_fit};
@@ -13,12 +13,10 @@ ghost use Rattle.plain_state.specs.Writes.{is_changeable, accepts_body, may_add}
 ghost use Rattle.session_view.specs.Calls.{takes};
 
 use gem_image::Image;
-use gem_object::{Body, Object};
+use gem_object::{Body, Object, Oid, Right};
 use gem_update::Update;
-use gem_value::Oid;
 use plain_state::PlainState;
 use running_objects::{Objects, RunsChunks};
-use seg_rights::Right;
 use std::alloc::{AllocError, Global};
 
 /// The private view of a transaction over an image: what it looks at is touched, and what it

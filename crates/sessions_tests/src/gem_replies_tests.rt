@@ -1,12 +1,11 @@
 ghost use Rattle.std.specs.Prelude.{◌≡◌, IfOk};
 
+use gem_object::{Conflict, ConflictKind, Conflicts, Oid, Text};
 use gem_record::Entry;
 use gem_replies::{History, Line, Replies, Reply, RunBook, Transcript, Transcripts, report_text};
-use gem_value::{Conflict, ConflictKind, Conflicts, Oid};
 use lock_table::LockKind;
 use std::alloc::{AllocError, Global};
 use std::test::Fail;
-use texts::Text;
 
 fn text(alloc: Global, bytes: &[u8]) -> Result<Text, AllocError>
     ensures { IfOk result (λ text. text ≡ bytes.now) }

@@ -1,12 +1,12 @@
 // What a session is replied to beside another one that holds a lock.
 ghost use Rattle.std.specs.Prelude.{◌≡◌, ◌<◌, ◌≤◌, [], IfOk, length};
-ghost use Rattle.profile.specs.declared.limits.TheConstants.{SESSION_LIMIT};
+ghost use Rattle.shell_words.specs.declared.limits.TheConstants.{SESSION_LIMIT};
 ghost use Rattle.gem_meaning.specs.Serial.{CanServe};
 ghost use Rattle.gem_server.specs.Server.{kernel_opening};
 
+use gem_object::Oid;
 use gem_replies::{History, RunBook, Transcript, Transcripts, report_text};
 use gem_session::run_session;
-use gem_value::Oid;
 use kernel_image::kernel;
 use lock_table::LockKind;
 use radix_pages::Steps;

@@ -2,10 +2,10 @@
 use Rattle.std.proofs.Common.{◌≡◌, ℕ, ◌+◌, ◌<◌, ◌≤◌, Bool, true, false, not, ◌&&◌, List, [], ◌∷◌, ◌++◌, length, Option, Some, None, subst, refl, arith, sym, ◌∙◌, ap, length-append, append-nil}
 use Rattle.std.specs.List.{list_all}
 use Rattle.std.proofs.lemmas.List.Folds.{list_all-append}
-use Rattle.profile.specs.declared.limits.TheConstants.{SESSION_LIMIT}
+use Rattle.shell_words.specs.declared.limits.TheConstants.{SESSION_LIMIT}
 use Rattle.shell_words.specs.Script.{SessionCommands, HasShortText, is_logout, logout_is_last, takes_commands, with_next_command}
 use Rattle.std.proofs.lemmas.Bool.Decides.{nat_tests}
-use Rattle.shell_words.specs.Names.{is_user_name}
+use Rattle.texts.specs.Names.{is_user_name}
 use Rattle.shell_words.specs.Reading.{session_of, sessions_of, IsWithin, IsDraft, IsReading}
 use Rattle.shell_words.specs.declared.script.Command.{Command}
 use Rattle.shell_words.specs.declared.reading.Draft.{Draft}

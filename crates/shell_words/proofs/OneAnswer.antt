@@ -4,9 +4,9 @@ use Rattle.std.specs.List.{AllByRecursion, list_all}
 use Rattle.std.proofs.lemmas.Bool.Decides.{nat_tests}
 use Rattle.texts.specs.Bytes.{Bytes}
 use Rattle.texts.specs.Lines.{text_of_lines}
-use Rattle.profile.specs.declared.limits.TheConstants.{SESSION_LIMIT, CHUNK_LIMIT, SCRIPT_LIMIT}
+use Rattle.shell_words.specs.declared.limits.TheConstants.{SESSION_LIMIT, CHUNK_LIMIT, SCRIPT_LIMIT}
 use Rattle.shell_words.specs.Lines.{lines_of, IsBody}
-use Rattle.shell_words.specs.Names.{is_user_name}
+use Rattle.texts.specs.Names.{is_user_name}
 use Rattle.shell_words.specs.Script.{SessionCommands, takes_commands}
 use Rattle.shell_words.specs.ScriptGrammar.{BeginsSession, SaysCommand, Adds, empty_line, session_line, command_line, chunk_lines, Leads, at_once, after, BreaksAt, command_outside, chunk_outside, chunk_without_end, long_chunk, one_session_more, no_user_name, is_script_byte, IsPlain, ReadsScript, HasOtherByte, StopsAtLine, BreaksRule, long_script, other_byte, at_line}
 use Rattle.shell_words.specs.Reading.{command_of, LineSays}

@@ -4,9 +4,9 @@ use Rattle.std.specs.List.{AllByRecursion}
 use Rattle.std.proofs.lemmas.Bool.Decides.{nat_tests}
 use Rattle.texts.specs.Bytes.{Bytes}
 use Rattle.texts.specs.Lines.{text_of_lines}
-use Rattle.profile.specs.declared.limits.TheConstants.{SESSION_LIMIT, CHUNK_LIMIT}
+use Rattle.shell_words.specs.declared.limits.TheConstants.{SESSION_LIMIT, CHUNK_LIMIT}
 use Rattle.shell_words.specs.Lines.{is_space, line_words, IsInner, IsBody}
-use Rattle.shell_words.specs.Names.{is_name, is_user_name}
+use Rattle.texts.specs.Names.{is_name, is_user_name}
 use Rattle.shell_words.specs.Script.{SessionCommands, takes_commands, with_next_command}
 use Rattle.shell_words.specs.ScriptGrammar.{BeginsSession, SaysCommand, BeginsChunk, IsChunkLine, Adds, empty_line, session_line, command_line, chunk_lines, BreaksAt, none_of_table, command_outside, chunk_outside, chunk_without_end, long_chunk, one_session_more, no_user_name}
 use Rattle.shell_words.specs.Reading.{command_of, LineSays, SaysNothing}

@@ -2,7 +2,7 @@
 use Rattle.std.proofs.Common.{◌≡◌, ℕ, ◌+◌, ◌≤◌, Bool, true, false, cond, List, [], ◌∷◌, length, arith, subst}
 use Rattle.std.specs.List.{AllByRecursion, onto_first}
 use Rattle.texts.specs.Bytes.{Bytes}
-use Rattle.profile.specs.declared.limits.TheConstants.{SCRIPT_LIMIT}
+use Rattle.shell_words.specs.declared.limits.TheConstants.{SCRIPT_LIMIT}
 use Rattle.shell_words.specs.Lines.{is_space, line_words}
 use Rattle.shell_words.specs.Script.{HasShortText}
 use Rattle.shell_words.specs.ScriptGrammar.{SaysCommand}

@@ -1,5 +1,4 @@
 pub mod Lines
-pub mod Names
 pub mod Script
 pub mod ScriptGrammar
 pub mod Rules

@@ -2,8 +2,8 @@
 use Rattle.std.specs.Prelude.{◌≡◌, ℕ, ◌<◌, ◌≤◌, true, List, [], ◌∷◌, ◌++◌, length, Option, Some, None, is_some}
 use Rattle.std.specs.List.{AllByRecursion}
 use Rattle.texts.specs.Bytes.{Bytes}
-use Rattle.profile.specs.declared.limits.TheConstants.{SESSION_LIMIT}
-use Rattle.shell_words.specs.Names.{is_user_name}
+use Rattle.shell_words.specs.declared.limits.TheConstants.{SESSION_LIMIT}
+use Rattle.texts.specs.Names.{is_user_name}
 use Rattle.shell_words.specs.Rules.{script_rule_number}
 use Rattle.shell_words.specs.Script.{SessionCommands, HasShortText, logout_is_last, takes_commands}
 use Rattle.shell_words.specs.ScriptGrammar.{BeginsSession, SaysCommand, BeginsChunk, BreaksAt, StopsAtLine}

@@ -2,8 +2,8 @@
 use Rattle.std.specs.Prelude.{◌≡◌, Bool, true, false, not, ◌&&◌, ◌<◌, ◌≤◌, List, [], ◌∷◌, ◌++◌, length}
 use Rattle.std.specs.List.{AllByRecursion, list_all}
 use Rattle.texts.specs.Bytes.{Bytes}
-use Rattle.profile.specs.declared.limits.TheConstants.{SCRIPT_LIMIT, CHUNK_LIMIT, COMMAND_LIMIT}
-use Rattle.shell_words.specs.Names.{is_user_name}
+use Rattle.shell_words.specs.declared.limits.TheConstants.{SCRIPT_LIMIT, CHUNK_LIMIT, COMMAND_LIMIT}
+use Rattle.texts.specs.Names.{is_user_name}
 use Rattle.shell_words.specs.declared.script.Command.{Command}
 use Rattle.shell_words.specs.declared.script.Command.TheVariants.{Chunk, Method, Logout, Lock, Unlock}
 

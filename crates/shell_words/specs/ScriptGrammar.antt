@@ -3,9 +3,9 @@ use Rattle.std.specs.Prelude.{◌≡◌, ◌≢◌, ℕ, ◌+◌, ◌<◌, ◌�
 use Rattle.std.specs.List.{AllByRecursion, list_all}
 use Rattle.texts.specs.Bytes.{Bytes}
 use Rattle.texts.specs.Lines.{text_of_lines}
-use Rattle.profile.specs.declared.limits.TheConstants.{SCRIPT_LIMIT, SESSION_LIMIT, CHUNK_LIMIT}
+use Rattle.shell_words.specs.declared.limits.TheConstants.{SCRIPT_LIMIT, SESSION_LIMIT, CHUNK_LIMIT}
 use Rattle.shell_words.specs.Lines.{lines_of, line_words, IsInner, IsBody}
-use Rattle.shell_words.specs.Names.{is_name, is_user_name}
+use Rattle.texts.specs.Names.{is_name, is_user_name}
 use Rattle.shell_words.specs.Script.{SessionCommands, takes_commands, with_next_command}
 use Rattle.shell_words.specs.declared.script.Command.{Command}
 use Rattle.shell_words.specs.declared.script.Command.TheVariants.{Chunk, Method, Commit, Abort, Logout, Lock, Unlock}

@@ -5,6 +5,7 @@
 
 mod fault;
 pub mod laws;
+mod limits;
 mod pieces;
 mod reading;
 mod rule;
@@ -12,7 +13,7 @@ mod script;
 mod table;
 
 pub use fault::ScriptFault;
-pub use profile::{CHUNK_LIMIT, SCRIPT_LIMIT, SESSION_LIMIT, USER_LIMIT};
+pub use limits::{CHUNK_LIMIT, COMMAND_LIMIT, SCRIPT_LIMIT, SESSION_LIMIT};
 pub use reading::read_script;
 pub use rule::ScriptRule;
 pub use script::{Command, Script, SessionScript};

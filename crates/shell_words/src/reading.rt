@@ -2,22 +2,22 @@
 ghost use Rattle.std.specs.Prelude.{◌≡◌, ℕ, ◌+◌, ◌<◌, ◌≤◌, true, List, [], ◌∷◌, ◌++◌, length, IsSome, None, IfSome, IfOk, IfErr, OnOk, MatchOption, MatchResult};
 ghost use Rattle.std.specs.List.{AllByRecursion, list_all};
 ghost use Rattle.texts.specs.Bytes.{Bytes};
-ghost use Rattle.profile.specs.declared.limits.TheConstants.{COMMAND_LIMIT};
+ghost use Rattle.shell_words.specs.declared.limits.TheConstants.{COMMAND_LIMIT};
 ghost use Rattle.shell_words.specs.Lines.{lines_of};
-ghost use Rattle.shell_words.specs.Names.{is_user_name};
+ghost use Rattle.texts.specs.Names.{is_user_name};
 ghost use Rattle.shell_words.specs.Script.{HasShortText, is_logout, with_next_command};
 ghost use Rattle.shell_words.specs.ScriptGrammar.{BeginsSession, Adds, Leads, ReadsScript, HasOtherByte, IsPlain, is_script_byte};
 ghost use Rattle.shell_words.specs.Rules.{IsScriptFault};
 ghost use Rattle.shell_words.specs.Reading.{command_of, LineSays, sessions_of, IsDraft, IsReading, FaultAt, FaultIn};
 
 use crate::fault::ScriptFault;
+use crate::limits::{CHUNK_LIMIT, SCRIPT_LIMIT, SESSION_LIMIT};
 use crate::pieces::{split_body, split_line};
 use crate::rule::ScriptRule;
 use crate::script::{Command, Script, SessionScript};
-use crate::table::{Opening, ScriptLine, is_user_name, line_of};
-use profile::{CHUNK_LIMIT, SCRIPT_LIMIT, SESSION_LIMIT};
+use crate::table::{Opening, ScriptLine, line_of};
 use std::alloc::{AllocError, Global};
-use texts::Text;
+use texts::{Text, is_user_name};
 
 // A session that takes commands.
 #[derive(Drop)]

@@ -1,6 +1,6 @@
 //! Scripts, as they are read.
 ghost use Rattle.std.specs.Prelude.{◌≡◌, ◌≤◌, length};
-ghost use Rattle.profile.specs.declared.limits.TheConstants.{SESSION_LIMIT};
+ghost use Rattle.shell_words.specs.declared.limits.TheConstants.{SESSION_LIMIT};
 ghost use Rattle.shell_words.specs.Script.{IsWithinLimits};
 
 use std::marker::Model;
@@ -94,7 +94,7 @@ pub struct Script {
 
 impl Model for Script {
     ghost use Rattle.std.specs.Prelude.{◌≤◌, List, length};
-    ghost use Rattle.profile.specs.declared.limits.TheConstants.{SESSION_LIMIT};
+    ghost use Rattle.shell_words.specs.declared.limits.TheConstants.{SESSION_LIMIT};
     ghost use Rattle.shell_words.specs.Script.{SessionCommands};
 
     ghost Value = { List SessionCommands };

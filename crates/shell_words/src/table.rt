@@ -1,17 +1,14 @@
 //! The lines that a script may have outside its chunks.
 ghost use Rattle.std.specs.Prelude.{◌≡◌, ◌∷◌, [], codes, IfOk, MatchOption};
-ghost use Rattle.std.specs.List.{list_all};
-ghost use Rattle.std.specs.Char.{is_ascii_alphanumeric};
 ghost use Rattle.texts.specs.Bytes.{Bytes};
 ghost use Rattle.shell_words.specs.Lines.{line_words};
-ghost use Rattle.shell_words.specs.Names.{is_name, is_letters_and_digits, is_user_name};
+ghost use Rattle.texts.specs.Names.{is_name};
 ghost use Rattle.shell_words.specs.Reading.{SaysNothing, LineSays};
 
 use crate::pieces::split_word;
 use crate::script::Command;
-use profile::USER_LIMIT;
 use std::alloc::{AllocError, Global};
-use texts::{Text, are_name_bytes, starts_name};
+use texts::{Text, is_name};
 
 // How a chunk begins.
 #[derive(Drop)]
@@ -129,35 +126,4 @@ fn lock_line(
     } else {
         Ok(None)
     }
-}
-
-fn is_name(name: &[u8]) -> bool
-    ensures { result ≡ is_name name.now }
-{
-    match name.split_first() {
-        Some((first, rest)) => starts_name(*first) && are_name_bytes(rest),
-        None => false,
-    }
-}
-
-// A letter with letters and digits after it, at most 64 in all.
-pub(crate) fn is_user_name(name: &[u8]) -> bool
-    ensures { result ≡ is_user_name name.now }
-{
-    is_letters_and_digits(name) && name.len() <= USER_LIMIT
-}
-
-fn is_letters_and_digits(name: &[u8]) -> bool
-    ensures { result ≡ is_letters_and_digits name.now }
-{
-    match name.split_first() {
-        Some((first, rest)) => first.is_ascii_alphabetic() && are_letters_and_digits(rest),
-        None => false,
-    }
-}
-
-fn are_letters_and_digits(bytes: &[u8]) -> bool
-    ensures { result ≡ list_all is_ascii_alphanumeric bytes.now }
-{
-    bytes.iter().all(|byte| byte.is_ascii_alphanumeric())
 }

@@ -10,9 +10,9 @@ mod gem_io_tests;
 #[cfg(test)]
 mod insertion_map_tests;
 #[cfg(test)]
-mod list_stack_tests;
+mod integers_tests;
 #[cfg(test)]
-mod profile_tests;
+mod list_stack_tests;
 #[cfg(test)]
 mod radix_pages_tests;
 #[cfg(test)]

@@ -2,7 +2,7 @@
 use std::alloc::{AllocError, Global};
 use std::cmp::Ordering;
 use std::test::Fail;
-use texts::{Text, are_name_bytes, is_name_byte, starts_name};
+use texts::{Text, are_name_bytes, is_name, is_name_byte, is_user_name, starts_name};
 
 // Whether two texts are ordered so, and a copy of the first has its bytes.
 fn is_order(alloc: Global, left: &[u8], right: &[u8], order: Ordering) -> Result<bool, AllocError> {
@@ -29,5 +29,16 @@ fn tells_the_bytes_of_names(rt: HostRuntime) -> Result<(), Fail> {
     assert!(rt; starts_name(b'_') && starts_name(b'z') && !starts_name(b'0'));
     assert!(rt; is_name_byte(b'0') && !is_name_byte(b':'));
     assert!(rt; are_name_bytes(b"T_1") && !are_name_bytes(b"at:"));
+    Ok(())
+}
+
+#[test]
+fn tells_names(rt: HostRuntime) -> Result<(), Fail> {
+    assert!(rt;
+        is_name(b"_a1") && is_name(b"X") && !is_name(b"") && !is_name(b"1a") && !is_name(b"a:")
+    );
+    assert!(rt; is_user_name(b"DataCurator") && is_user_name(b"u1"));
+    assert!(rt; !is_user_name(b"") && !is_user_name(b"1u") && !is_user_name(b"a_b"));
+    assert!(rt; is_user_name(&[b'u'; 64]) && !is_user_name(&[b'u'; 65]));
     Ok(())
 }

@@ -5,7 +5,7 @@ use Rattle.std.specs.List.{fold}
 use Rattle.std.specs.List.{slice_get}
 use Rattle.std.proofs.lemmas.Option.{slice_get_read}
 use Rattle.std.proofs.lemmas.Bool.{eqb-true, eq-eqb, le-leb, and_parts}
-use Rattle.gem_image.specs.Image.{Image}
+use Rattle.gem_record.specs.gem_image.Image.{Image}
 use Rattle.gem_record.specs.declared.record.TxnRecord.{TxnRecord}
 use Rattle.lock_table.specs.Locks.{kind_held}
 use Rattle.lock_table.specs.declared.lock.LockKind.{LockKind}

@@ -3,10 +3,10 @@ ghost use Rattle.std.specs.Prelude.{◌≡◌, ℕ, true};
 ghost use Rattle.gem_meaning.specs.Events.{OthersCame};
 ghost use Rattle.side_by_side_tests.specs.Overtaken.{is_overtaken};
 
+use gem_object::Oid;
 use gem_record::TxnRecord;
 use gem_replies::Transcript;
 use gem_session::run_session;
-use gem_value::Oid;
 use lock_table::LockKind;
 use shell_words::Script;
 use std::alloc::{AllocError, Global};

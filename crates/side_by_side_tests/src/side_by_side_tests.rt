@@ -1,6 +1,6 @@
 // Two sessions side by side over objects, and what stands afterwards.
 ghost use Rattle.std.specs.Prelude.{◌≡◌, ◌<◌, ◌≤◌, ◌+◌, ℕ, [], IfOk, length};
-ghost use Rattle.profile.specs.declared.limits.TheConstants.{SESSION_LIMIT};
+ghost use Rattle.shell_words.specs.declared.limits.TheConstants.{SESSION_LIMIT};
 ghost use Rattle.gem_meaning.specs.Opened.{base_serial};
 ghost use Rattle.gem_meaning.specs.Events.{events_of};
 ghost use Rattle.gem_meaning.specs.Serial.{CanServe};

@@ -1,9 +1,9 @@
 -- The code of each block that is pushed does what the block means: by induction on trees.
 use Rattle.std.proofs.Common.{ℕ, zero, suc, ◌+◌, Bool, true, false, List, [], ◌∷◌, ◌++◌, length, replicate, Option, Some, None, All}
 use Rattle.std.proofs.lemmas.List.Elements.{All-nil, All-cons, All-append}
-use Rattle.texts.specs.Bytes.{Bytes as Text}
+use Rattle.gem_object.specs.texts.Bytes.{Bytes as Text}
 use Rattle.st_tree.specs.Trees.{Head, name, constant, block, paren, Closure, closure, Expression, expression, Expressions, no_expressions, an_expression, Send, send, Sends, no_sends, a_send, Statement, statement, Statements, no_statements, a_statement, Program}
-use Rattle.gem_world.specs.World.{Setting}
+use Rattle.tree_meaning.specs.gem_world.World.{Setting}
 use Rattle.tree_meaning.specs.Place.{Place}
 use Rattle.tree_meaning.specs.Names.{where_is}
 use Rattle.tree_meaning.specs.Forms.{form_under, first_loop}

@@ -2,10 +2,10 @@
 use Rattle.std.proofs.Common.{◌≡◌, refl, ap, inl, inr, ℕ, zero, suc, ◌+◌, ◌-◌, ℤ, pos, ◌+ℤ◌, int_le, Bool, true, false, List, [], ◌∷◌, length, take, drop, slice_get, Option, Some, None, arith}
 use Rattle.gem_object.specs.declared.value.Value.{Value}
 use Rattle.gem_object.specs.declared.value.Value.TheVariants as value
-use Rattle.gem_world.specs.World.{Setting}
-use Rattle.profile.specs.declared.integers.TheConstants.{LARGEST_INTEGER}
-use Rattle.object_programs.specs.Atom.{Tick}
-use Rattle.object_programs.specs.Run.{Run, atom, Ending, gives, returns, fails, State, perform}
+use Rattle.tree_meaning.specs.gem_world.World.{Setting}
+use Rattle.gem_object.specs.texts.declared.integers.TheConstants.{LARGEST_INTEGER}
+use Rattle.tree_meaning.specs.object_programs.Atom.{Tick}
+use Rattle.tree_meaning.specs.object_programs.Run.{Run, atom, Ending, gives, returns, fails, State, perform}
 use Rattle.tree_meaning.specs.Place.{Frame, MadeBlock}
 use Rattle.tree_meaning.specs.Operands.{truth_of, int_pair}
 use Rattle.tree_meaning.specs.Scopes.{variable_value, set_variable}

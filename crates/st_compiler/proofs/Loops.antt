@@ -2,12 +2,12 @@
 use Rattle.std.proofs.Common.{◌≡◌, refl, sym, ap, subst, subst₂, true≢false, ℕ, zero, suc, ◌+◌, ◌-◌, ◌<◌, Bool, true, false, ℤ, pos, ◌+ℤ◌, int_le, List, [], ◌∷◌, ◌++◌, length, length-append, slice_get, Some, arith}
 use Rattle.gem_object.specs.declared.value.Value.{Value}
 use Rattle.gem_object.specs.declared.value.Value.TheVariants as value
-use Rattle.gem_world.specs.World.{Setting}
-use Rattle.profile.specs.declared.integers.TheConstants.{LARGEST_INTEGER}
-use Rattle.object_programs.specs.Atom.{Tick}
-use Rattle.object_programs.specs.Run.{give, atom, and_then, fails, State}
-use Rattle.object_programs.specs.Programs.{choose}
-use Rattle.object_programs.specs.declared.fault.Fault.TheVariants as fault
+use Rattle.tree_meaning.specs.gem_world.World.{Setting}
+use Rattle.gem_object.specs.texts.declared.integers.TheConstants.{LARGEST_INTEGER}
+use Rattle.tree_meaning.specs.object_programs.Atom.{Tick}
+use Rattle.tree_meaning.specs.object_programs.Run.{give, atom, and_then, fails, State}
+use Rattle.tree_meaning.specs.object_programs.Programs.{choose}
+use Rattle.tree_meaning.specs.object_programs.declared.fault.Fault.TheVariants as fault
 use Rattle.tree_meaning.specs.Place.{Frame, MadeBlock}
 use Rattle.tree_meaning.specs.Operands.{ValueRun, truth_of, by_truth, int_pair}
 use Rattle.tree_meaning.specs.Loops.{while_turns_up_to, while_turns, count_turns_up_to, count_turns, count_between}

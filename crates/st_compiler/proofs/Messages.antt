@@ -1,11 +1,11 @@
 -- The code of arguments, messages, statements and literal blocks, over records of programs and of code.
 use Rattle.std.proofs.Common.{◌≡◌, refl, ap₂, subst, ℕ, suc, ◌+◌, Bool, true, false, List, [], ◌∷◌, ◌++◌, length, take, drop, Option, Some, None, arith}
 use Rattle.std.proofs.Math.Seq.{drop-append_seam, take-append_seam}
-use Rattle.texts.specs.Bytes.{Bytes as Text}
+use Rattle.gem_object.specs.texts.Bytes.{Bytes as Text}
 use Rattle.gem_object.specs.declared.value.Value.{Value}
 use Rattle.gem_object.specs.declared.value.Value.TheVariants as value
-use Rattle.gem_world.specs.World.{Setting}
-use Rattle.object_programs.specs.Run.{give, and_then, State}
+use Rattle.tree_meaning.specs.gem_world.World.{Setting}
+use Rattle.tree_meaning.specs.object_programs.Run.{give, and_then, State}
 use Rattle.tree_meaning.specs.Place.{Place, Frame, MadeBlock}
 use Rattle.tree_meaning.specs.Names.{singleton_value}
 use Rattle.tree_meaning.specs.Operands.{ValueRun}

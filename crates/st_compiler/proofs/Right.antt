@@ -2,11 +2,11 @@
 use Rattle.std.proofs.Common.{◌≡◌, ◌∙◌, refl, sym, ap, subst, ℕ, zero, suc, ◌+◌, Bool, true, false, not, List, [], ◌∷◌, ◌++◌, length, length-append, replicate, slice_get, Some, arith}
 use Rattle.gem_object.specs.declared.value.Value.{Value}
 use Rattle.gem_object.specs.declared.value.Value.TheVariants.{Nil}
-use Rattle.gem_world.specs.World.{Setting}
-use Rattle.object_programs.specs.Atom.{Tick}
-use Rattle.object_programs.specs.Run.{fail, return_to, atom, and_then, returns, fails, State, perform}
-use Rattle.object_programs.specs.Programs.{choose}
-use Rattle.object_programs.specs.declared.fault.Fault.TheVariants as fault
+use Rattle.tree_meaning.specs.gem_world.World.{Setting}
+use Rattle.tree_meaning.specs.object_programs.Atom.{Tick}
+use Rattle.tree_meaning.specs.object_programs.Run.{fail, return_to, atom, and_then, returns, fails, State, perform}
+use Rattle.tree_meaning.specs.object_programs.Programs.{choose}
+use Rattle.tree_meaning.specs.object_programs.declared.fault.Fault.TheVariants as fault
 use Rattle.tree_meaning.specs.Place.{Frame, MadeBlock}
 use Rattle.tree_meaning.specs.Operands.{ValueRun, truth_of, by_truth}
 use Rattle.tree_meaning.specs.Scopes.{mark, with_scope, open_scope, give_back, is_living, close_scope, in_scope}

@@ -2,13 +2,13 @@
 -- at most so many are needed as units are spent, and some more.
 use Rattle.std.proofs.Common.{◌≡◌, ◌∙◌, refl, sym, ap, subst, ℕ, zero, suc, ◌+◌, ◌≤◌, List, [], ◌∷◌, ◌++◌, length, slice_get, Some, arith}
 use Rattle.gem_object.specs.declared.value.Value.{Value}
-use Rattle.gem_world.specs.World.{Setting}
-use Rattle.object_programs.specs.Atom.{Tick, ticked}
-use Rattle.object_programs.specs.Run.{Run, atom, and_then, Ending, gives, returns, fails, State, Outcome, end_of, onward, perform}
-use Rattle.object_programs.specs.Laws.{Falls}
-use Rattle.object_programs.specs.declared.fault.Fault.TheVariants as fault
-use Rattle.object_programs.proofs.Kept.{kept}
-use Rattle.object_programs.proofs.Falling.{budgets_fall}
+use Rattle.tree_meaning.specs.gem_world.World.{Setting}
+use Rattle.tree_meaning.specs.object_programs.Atom.{Tick, ticked}
+use Rattle.tree_meaning.specs.object_programs.Run.{Run, atom, and_then, Ending, gives, returns, fails, State, Outcome, end_of, onward, perform}
+use Rattle.tree_meaning.specs.object_programs.Laws.{Falls}
+use Rattle.tree_meaning.specs.object_programs.declared.fault.Fault.TheVariants as fault
+use Rattle.tree_meaning.proofs.object_programs_lemmas.Kept.{kept}
+use Rattle.tree_meaning.proofs.object_programs_lemmas.Falling.{budgets_fall}
 use Rattle.tree_meaning.specs.Place.{Frame, MadeBlock}
 use Rattle.tree_meaning.specs.Operands.{ValueRun}
 use Rattle.tree_meaning.specs.Meaning.{Outside}

@@ -1,10 +1,10 @@
 -- The code of each part of a tree does what that means: by induction on trees.
 use Rattle.std.proofs.Common.{refl, ap, ℕ, zero, suc, ◌+◌, true, false, List, [], ◌∷◌, length, Option, Some, None, arith}
-use Rattle.texts.specs.Bytes.{Bytes as Text}
+use Rattle.gem_object.specs.texts.Bytes.{Bytes as Text}
 use Rattle.st_tree.specs.Trees.{Constant, Head, name, constant, block, paren, Closure, closure, Expression, expression, Expressions, no_expressions, an_expression, Send, send, Sends, no_sends, a_send, Statement, statement, Statements, no_statements, a_statement}
 use Rattle.gem_object.specs.declared.value.Value.{Value}
-use Rattle.gem_world.specs.World.{Setting}
-use Rattle.object_programs.specs.Run.{give}
+use Rattle.tree_meaning.specs.gem_world.World.{Setting}
+use Rattle.tree_meaning.specs.object_programs.Run.{give}
 use Rattle.tree_meaning.specs.Place.{Place, Frame}
 use Rattle.tree_meaning.specs.Names.{where_is}
 use Rattle.tree_meaning.specs.Forms.{form_under, first_loop}

@@ -2,8 +2,8 @@
 use Rattle.std.proofs.Common.{◌≡◌, refl, subst, ℕ, zero, suc, ◌+◌, ◌≤◌, List, [], ◌∷◌, ◌++◌, length, arith}
 use Rattle.st_tree.specs.Trees.{closure, Statements, Program}
 use Rattle.gem_object.specs.declared.value.Value.{Value}
-use Rattle.gem_world.specs.World.{Setting}
-use Rattle.object_programs.specs.Run.{return_to, Ending, gives, returns, fails, State, Outcome, onward, perform}
+use Rattle.tree_meaning.specs.gem_world.World.{Setting}
+use Rattle.tree_meaning.specs.object_programs.Run.{return_to, Ending, gives, returns, fails, State, Outcome, onward, perform}
 use Rattle.tree_meaning.specs.Place.{Place, Frame, MadeBlock}
 use Rattle.tree_meaning.specs.Operands.{ValueRun}
 use Rattle.tree_meaning.specs.Parts.{statements_in_turn}

@@ -1,6 +1,6 @@
 -- What the compiler puts out: instructions, and the blocks that they push.
 use Rattle.std.specs.Prelude.{◌≡◌, ℕ, List, [], ◌∷◌, ◌++◌, length, map, Option, None, Some}
-use Rattle.texts.specs.Bytes.{Bytes as Text}
+use Rattle.gem_object.specs.texts.Bytes.{Bytes as Text}
 use Rattle.st_tree.specs.Trees.{Closure, closure, Program}
 use Rattle.st_tree.specs.Views.{constant_of}
 use Rattle.tree_meaning.specs.Place.{Place}

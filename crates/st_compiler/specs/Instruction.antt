@@ -1,12 +1,12 @@
 -- Instructions: the op codes with their operands. Jumps say how far they lead: the first of these
 -- numbers past the next place, or back from where the jump stands.
 use Rattle.std.specs.Prelude.{◌≡◌, ◌⊎◌, ℕ, ◌+◌, Bool, true, false}
-use Rattle.texts.specs.Bytes.{Bytes as Text}
+use Rattle.gem_object.specs.texts.Bytes.{Bytes as Text}
 use Rattle.st_tree.specs.Trees.{Constant}
 use Rattle.gem_object.specs.declared.value.Value.{Value}
-use Rattle.op_table.specs.Ops.{row_for}
-use Rattle.op_table.specs.declared.ops.Op.{Op}
-use Rattle.op_table.specs.declared.ops.Op.TheVariants as op
+use Rattle.tree_meaning.specs.op_table.Ops.{row_for}
+use Rattle.tree_meaning.specs.op_table.declared.ops.Op.{Op}
+use Rattle.tree_meaning.specs.op_table.declared.ops.Op.TheVariants as op
 
 -- An instruction.
 pub data Instruction : Type 0 where

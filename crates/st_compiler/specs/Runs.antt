@@ -1,8 +1,8 @@
 -- Code that does what a program does.
 use Rattle.std.specs.Prelude.{◌≡◌, ℕ, ◌+◌, ◌≤◌, List, [], length, ⊤}
 use Rattle.gem_object.specs.declared.value.Value.{Value}
-use Rattle.gem_world.specs.World.{Setting}
-use Rattle.object_programs.specs.Run.{State, perform}
+use Rattle.tree_meaning.specs.gem_world.World.{Setting}
+use Rattle.tree_meaning.specs.object_programs.Run.{State, perform}
 use Rattle.tree_meaning.specs.Place.{Frame, MadeBlock}
 use Rattle.tree_meaning.specs.Operands.{ValueRun}
 use Rattle.tree_meaning.specs.Meaning.{Outside}

@@ -1,7 +1,7 @@
 -- The code of a tree. Each part knows its place and how many values stand on the stack beneath it:
 -- a return from the middle of an expression drops these first, since a return wants one value.
 use Rattle.std.specs.Prelude.{ℕ, zero, suc, Bool, true, false, List, [], ◌∷◌, ◌++◌, length, replicate, Option, None, Some}
-use Rattle.texts.specs.Bytes.{Bytes as Text}
+use Rattle.gem_object.specs.texts.Bytes.{Bytes as Text}
 use Rattle.st_tree.specs.Trees.{Constant, Head, name, constant, block, paren, Closure, closure, Expression, expression, Expressions, no_expressions, an_expression, Send as AMessage, send, Sends, no_sends, a_send, Statement, statement, Statements, no_statements, a_statement, Program}
 use Rattle.gem_object.specs.declared.value.Value.{Value}
 use Rattle.tree_meaning.specs.Place.{Place}

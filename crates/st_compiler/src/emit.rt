@@ -21,10 +21,10 @@ use crate::parts::{
     literal_op, push_op, put, put_assigned, put_begin_repeating, put_block, put_choice, put_count,
     put_hand, put_no_block, put_pops, put_while, return_op, send_op, singleton_op,
 };
+use gem_object::Text;
 use st_locals::{Place, block_place, first_loop, form_under, is_super_head};
 use st_tree::{BlockTree, Expr, Message, Primary, Stat};
 use std::alloc::{AllocError, Global};
-use texts::Text;
 use tree_meaning::{Form, Singleton};
 
 // An expression: what begins it, its messages, and then its assignments.

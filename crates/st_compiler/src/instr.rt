@@ -1,8 +1,7 @@
 //! Instructions as the compiler puts them out.
 
-use gem_object::Value;
+use gem_object::{Text, Value};
 use st_tree::Literal;
-use texts::Text;
 
 /// An instruction: an op code with its operands. A jump says how many instructions it passes, or by
 /// how many it leads back.

@@ -3,9 +3,9 @@
 ghost use Rattle.std.specs.Prelude.{◌≡◌, ℕ, List, length, map, All, Some};
 ghost use Rattle.st_tree.specs.Trees.{Program};
 ghost use Rattle.gem_object.specs.declared.value.Value.{Value};
-ghost use Rattle.gem_world.specs.World.{Setting};
-ghost use Rattle.object_programs.specs.Run.{State};
-ghost use Rattle.op_table.specs.Ops.{row_for};
+ghost use Rattle.tree_meaning.specs.gem_world.World.{Setting};
+ghost use Rattle.tree_meaning.specs.object_programs.Run.{State};
+ghost use Rattle.tree_meaning.specs.op_table.Ops.{row_for};
 ghost use Rattle.tree_meaning.specs.Place.{Frame, MadeBlock};
 ghost use Rattle.tree_meaning.specs.Bodies.{method_body, chunk_body, block_body};
 ghost use Rattle.st_compiler.specs.Instruction.{Instruction, op_of, operands_of};

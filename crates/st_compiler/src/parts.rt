@@ -9,11 +9,10 @@ ghost use Rattle.st_compiler.specs.TreeCode.{drop_handed, hand_code, return_op, 
 ghost use Rattle.st_compiler.specs.Emitted.{instruction_of, instructions, Puts, assigned};
 
 use crate::instr::{BlockBody, Instr};
-use gem_object::Value;
+use gem_object::{Text, Value};
 use st_locals::{Place, plain_constant, where_is};
 use st_tree::Literal;
 use std::alloc::AllocError;
-use texts::Text;
 use tree_meaning::{Singleton, Where};
 
 /// One instruction more.

@@ -1,6 +1,6 @@
 -- Code with what every way brings to each of its instructions: put together of parts.
 use Rattle.std.proofs.Common.{◌≡◌, refl, subst, ℕ, zero, suc, ◌+◌, ◌-◌, ◌<◌, ◌≤◌, Bool, true, false, List, [], ◌∷◌, ◌++◌, length, length-append, append_assoc, replicate, drop, slice_get, Some, arith}
-use Rattle.texts.specs.Bytes.{Bytes as Text}
+use Rattle.gem_object.specs.texts.Bytes.{Bytes as Text}
 use Rattle.tree_meaning.specs.Bodies.{params_count, temps_count}
 use Rattle.st_code.specs.Held.{Held}
 use Rattle.st_code.specs.Faults.{is_variable}

@@ -1,7 +1,7 @@
 -- What bytes of code say: the instructions of each block, with what their operands stand for. This
 -- goes from bytes to instructions, and knows nothing of how code is written in bytes.
 use Rattle.std.specs.Prelude.{ℕ, zero, suc, ◌-◌, ◌==◌, nat_lt, nat_le, if◌then◌else◌, List, [], ◌∷◌, length, map, slice_get, slice_range, Option, None, Some, option_map, option_and_then, Result, Ok, Err}
-use Rattle.texts.specs.Bytes.{Bytes as Text}
+use Rattle.gem_object.specs.texts.Bytes.{Bytes as Text}
 use Rattle.op_table.specs.declared.ops.Op.{Op}
 use Rattle.op_table.specs.declared.ops.Op.TheVariants as op
 use Rattle.st_tree.specs.Trees.{Program}

@@ -1,7 +1,7 @@
 //! What follows for the bytes of compiled code. Each law is the contract of a function that does
 //! nothing.
 ghost use Rattle.std.specs.Prelude.{◌≡◌, true, None, Some};
-ghost use Rattle.texts.specs.Bytes.{Bytes as Text};
+ghost use Rattle.gem_object.specs.texts.Bytes.{Bytes as Text};
 ghost use Rattle.st_tree.specs.Trees.{Program};
 ghost use Rattle.st_code.specs.Faults.{fault_of};
 ghost use Rattle.st_compiler.specs.TreeCode.{method_code, chunk_code};

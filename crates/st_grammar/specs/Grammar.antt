@@ -9,7 +9,7 @@ use Rattle.std.specs.Prelude.{◌≡◌, ℕ, suc, pos, neg_ℤ, Bool, true, fal
 use Rattle.std.specs.Prelude.{◌==◌, nat_lt, bytes_eq, codes, Some, None, List, [], ◌∷◌, ◌++◌}
 use Rattle.std.specs.List.{list_any}
 use Rattle.texts.specs.Bytes.{Bytes}
-use Rattle.profile.specs.declared.limits.TheConstants.{DEPTH_LIMIT}
+use Rattle.st_grammar.specs.declared.limits.TheConstants.{DEPTH_LIMIT}
 use Rattle.st_tree.specs.Trees.{Constant, int, char, str, sym, nothing, yes, no, array, Constants}
 use Rattle.st_tree.specs.Trees.{no_constants, a_constant, Head, name, constant, block, paren}
 use Rattle.st_tree.specs.Trees.{closure, Expression, expression, Send, send, Statement, statement}

@@ -2,7 +2,7 @@
 use Rattle.std.proofs.Common.{◌≡◌, ℕ, Bool, true, false, not, ◌&&◌, cond, nat_lt, Result, List, [], ◌∷◌, refl, sym, ap}
 use Rattle.std.proofs.Common.{◌∙◌, true≢false}
 use Rattle.texts.specs.Bytes.{Bytes}
-use Rattle.profile.specs.declared.limits.TheConstants.{DEPTH_LIMIT}
+use Rattle.st_grammar.specs.declared.limits.TheConstants.{DEPTH_LIMIT}
 use Rattle.st_tree.specs.Trees.{Program, name, Constant, Head, Expression, Sends, no_statements, no_constants}
 use Rattle.st_tree.specs.Trees.{Statements}
 use Rattle.st_grammar.specs.Tokens.{identifier, number, character, string, symbol, binary, bar, colon, assign}

@@ -3,7 +3,7 @@ use Rattle.std.proofs.Common.{◌≡◌, ℕ, suc, Bool, true, false, ◌&&◌, 
 use Rattle.std.proofs.Common.{true≢false, append_assoc, append-nil}
 use Rattle.std.proofs.Common.{sym as sym_path}
 use Rattle.texts.specs.Bytes.{Bytes}
-use Rattle.profile.specs.declared.limits.TheConstants.{DEPTH_LIMIT}
+use Rattle.st_grammar.specs.declared.limits.TheConstants.{DEPTH_LIMIT}
 use Rattle.st_tree.specs.Trees.{Constant, sym, Constants, no_constants, a_constant, append_constants}
 use Rattle.st_grammar.specs.Tokens.{keyword, number, binary}
 use Rattle.st_grammar.specs.Grammar.{Word, word, p9, Kept, passes, binary_is, bar_is, is_minus}

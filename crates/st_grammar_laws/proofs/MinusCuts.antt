@@ -8,8 +8,8 @@ use Rattle.std.proofs.lemmas.List.{take-append-le, drop-append-le}
 use Rattle.std.proofs.Math.Seq.{drop-drop}
 use Rattle.texts.specs.Bytes.{Bytes}
 use Rattle.texts.specs.NameBytes.{starts_name, is_name_byte}
-use Rattle.profile.specs.declared.integers.TheConstants.{INTEGER_LIMIT}
-use Rattle.profile.specs.declared.limits.TheConstants.{SYMBOL_LIMIT}
+use Rattle.texts.specs.declared.integers.TheConstants.{INTEGER_LIMIT}
+use Rattle.texts.specs.declared.limits.TheConstants.{SYMBOL_LIMIT}
 use Rattle.st_grammar.specs.Tokens.{Kind, Piece, gap, token, bad, p2, p3, string, binary, symbol, keyword, identifier}
 use Rattle.st_grammar.specs.Tokens.{number, Class, blank, comment, name, digit, quote, dollar, hash, operator}
 use Rattle.st_grammar.specs.Tokens.{colon_mark, other, begins_with, later, comment_end, string_end, string_bytes}

@@ -3,7 +3,7 @@ use Rattle.std.proofs.Common.{◌≡◌, refl, sym, subst, Bool, true, false, co
 use Rattle.std.proofs.Common.{[], ◌∷◌}
 use Rattle.std.proofs.lemmas.Slice.Eq.{bytes_eq-Decides}
 use Rattle.texts.specs.Bytes.{Bytes}
-use Rattle.profile.specs.declared.limits.TheConstants.{DEPTH_LIMIT}
+use Rattle.st_grammar.specs.declared.limits.TheConstants.{DEPTH_LIMIT}
 use Rattle.st_tree.specs.Trees.{sym as symbol_of, array, Constants, name, Expression, no_statements}
 use Rattle.st_grammar.specs.Tokens.{Kind, identifier, keyword, number, character, string, symbol, binary, bar, assign}
 use Rattle.st_grammar.specs.Tokens.{colon, caret, semicolon, period, open_paren, close_paren, open_bracket}

@@ -2,7 +2,7 @@
 use Rattle.std.proofs.Common.{◌≡◌, refl, sym, ap, ap₂, ◌∙◌, subst, subst₂, nat_lt, Bool, true, false, cond, not, ◌&&◌}
 use Rattle.std.proofs.Common.{true≢false, Some, None, Result, Ok, Err, List, [], ◌∷◌, ◌++◌, append_assoc, append-nil}
 use Rattle.texts.specs.Bytes.{Bytes}
-use Rattle.profile.specs.declared.limits.TheConstants.{DEPTH_LIMIT}
+use Rattle.st_grammar.specs.declared.limits.TheConstants.{DEPTH_LIMIT}
 use Rattle.st_tree.specs.Trees.{sym as symbol_of, array, Constants, no_constants, name, Expression, Send, send, Sends}
 use Rattle.st_tree.specs.Trees.{no_sends, a_send, no_expressions, statement, no_statements, a_statement, Program}
 use Rattle.st_grammar.specs.Tokens.{Kind, identifier, keyword, number, character, string, symbol, binary, bar, colon}

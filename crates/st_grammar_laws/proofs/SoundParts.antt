@@ -2,7 +2,7 @@
 use Rattle.std.proofs.Common.{◌≡◌, refl, sym, ◌∙◌, subst, ℕ, suc, nat_lt, Bool, true, true≢false, Option, Some, None}
 use Rattle.std.proofs.Common.{List, [], ◌∷◌, append-nil}
 use Rattle.texts.specs.Bytes.{Bytes}
-use Rattle.profile.specs.declared.limits.TheConstants.{DEPTH_LIMIT}
+use Rattle.st_grammar.specs.declared.limits.TheConstants.{DEPTH_LIMIT}
 use Rattle.st_tree.specs.Trees.{Constant, array, Constants, no_constants, Head, name, constant, block, closure}
 use Rattle.st_tree.specs.Trees.{Expression, expression, Statement, Statements, no_statements, a_statement, Sends}
 use Rattle.st_tree.specs.Trees.{no_sends, a_send, Program}

@@ -2,7 +2,7 @@
 use Rattle.std.proofs.Common.{◌≡◌, refl, sym, ap, ap₂, ◌∙◌, subst, nat_lt, Bool, true, false, cond, not, ◌&&◌}
 use Rattle.std.proofs.Common.{true≢false, List, [], ◌∷◌, ◌++◌, append_assoc}
 use Rattle.texts.specs.Bytes.{Bytes}
-use Rattle.profile.specs.declared.limits.TheConstants.{DEPTH_LIMIT}
+use Rattle.st_grammar.specs.declared.limits.TheConstants.{DEPTH_LIMIT}
 use Rattle.st_tree.specs.Trees.{no_constants, name, Expression, Send, send, statement, no_statements, Sends, no_sends}
 use Rattle.st_tree.specs.Trees.{a_send, Expressions, no_expressions, an_expression, Program}
 use Rattle.st_grammar.specs.Tokens.{Kind, identifier, keyword, number, character, string, symbol, binary, bar, assign}

@@ -3,7 +3,7 @@
 use Rattle.std.specs.Prelude.{ℕ, suc, Bool, true, false, cond, not, ◌&&◌, nat_lt, Option, Some}
 use Rattle.std.specs.Prelude.{None, Result, Ok, Err, List, [], ◌∷◌, ◌++◌}
 use Rattle.texts.specs.Bytes.{Bytes}
-use Rattle.profile.specs.declared.limits.TheConstants.{DEPTH_LIMIT}
+use Rattle.st_grammar.specs.declared.limits.TheConstants.{DEPTH_LIMIT}
 use Rattle.st_tree.specs.Trees.{Constant, char, str, sym, array, Constants, no_constants}
 use Rattle.st_tree.specs.Trees.{a_constant, append_constants, Head, name, constant, block, paren}
 use Rattle.st_tree.specs.Trees.{closure, Expression, expression, Send, send, Statement, statement}

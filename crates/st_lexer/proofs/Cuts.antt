@@ -9,7 +9,7 @@ use Rattle.std.specs.List.{prefix_len}
 use Rattle.std.specs.Char.{is_ascii_digit}
 use Rattle.texts.specs.Bytes.{Bytes}
 use Rattle.texts.specs.NameBytes.{starts_name, is_name_byte}
-use Rattle.profile.specs.declared.integers.TheConstants.{INTEGER_LIMIT}
+use Rattle.texts.specs.declared.integers.TheConstants.{INTEGER_LIMIT}
 use Rattle.st_grammar.specs.Tokens.{Kind, Piece, token, bad, p3, number, keyword, identifier, assign, colon, begins}
 use Rattle.st_grammar.specs.Tokens.{begins_with, is_keyword_end, word, ends_number, number_before, number_in}
 use Rattle.st_grammar.specs.Tokens.{number_after, number_at, value_of, are_digits, is_radix_digit, piece}

@@ -10,8 +10,8 @@ use Rattle.std.proofs.lemmas.List.{take-take, drop-take}
 use Rattle.std.proofs.Math.ListN.{drop_of_length-le}
 use Rattle.texts.specs.Bytes.{Bytes}
 use Rattle.texts.specs.NameBytes.{starts_name, is_name_byte}
-use Rattle.profile.specs.declared.integers.TheConstants.{INTEGER_LIMIT}
-use Rattle.profile.specs.declared.limits.TheConstants.{SYMBOL_LIMIT}
+use Rattle.texts.specs.declared.integers.TheConstants.{INTEGER_LIMIT}
+use Rattle.texts.specs.declared.limits.TheConstants.{SYMBOL_LIMIT}
 use Rattle.st_grammar.specs.Tokens.{Piece, token, bad, p3, number, Class, blank, comment, name, digit, quote}
 use Rattle.st_grammar.specs.Tokens.{dollar, hash, operator, colon_mark, other, piece, piece_in, class_of}
 use Rattle.st_grammar.specs.Tokens.{number_at, number_in, number_before, value_of, digit_value, is_radix_digit}

@@ -6,8 +6,8 @@ use Rattle.std.specs.List.{prefix_len}
 use Rattle.std.specs.Char.{is_ascii_digit}
 use Rattle.texts.specs.Bytes.{Bytes}
 use Rattle.texts.specs.NameBytes.{starts_name, is_name_byte}
-use Rattle.profile.specs.declared.integers.TheConstants.{INTEGER_LIMIT}
-use Rattle.profile.specs.declared.limits.TheConstants.{SYMBOL_LIMIT}
+use Rattle.texts.specs.declared.integers.TheConstants.{INTEGER_LIMIT}
+use Rattle.texts.specs.declared.limits.TheConstants.{SYMBOL_LIMIT}
 use Rattle.st_grammar.specs.Tokens.{Kind, Piece, end, gap, token, bad, p2, p3, string, binary, character, colon, assign}
 use Rattle.st_grammar.specs.Tokens.{symbol, keyword, identifier, number, Class, blank, comment, name, digit, quote}
 use Rattle.st_grammar.specs.Tokens.{dollar, hash, operator, colon_mark, other, begins, begins_with, comment_end}

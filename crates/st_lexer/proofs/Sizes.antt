@@ -7,8 +7,8 @@ use Rattle.std.specs.Char.{is_ascii_digit}
 use Rattle.std.proofs.lemmas.List.Sums.{prefix_len-le-length}
 use Rattle.texts.specs.Bytes.{Bytes}
 use Rattle.texts.specs.NameBytes.{starts_name, is_name_byte}
-use Rattle.profile.specs.declared.integers.TheConstants.{INTEGER_LIMIT}
-use Rattle.profile.specs.declared.limits.TheConstants.{SYMBOL_LIMIT}
+use Rattle.texts.specs.declared.integers.TheConstants.{INTEGER_LIMIT}
+use Rattle.texts.specs.declared.limits.TheConstants.{SYMBOL_LIMIT}
 use Rattle.st_grammar.specs.Tokens.{Piece, end, gap, token, bad, Class, blank, comment, name, digit, quote, dollar}
 use Rattle.st_grammar.specs.Tokens.{hash, operator, colon_mark, other, later, begins, begins_with, comment_end}
 use Rattle.st_grammar.specs.Tokens.{string_end, string_bytes, keywords, name_goes_on, is_keyword_end, is_blank}

@@ -7,7 +7,7 @@ use Rattle.std.specs.Prelude.{nat_lt, nat_le, ◌==◌, ◌&&◌, ◌||◌}
 use Rattle.std.specs.List.{prefix_len}
 use Rattle.texts.specs.Bytes.{Bytes}
 use Rattle.texts.specs.NameBytes.{starts_name, is_name_byte}
-use Rattle.profile.specs.declared.limits.TheConstants.{SYMBOL_LIMIT}
+use Rattle.texts.specs.declared.limits.TheConstants.{SYMBOL_LIMIT}
 use Rattle.st_grammar.specs.Tokens.{Kind, TokenRule, Piece, token, bad, p2, p3, symbol, open_array, keyword, identifier}
 use Rattle.st_grammar.specs.Tokens.{Class, name, begins, begins_with, string_end, string_bytes, keywords, name_goes_on}
 use Rattle.st_grammar.specs.Tokens.{is_keyword_end, is_blank, is_operator, is_second, word, sized, symbol_name}

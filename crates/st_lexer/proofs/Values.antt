@@ -5,7 +5,7 @@ use Rattle.std.specs.Prelude.{fold}
 use Rattle.std.proofs.Math.ListN.{drop_of_length-le}
 use Rattle.std.proofs.Math.Nat.{mul-le-mul_left, div-lt_iff_lt-mul, le-div_iff_mul-le}
 use Rattle.texts.specs.Bytes.{Bytes}
-use Rattle.profile.specs.declared.integers.TheConstants.{INTEGER_LIMIT}
+use Rattle.texts.specs.declared.integers.TheConstants.{INTEGER_LIMIT}
 use Rattle.st_grammar.specs.Tokens.{value_of, digit_value}
 use Rattle.st_lexer.proofs.Places.{from_place}
 

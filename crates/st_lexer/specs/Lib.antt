@@ -1,4 +1,3 @@
-pub use Rattle.st_grammar.specs.Tokens as Tokens
 pub mod Views
 pub mod Spans
 pub mod Numbers

@@ -3,7 +3,7 @@ ghost use Rattle.std.specs.Prelude.{◌≡◌, ◌+◌, ◌^◌, ◌<◌, ◌≤
 ghost use Rattle.std.specs.Prelude.{MatchOption};
 ghost use Rattle.std.specs.List.{prefix_len, list_all};
 ghost use Rattle.std.specs.Char.{is_ascii_digit};
-ghost use Rattle.profile.specs.declared.integers.TheConstants.{INTEGER_LIMIT};
+ghost use Rattle.texts.specs.declared.integers.TheConstants.{INTEGER_LIMIT};
 ghost use Rattle.st_grammar.specs.Tokens.{is_radix_digit, digit_value, value_of, ends_number};
 ghost use Rattle.st_grammar.specs.Tokens.{number_before, are_digits, number_in, number_after};
 ghost use Rattle.st_grammar.specs.Tokens.{number_at};
@@ -12,7 +12,7 @@ ghost use Rattle.st_lexer.specs.Views.{piece_seen};
 use crate::kinds::TokenKind;
 use crate::pieces::{Piece, TokenRule};
 use crate::words::{is_at, is_digit_at, starts_name_at};
-use profile::INTEGER_LIMIT;
+use texts::INTEGER_LIMIT;
 
 fn is_radix_digit(byte: u8) -> bool
     ensures { result ≡ is_radix_digit byte }

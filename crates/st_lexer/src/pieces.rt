@@ -10,10 +10,10 @@ use crate::kinds::TokenKind;
 use crate::numbers::number_at;
 use crate::quotes::{comment_end, string_end};
 use crate::words::{
-    binary_len, is_at, is_keyword_end, is_operator, is_operator_at, name_len, starts_name,
-    starts_name_at, symbol_name_len,
+    binary_len, is_at, is_keyword_end, is_operator, is_operator_at, name_len, starts_name_at,
+    symbol_name_len,
 };
-use profile::SYMBOL_LIMIT;
+use texts::{SYMBOL_LIMIT, starts_name};
 
 // What the first byte of a piece says of it.
 #[derive(Clone, Copy, Debug)]

@@ -1,6 +1,6 @@
 //! What the bytes of a token stand for.
 ghost use Rattle.std.specs.Prelude.{◌≡◌, ◌<◌, ◌≤◌, drop, IfOk};
-ghost use Rattle.profile.specs.declared.integers.TheConstants.{INTEGER_LIMIT};
+ghost use Rattle.texts.specs.declared.integers.TheConstants.{INTEGER_LIMIT};
 ghost use Rattle.st_grammar.specs.Tokens.{value_of, number_value, character_value};
 ghost use Rattle.st_grammar.specs.Tokens.{string_value, symbol_value};
 ghost use Rattle.st_lexer.specs.Numbers.{IsNumber};

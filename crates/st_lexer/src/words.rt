@@ -6,19 +6,9 @@ ghost use Rattle.texts.specs.NameBytes.{starts_name, is_name_byte};
 ghost use Rattle.st_grammar.specs.Tokens.{is_operator, is_second, name_goes_on, is_keyword_end};
 ghost use Rattle.st_grammar.specs.Tokens.{keywords, begins, begins_with, symbol_name, binary_len};
 
+use texts::{is_name_byte, starts_name};
+
 const OPERATORS: &[u8] = b"+-*/\\~<>=@%&?,";
-
-pub(crate) fn starts_name(byte: u8) -> bool
-    ensures { result ≡ starts_name byte }
-{
-    byte.is_ascii_alphabetic() || byte == b'_'
-}
-
-pub(crate) fn is_name_byte(byte: u8) -> bool
-    ensures { result ≡ is_name_byte byte }
-{
-    starts_name(byte) || byte.is_ascii_digit()
-}
 
 pub(crate) fn is_operator(byte: u8) -> bool
     ensures { result ≡ is_operator byte }

@@ -2,7 +2,7 @@
 use Rattle.std.proofs.Common.{◌≡◌, refl, sym, ◌∙◌, ℕ, ◌==◌, true, false, List, [], ◌∷◌, length, None}
 use Rattle.std.proofs.lemmas.Bool.{false≢true}
 use Rattle.std.proofs.Math.Dec.{eqb-suc-zero}
-use Rattle.texts.specs.Bytes.{Bytes as Text}
+use Rattle.gem_object.specs.texts.Bytes.{Bytes as Text}
 use Rattle.st_tree.specs.Trees.{Head, Expression, expression, Expressions, an_expression, expressions, Send, send, Sends, no_sends, a_send, sends}
 use Rattle.tree_meaning.specs.Forms.{is_block_head, is_block_of, are_one_block, are_two_blocks, are_limit_and_block, form_with_block, form_with_two_blocks, form_with_limit, form_of, loop_with_block, loop_of, first_loop}
 use Rattle.tree_meaning.specs.declared.form.Form.TheVariants.{Plain}

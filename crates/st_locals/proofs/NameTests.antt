@@ -1,6 +1,6 @@
 -- What the names of the language stand for, test by test.
 use Rattle.std.proofs.Common.{◌≡◌, refl, true, false, bytes_eq, codes, List}
-use Rattle.texts.specs.Bytes.{Bytes as Text}
+use Rattle.gem_object.specs.texts.Bytes.{Bytes as Text}
 use Rattle.tree_meaning.specs.Names.{where_is, is_super, variable_in}
 use Rattle.tree_meaning.specs.declared.name.Singleton.TheVariants as singleton
 use Rattle.tree_meaning.specs.declared.name.Where.TheVariants.{Receiver, Fixed}

@@ -1,7 +1,7 @@
 -- Searches for a name, variable by variable and scope by scope.
 use Rattle.std.proofs.Common.{◌≡◌, refl, sym, ap, ◌∙◌, ℕ, suc, ◌+◌, ◌-◌, ◌<◌, List, ◌∷◌, length, get_or, drop, reverse, Option, None, Some, arith}
 use Rattle.std.proofs.lemmas.List.{at_drop_more, get_or-reverse, length-reverse}
-use Rattle.texts.specs.Bytes.{Bytes as Text}
+use Rattle.gem_object.specs.texts.Bytes.{Bytes as Text}
 use Rattle.tree_meaning.specs.Names.{index_of, variable_in, one_deeper, innermost}
 use Rattle.tree_meaning.specs.declared.name.Where.{Where}
 use Rattle.tree_meaning.specs.declared.name.Where.TheVariants.{Receiver, Fixed, Variable, OutOfScope}

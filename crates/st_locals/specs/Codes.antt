@@ -2,11 +2,11 @@
 -- apart.
 use Rattle.std.specs.Prelude.{ℕ, Bool, List, refl}
 use Rattle.std.specs.Coded.{Coded, code_by, coded×, coded_ℕ, coded_bool, coded_list}
-use Rattle.texts.specs.Bytes.{Bytes as Text}
+use Rattle.gem_object.specs.texts.Bytes.{Bytes as Text}
 use Rattle.st_tree.specs.Trees.{Closure}
 use Rattle.st_tree.specs.Codes.{closure_code}
 use Rattle.gem_object.specs.declared.value.Value.{Value}
-use Rattle.object_programs.specs.Local.{Local}
+use Rattle.tree_meaning.specs.object_programs.Local.{Local}
 use Rattle.tree_meaning.specs.Place.{Place, Frame, MadeBlock}
 use Rattle.tree_meaning.specs.declared.place.Mark.{Mark}
 

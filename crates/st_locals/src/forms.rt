@@ -6,8 +6,8 @@ ghost use Rattle.tree_meaning.specs.Forms.{takes, is_block_head, is_block_of, ar
 ghost use Rattle.tree_meaning.specs.Meaning.{is_super_head};
 
 use crate::names::is_super;
+use gem_object::Text;
 use st_tree::{BlockTree, Expr, Message, Primary};
-use texts::Text;
 use tree_meaning::{Form, Singleton};
 
 /// Whether what begins an expression is `super`.

@@ -4,8 +4,7 @@ ghost use Rattle.tree_meaning.specs.Scopes.{no_mark, scope_number, with_scope};
 ghost use Rattle.tree_meaning.specs.Calls.{method_frame};
 
 use crate::locals::Locals;
-use gem_object::Value;
-use gem_value::Oid;
+use gem_object::{Oid, Value};
 use std::alloc::{AllocError, Global};
 use std::marker::Model;
 use tree_meaning::Mark;

@@ -2,7 +2,7 @@
 ghost use Rattle.std.specs.Prelude.{◌≡◌, ◌≤◌, ◌^◌, ◌++◌, ◌∷◌, [], length, get_or, set, replicate, slice_get, option_copied, IfOk, OnOk, OnErr};
 ghost use Rattle.gem_object.specs.declared.value.Value.TheVariants.{Nil, Block};
 ghost use Rattle.st_tree.specs.Falls.{size_closure};
-ghost use Rattle.object_programs.specs.Local.{nothing};
+ghost use Rattle.tree_meaning.specs.object_programs.Local.{nothing};
 ghost use Rattle.tree_meaning.specs.Place.{MadeBlock as TreeBlock};
 ghost use Rattle.tree_meaning.specs.Bodies.{params_count};
 ghost use Rattle.tree_meaning.specs.Scopes.{mark, scope_number, open_scope, begin_method, is_living, end_living, give_back, value_at, with_value};
@@ -29,7 +29,7 @@ pub struct Locals {
 impl Model for Locals {
     ghost use Rattle.gem_object.specs.contracts.value.Value as value;
     ghost use Rattle.tree_meaning.specs.contracts.place.Mark as mark;
-    ghost use Rattle.object_programs.specs.Local.{Local};
+    ghost use Rattle.tree_meaning.specs.object_programs.Local.{Local};
     ghost use Rattle.tree_meaning.specs.Place.{MadeBlock as TreeBlock};
     ghost use Rattle.st_locals.specs.Codes.{local_code};
 

@@ -4,7 +4,7 @@ ghost use Rattle.tree_meaning.specs.Names.{index_of, variable_in, where_is, is_s
 
 use crate::place::Place;
 use crate::scope::ScopeNames;
-use texts::Text;
+use gem_object::Text;
 use tree_meaning::{Singleton, Where};
 
 /// Whether a name is `super`.

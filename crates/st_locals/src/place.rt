@@ -4,10 +4,10 @@ ghost use Rattle.tree_meaning.specs.Bodies.{method_place, block_place};
 ghost use Rattle.tree_meaning.specs.Parts.{with_variables};
 
 use crate::scope::ScopeNames;
+use gem_object::Text;
 use st_tree::{BlockTree, Tree};
 use std::alloc::AllocError;
 use std::marker::Model;
-use texts::Text;
 
 /// Where a part of a tree stands: the variables that are in scope, and whether it is in a block
 /// that is made. Contracts see the scopes with the innermost one first.

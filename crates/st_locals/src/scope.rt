@@ -2,10 +2,9 @@
 ghost use Rattle.std.specs.Prelude.{◌≡◌, ◌++◌, get_or, set, IfOk};
 ghost use Rattle.gem_object.specs.declared.value.Value.TheVariants.{Nil};
 
-use gem_object::Value;
+use gem_object::{Text, Value};
 use std::alloc::AllocError;
 use std::marker::Model;
-use texts::Text;
 
 /// The names of a scope's variables: the parameters, and then the temporaries.
 #[derive(Drop)]
@@ -15,7 +14,7 @@ pub(crate) struct ScopeNames {
 
 impl Model for ScopeNames {
     ghost use Rattle.std.specs.Prelude.{List};
-    ghost use Rattle.texts.specs.Bytes.{Bytes};
+    ghost use Rattle.gem_object.specs.texts.Bytes.{Bytes};
 
     ghost Value = { List Bytes };
 

@@ -2,21 +2,21 @@
 use Rattle.std.proofs.Common.{◌≡◌, ◌∙◌, refl, sym, ap, ap₂, subst, ℕ, zero, suc, ◌<◌, ◌-◌, false, List, reverse, length, take, drop, get_or, slice_get, Option, None, Some, Result, Ok, Err, IfSome}
 use Rattle.std.specs.declared.alloc.AllocError.{AllocError}
 use Rattle.std.proofs.lemmas.Option.{same_Some, none-some, slice_get-get_or}
-use Rattle.texts.specs.Bytes.{Bytes as Text}
+use Rattle.gem_object.specs.texts.Bytes.{Bytes as Text}
 use Rattle.st_tree.specs.Trees.{Program}
-use Rattle.st_grammar.specs.Grammar.{method}
-use Rattle.st_grammar_laws.specs.TreeOf.{TextFault, tree_of}
+use Rattle.gem_sound.specs.st_grammar.Grammar.{method}
+use Rattle.gem_sound.specs.st_grammar_laws.TreeOf.{TextFault, tree_of}
 use Rattle.gem_object.specs.declared.value.Value.{Value}
 use Rattle.gem_object.specs.declared.value.Value.TheVariants as value
 use Rattle.gem_object.specs.declared.body.MethodCode.{MethodCode}
 use Rattle.gem_object.specs.declared.body.MethodCode.TheVariants.{Source, Primitive}
-use Rattle.gem_world.specs.World.{Setting, World}
-use Rattle.object_programs.specs.Atom.{Tick, says, refuses, Answer, Done, ticked}
-use Rattle.object_programs.specs.Budget.{Budget}
-use Rattle.object_programs.specs.Local.{Local}
-use Rattle.object_programs.specs.Run.{give, atom, Outcome}
-use Rattle.object_programs.specs.declared.fault.Fault.{Fault}
-use Rattle.object_programs.specs.declared.fault.Fault.TheVariants as fault
+use Rattle.tree_meaning.specs.gem_world.World.{Setting, World}
+use Rattle.tree_meaning.specs.object_programs.Atom.{Tick, says, refuses, Answer, Done, ticked}
+use Rattle.tree_meaning.specs.object_programs.Budget.{Budget}
+use Rattle.tree_meaning.specs.object_programs.Local.{Local}
+use Rattle.tree_meaning.specs.object_programs.Run.{give, atom, Outcome}
+use Rattle.tree_meaning.specs.object_programs.declared.fault.Fault.{Fault}
+use Rattle.tree_meaning.specs.object_programs.declared.fault.Fault.TheVariants as fault
 use Rattle.tree_meaning.specs.Meaning.{Outside}
 use Rattle.tree_meaning.specs.Place.{Frame, MadeBlock}
 use Rattle.tree_meaning.specs.Operands.{ValueRun}
@@ -36,7 +36,7 @@ use Rattle.look_up_cache.specs.Memory.{with_budget}
 use Rattle.st_compiler.specs.Code.{Piece}
 use Rattle.st_compiler.specs.Instruction.{Instruction, PushSelf, PushNil, PushTrue, PushFalse, PushLit, Send, TakeUnit}
 use Rattle.st_compiler.specs.Machine.{after as ended_by}
-use Rattle.st_plain.proofs.Activations.{method_ran}
+use Rattle.st_commands.proofs.Activations.{method_ran}
 use Rattle.st_machine.specs.Led.{TurnedBy, UnitTurned}
 use Rattle.st_machine.specs.Methods.{IsMethodOf, IsCodeOf}
 use Rattle.st_machine.specs.Parts.{framed}

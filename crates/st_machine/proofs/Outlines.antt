@@ -2,11 +2,11 @@
 -- home don't matter.
 use Rattle.std.proofs.Common.{◌≡◌, ◌∙◌, refl, ap, subst, ℕ, Bool, true, false, List, [], ◌∷◌, reverse, Option, None, Some, Result}
 use Rattle.std.proofs.Math.Path.{fun_ext}
-use Rattle.texts.specs.Bytes.{Bytes as Text}
+use Rattle.gem_object.specs.texts.Bytes.{Bytes as Text}
 use Rattle.gem_object.specs.declared.value.Value.{Value}
-use Rattle.object_programs.specs.Local.{Local}
-use Rattle.object_programs.specs.Atom.{Kind}
-use Rattle.object_programs.specs.Run.{give, atom, and_then}
+use Rattle.tree_meaning.specs.object_programs.Local.{Local}
+use Rattle.tree_meaning.specs.object_programs.Atom.{Kind}
+use Rattle.tree_meaning.specs.object_programs.Run.{give, atom, and_then}
 use Rattle.st_tree.specs.Trees.{Closure, Program}
 use Rattle.tree_meaning.specs.Place.{Place, Frame, MadeBlock}
 use Rattle.tree_meaning.specs.Operands.{ValueRun}

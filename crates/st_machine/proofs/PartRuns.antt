@@ -1,8 +1,8 @@
 -- The code of each part of a text does what the part means.
 use Rattle.std.proofs.Common.{Option, None, Some, All}
-use Rattle.texts.specs.Bytes.{Bytes as Text}
+use Rattle.gem_object.specs.texts.Bytes.{Bytes as Text}
 use Rattle.st_tree.specs.Trees.{Program}
-use Rattle.gem_world.specs.World.{Setting}
+use Rattle.tree_meaning.specs.gem_world.World.{Setting}
 use Rattle.tree_meaning.specs.Meaning.{Outside}
 use Rattle.st_compiler.specs.Emitted.{text_code_by}
 use Rattle.st_compiler.specs.Runs.{Runs, IsBlockCode}

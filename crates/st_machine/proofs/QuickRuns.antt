@@ -6,9 +6,9 @@ use Rattle.std.proofs.lemmas.Option.{same_Some, slice_get-get_or}
 use Rattle.st_tree.specs.Trees.{Program}
 use Rattle.gem_object.specs.declared.value.Value.{Value}
 use Rattle.gem_object.specs.declared.value.Value.TheVariants as value
-use Rattle.object_programs.specs.Local.{Local}
-use Rattle.object_programs.specs.Run.{give, return_to, become, and_then, Ending, returns, fails}
-use Rattle.object_programs.specs.Programs.{choose}
+use Rattle.tree_meaning.specs.object_programs.Local.{Local}
+use Rattle.tree_meaning.specs.object_programs.Run.{give, return_to, become, and_then, Ending, returns, fails}
+use Rattle.tree_meaning.specs.object_programs.Programs.{choose}
 use Rattle.tree_meaning.specs.Place.{Frame, MadeBlock}
 use Rattle.tree_meaning.specs.Scopes.{mark, begin_method, end_living, give_back, give_back_where, ending_at_home, leave_method}
 use Rattle.tree_meaning.specs.Bodies.{method_body}
@@ -26,8 +26,8 @@ use Rattle.running_objects.specs.declared.stop.Stop.TheVariants as stop
 use Rattle.running_objects.proofs.Running.{keeps_same, ran_give, ran_fail, ran_return, ran_become, ran_seeing, ran_then}
 use Rattle.st_compiler.specs.Instruction.{Instruction, PushSelf, PushNil, PushTrue, PushFalse, PushLit, MakeLit, PushLocal, StoreLocal, PushName, StoreName, Pop, Dup, Send, SuperSend, PushBlock, ReturnMethod, ReturnHome, ReturnBlock, Jump, JumpBack, JumpTrue, JumpFalse, TakeUnit, Enter, Leave, LoopStart, LoopNext, LoopStep}
 use Rattle.st_compiler.specs.Code.{Piece}
-use Rattle.st_plain.specs.Leaving.{LeftSo}
-use Rattle.st_plain.proofs.Activations.{activation_ran}
+use Rattle.st_commands.specs.Leaving.{LeftSo}
+use Rattle.st_commands.proofs.Activations.{activation_ran}
 use Rattle.st_machine.specs.Led.{LedBy}
 use Rattle.st_machine.specs.Parts.{table_of, part_code, part_run}
 use Rattle.st_machine.specs.Quick.{IsPut, put_value, IsQuick, quick_frame, at_home}

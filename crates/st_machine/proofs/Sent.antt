@@ -1,13 +1,13 @@
 -- Messages that were sent.
 use Rattle.std.proofs.Common.{◌≡◌, ◌∙◌, sym, ap, ℕ, suc, ◌<◌, ◌≤◌, Bool, true, false, List, [], ◌∷◌, ◌++◌, length, reverse, take, drop, get_or, slice_get, Option, Some, Ok, Err}
 use Rattle.std.proofs.lemmas.List.{drop_all, reverse-reverse}
-use Rattle.texts.specs.Bytes.{Bytes as Text}
+use Rattle.gem_object.specs.texts.Bytes.{Bytes as Text}
 use Rattle.st_tree.specs.Trees.{Program}
 use Rattle.gem_object.specs.declared.value.Value.{Value}
 use Rattle.gem_object.specs.declared.value.Value.TheVariants.{Nil}
 use Rattle.gem_object.specs.declared.value.Value.TheVariants as value
-use Rattle.object_programs.specs.Local.{Local}
-use Rattle.object_programs.specs.Run.{Run, State, Outcome}
+use Rattle.tree_meaning.specs.object_programs.Local.{Local}
+use Rattle.tree_meaning.specs.object_programs.Run.{Run, State, Outcome}
 use Rattle.tree_meaning.specs.Place.{Frame, MadeBlock}
 use Rattle.tree_meaning.specs.Operands.{ValueRun}
 use Rattle.tree_meaning.specs.Bodies.{params_count}

@@ -2,9 +2,9 @@
 -- its end from there.
 use Rattle.std.proofs.Common.{◌≡◌, ◌∙◌, sym, ap, subst, ℕ, zero, suc, List, [], ◌∷◌, slice_get, None, Some, Ok, Err}
 use Rattle.gem_object.specs.declared.value.Value.{Value}
-use Rattle.gem_world.specs.World.{Setting}
-use Rattle.object_programs.specs.Local.{Local}
-use Rattle.object_programs.specs.Run.{gives, returns, fails, State, Outcome, perform}
+use Rattle.tree_meaning.specs.gem_world.World.{Setting}
+use Rattle.tree_meaning.specs.object_programs.Local.{Local}
+use Rattle.tree_meaning.specs.object_programs.Run.{gives, returns, fails, State, Outcome, perform}
 use Rattle.tree_meaning.specs.Place.{Frame, MadeBlock}
 use Rattle.tree_meaning.specs.Operands.{ValueRun}
 use Rattle.tree_meaning.specs.Meaning.{Outside}

@@ -2,10 +2,10 @@
 use Rattle.std.specs.Prelude.{◌≡◌, ℕ, suc, ◌<◌, List, Some, Result, Ok, Err}
 use Rattle.std.specs.declared.alloc.AllocError.{AllocError}
 use Rattle.gem_object.specs.declared.value.Value.{Value}
-use Rattle.object_programs.specs.Atom.{Tick}
-use Rattle.object_programs.specs.Local.{Local}
-use Rattle.object_programs.specs.Run.{gives, returns, fails, State}
-use Rattle.object_programs.specs.declared.fault.Fault.TheVariants as fault
+use Rattle.tree_meaning.specs.object_programs.Atom.{Tick}
+use Rattle.tree_meaning.specs.object_programs.Local.{Local}
+use Rattle.tree_meaning.specs.object_programs.Run.{gives, returns, fails, State}
+use Rattle.tree_meaning.specs.object_programs.declared.fault.Fault.TheVariants as fault
 use Rattle.running_objects.specs.Acted.{Acted}
 use Rattle.running_objects.specs.Seen.{Seen, with_local}
 use Rattle.running_objects.specs.declared.stop.Stop.{Stop}

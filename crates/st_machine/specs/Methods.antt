@@ -1,10 +1,10 @@
 -- Sources of methods, and the code that is kept of them.
 use Rattle.std.specs.Prelude.{◌≡◌, Bool, true, false, List, [], ◌∷◌, cond, take, bytes_eq, Option, None, Some, Result, Ok, Err, Contains}
 use Rattle.std.specs.declared.alloc.AllocError.{AllocError}
-use Rattle.texts.specs.Bytes.{Bytes as Text}
+use Rattle.gem_object.specs.texts.Bytes.{Bytes as Text}
 use Rattle.st_tree.specs.Trees.{Program}
-use Rattle.st_grammar.specs.Grammar.{method}
-use Rattle.st_grammar_laws.specs.TreeOf.{TextFault, tree_of}
+use Rattle.gem_sound.specs.st_grammar.Grammar.{method}
+use Rattle.gem_sound.specs.st_grammar_laws.TreeOf.{TextFault, tree_of}
 use Rattle.gem_object.specs.declared.body.MethodCode.{MethodCode}
 use Rattle.gem_object.specs.declared.body.MethodCode.TheVariants.{Source, Primitive}
 use Rattle.gem_language.specs.Commands.{selector_of}

@@ -1,6 +1,6 @@
 -- Texts that run by their code, and the blocks that are pushed in them.
 use Rattle.std.specs.Prelude.{ℕ, ◌<◌, List, [], length, get_or, true, Option, None, Some}
-use Rattle.texts.specs.Bytes.{Bytes as Text}
+use Rattle.gem_object.specs.texts.Bytes.{Bytes as Text}
 use Rattle.st_tree.specs.Trees.{closure, no_statements, Program}
 use Rattle.tree_meaning.specs.Place.{Frame, MadeBlock}
 use Rattle.tree_meaning.specs.Operands.{ValueRun}

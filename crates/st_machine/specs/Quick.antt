@@ -3,7 +3,7 @@ use Rattle.std.specs.Prelude.{◌≡◌, ℕ, Bool, nat_eq, cond, List, [], ◌�
 use Rattle.st_tree.specs.Trees.{Program}
 use Rattle.gem_object.specs.declared.value.Value.{Value}
 use Rattle.gem_object.specs.declared.value.Value.TheVariants as value
-use Rattle.object_programs.specs.Run.{give}
+use Rattle.tree_meaning.specs.object_programs.Run.{give}
 use Rattle.tree_meaning.specs.Place.{Frame}
 use Rattle.tree_meaning.specs.Operands.{ValueRun}
 use Rattle.gem_language.specs.OutOfScope.{read_out_of_scope}

@@ -1,18 +1,18 @@
 -- What answers a message, and what it comes to.
 use Rattle.std.specs.Prelude.{◌≡◌, ◌∷◌, false, reverse, Option, None, Some, List, Result, Ok, Err}
-use Rattle.texts.specs.Bytes.{Bytes as Text}
+use Rattle.gem_object.specs.texts.Bytes.{Bytes as Text}
 use Rattle.st_tree.specs.Trees.{Program}
-use Rattle.st_grammar.specs.Grammar.{method}
-use Rattle.st_grammar_laws.specs.TreeOf.{TextFault, tree_of}
+use Rattle.gem_sound.specs.st_grammar.Grammar.{method}
+use Rattle.gem_sound.specs.st_grammar_laws.TreeOf.{TextFault, tree_of}
 use Rattle.gem_object.specs.declared.value.Value.{Value}
 use Rattle.gem_object.specs.declared.body.MethodCode.{MethodCode}
 use Rattle.gem_object.specs.declared.body.MethodCode.TheVariants.{Source, Primitive as by_primitive}
-use Rattle.object_programs.specs.Local.{Local}
-use Rattle.object_programs.specs.Run.{Run, fail, and_then}
-use Rattle.object_programs.specs.declared.fault.Fault.TheVariants as fault
+use Rattle.tree_meaning.specs.object_programs.Local.{Local}
+use Rattle.tree_meaning.specs.object_programs.Run.{Run, fail, and_then}
+use Rattle.tree_meaning.specs.object_programs.declared.fault.Fault.TheVariants as fault
 use Rattle.tree_meaning.specs.Place.{Frame, MadeBlock}
 use Rattle.tree_meaning.specs.Operands.{ValueRun}
-use Rattle.prim_rules.specs.Rules.{rule_of}
+use Rattle.gem_language.specs.prim_rules.Rules.{rule_of}
 use Rattle.gem_language.specs.declared.found.Found.{Found}
 use Rattle.gem_language.specs.Commands.{selector_of}
 use Rattle.gem_language.specs.LookUp.{find_method}

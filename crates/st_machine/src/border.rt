@@ -2,11 +2,11 @@
 //! variables at hand, which they leave as they are. A frame here has no scopes: those of the
 //! activation that runs stand on a stack, and nothing here asks for them.
 ghost use Rattle.std.specs.Prelude.{◌≡◌, true, false, Ok, IfSome};
-ghost use Rattle.object_programs.specs.Atom.{Tick};
-ghost use Rattle.object_programs.specs.Budget.{Budget};
-ghost use Rattle.object_programs.specs.Run.{atom};
-ghost use Rattle.prim_rules.specs.Rules.{rule_of};
-ghost use Rattle.prim_rules.specs.Printing.{print_text};
+ghost use Rattle.tree_meaning.specs.object_programs.Atom.{Tick};
+ghost use Rattle.tree_meaning.specs.object_programs.Budget.{Budget};
+ghost use Rattle.tree_meaning.specs.object_programs.Run.{atom};
+ghost use Rattle.gem_language.specs.prim_rules.Rules.{rule_of};
+ghost use Rattle.gem_language.specs.prim_rules.Printing.{print_text};
 ghost use Rattle.gem_language.specs.LookUp.{find_method};
 ghost use Rattle.gem_language.specs.OutOfScope.{read_out_of_scope, write_out_of_scope};
 ghost use Rattle.gem_language.specs.Literals.{literal_value};
@@ -21,12 +21,11 @@ use crate::layers::Layers;
 use crate::locals::Locals;
 use crate::outline::Outline;
 use gem_language::Found;
-use gem_object::Value;
-use prim_rules::PrimitiveAnswer;
+use gem_object::{Text, Value};
+use prim_parts::PrimitiveAnswer;
 use running_objects::{Objects, Stop};
 use st_tree::Literal;
 use std::alloc::Global;
-use texts::Text;
 use tree_meaning::Mark;
 
 /// Takes a unit: E13 where none is left.
@@ -100,7 +99,7 @@ pub(crate) fn primitive<O: Objects>(
     ensures { Ran (rule_of number receiver.now arguments.now) (O.seen objects.old) locals.now
         result (O.seen objects.new) locals.now }
 {
-    st_plain::call_primitive(alloc, objects, number, receiver, arguments)
+    prim_calls::call(alloc, objects, number, receiver, arguments)
 }
 
 /// The value of a name that is no variable in scope.
@@ -155,5 +154,5 @@ pub(crate) fn print<O: Objects>(
     ensures { Ran (print_text value.now) (O.seen objects.old) locals.now result
         (O.seen objects.new) locals.now }
 {
-    prim_classes::print_text(alloc, objects, value)
+    st_commands::print_value(alloc, objects, value)
 }

@@ -4,13 +4,13 @@ ghost use Rattle.std.specs.Map.{lookup};
 ghost use Rattle.st_machine.specs.Methods.{is_kept, sources, AllAreCode, IsMethodOf, UsedBy};
 
 use crate::shared_code::SharedCode;
+use gem_object::Text;
 use lru::LruCache;
 use st_compiler::compile;
 use st_parser::{ParseFault, parse_method};
 use std::alloc::{AllocError, Global};
 use std::marker::Model;
 use std::num::NonZeroUsize;
-use texts::Text;
 
 /// How many sources are kept.
 const SOURCES: usize = 256;
@@ -24,7 +24,7 @@ pub struct CodeCache {
 
 impl Model for CodeCache {
     ghost use Rattle.std.specs.Prelude.{List, ◌≡◌};
-    ghost use Rattle.texts.specs.Bytes.{Bytes};
+    ghost use Rattle.gem_object.specs.texts.Bytes.{Bytes};
     ghost use Rattle.st_machine.specs.Methods.{sources, AllAreCode};
 
     ghost Value = { List Bytes };

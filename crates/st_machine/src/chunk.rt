@@ -2,7 +2,7 @@
 ghost use Rattle.std.specs.Prelude.{◌≡◌, [], false, length, None};
 ghost use Rattle.gem_object.specs.declared.value.Value.TheVariants.{Nil};
 ghost use Rattle.gem_sound.specs.declared.names.TheConstants.{UNDEFINED_OBJECT_CLASS};
-ghost use Rattle.object_programs.specs.Local.{Local, nothing};
+ghost use Rattle.tree_meaning.specs.object_programs.Local.{Local, nothing};
 ghost use Rattle.tree_meaning.specs.Place.{MadeBlock};
 ghost use Rattle.tree_meaning.specs.Bodies.{chunk_body};
 ghost use Rattle.tree_meaning.specs.Calls.{activation};
@@ -17,11 +17,9 @@ use crate::locals::Locals;
 use crate::machine::run_inside;
 use crate::outline::Outline;
 use crate::shared_code::{Part, SharedCode};
-use gem_object::Value;
+use gem_object::{Oid, Value};
 use gem_sound::names::UNDEFINED_OBJECT_CLASS;
-use gem_value::Oid;
-use object_programs::ACTIVATION_LIMIT;
-use running_objects::Stop;
+use running_objects::{ACTIVATION_LIMIT, Stop};
 use std::alloc::Global;
 
 /// How many activations may begin in a chunk, which is the first one itself.

@@ -1,6 +1,6 @@
 //! Objects that remember which methods answer which messages.
 ghost use Rattle.std.specs.Prelude.{◌≡◌, false, List, Option, Ok, IfSome, option_copied};
-ghost use Rattle.object_programs.specs.Budget.{Budget};
+ghost use Rattle.tree_meaning.specs.object_programs.Budget.{Budget};
 ghost use Rattle.gem_language.specs.declared.found.Found.{Found as AFound};
 ghost use Rattle.gem_language.specs.LookUp.{find_method};
 ghost use Rattle.prim_parts.specs.Does.{Does};
@@ -10,11 +10,10 @@ ghost use Rattle.st_machine.specs.Methods.{IsCodeOf};
 
 use crate::shared_code::SharedCode;
 use gem_language::Found;
-use gem_object::Value;
+use gem_object::{Text, Value};
 use look_up_cache::{KnownObjects, MethodCodeKept};
 use running_objects::{Objects, Stop};
 use st_locals::Frame;
-use texts::Text;
 
 /// Objects of which it is remembered which methods answer which messages, with the code of these.
 pub trait FindsMethods: Objects {

@@ -2,7 +2,7 @@
 //! answers by one push that asks no objects.
 ghost use Rattle.std.specs.Prelude.{◌≡◌, ◌<◌, ◌∷◌, true, false, suc, length, get_or, take, drop, IfOk, IfSome, IfNone};
 ghost use Rattle.gem_object.specs.declared.value.Value.TheVariants.{Nil};
-ghost use Rattle.object_programs.specs.Budget.{Budget};
+ghost use Rattle.tree_meaning.specs.object_programs.Budget.{Budget};
 ghost use Rattle.gem_language.specs.Sends.{outside, callee};
 ghost use Rattle.running_objects.specs.Seen.{Keeps};
 ghost use Rattle.look_up_cache.specs.Memory.{with_budget};
@@ -23,10 +23,9 @@ use crate::outline::Outline;
 use crate::quick::quick_instr;
 use crate::shared_code::SharedCode;
 use crate::units::spend_unit;
-use gem_object::{MethodCode, Value};
+use gem_object::{MethodCode, Text, Value};
 use st_compiler::Instr;
 use std::alloc::AllocError;
-use texts::Text;
 use tree_meaning::Mark;
 
 /// Sends a message with so many arguments, where its answer is known. None where it isn't: then all

@@ -32,7 +32,7 @@ mod units;
 
 pub use cache::CodeCache;
 pub use chunk::run_chunk;
-pub use command::{print_value, run_command, run_text};
+pub use command::{run_command, run_text};
 pub use finds::FindsMethods;
 pub use look_up_cache::KnownObjects;
 pub use shared_code::SharedCode;

@@ -1,7 +1,7 @@
 //! Variables, made blocks and activations.
 ghost use Rattle.std.specs.Prelude.{◌≡◌, ◌<◌, ◌≤◌, ◌++◌, ℕ, ◌∷◌, [], length, get_or, set, reverse, take, drop, replicate, slice_get, option_copied, IfOk, OnOk, OnErr};
 ghost use Rattle.gem_object.specs.declared.value.Value.TheVariants.{Nil};
-ghost use Rattle.object_programs.specs.Local.{nothing};
+ghost use Rattle.tree_meaning.specs.object_programs.Local.{nothing};
 ghost use Rattle.st_machine.specs.Variables.{more_nils};
 ghost use Rattle.tree_meaning.specs.Place.{MadeBlock as TreeBlock};
 ghost use Rattle.tree_meaning.specs.Scopes.{mark, open_scope, begin_method, is_living, end_living, give_back, with_value};
@@ -26,7 +26,7 @@ pub(crate) struct Locals {
 impl Model for Locals {
     ghost use Rattle.gem_object.specs.contracts.value.Value as value;
     ghost use Rattle.tree_meaning.specs.contracts.place.Mark as mark;
-    ghost use Rattle.object_programs.specs.Local.{Local};
+    ghost use Rattle.tree_meaning.specs.object_programs.Local.{Local};
     ghost use Rattle.tree_meaning.specs.Place.{MadeBlock as TreeBlock};
     ghost use Rattle.st_locals.specs.Codes.{local_code};
 

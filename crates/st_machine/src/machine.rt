@@ -9,8 +9,8 @@ ghost use Rattle.std.specs.Prelude.{◌≡◌, ◌<◌, [], ◌∷◌, suc, leng
 ghost use Rattle.gem_object.specs.declared.value.Value.TheVariants.{Nil};
 ghost use Rattle.tree_meaning.specs.Bodies.{params_count, temps_count, method_body, block_body};
 ghost use Rattle.tree_meaning.specs.Calls.{activation, evaluation, call_block_at};
-ghost use Rattle.object_programs.specs.Run.{and_then};
-ghost use Rattle.prim_rules.specs.Rules.{rule_of};
+ghost use Rattle.tree_meaning.specs.object_programs.Run.{and_then};
+ghost use Rattle.gem_language.specs.prim_rules.Rules.{rule_of};
 ghost use Rattle.gem_language.specs.Commands.{selector_of};
 ghost use Rattle.gem_language.specs.Sends.{outside, callee, send_by, primitive_value};
 ghost use Rattle.running_objects.specs.Seen.{Keeps};
@@ -39,14 +39,11 @@ use crate::scopes::put_scopes;
 use crate::shared_code::{Part, SharedCode};
 use crate::target::{Target, target_of};
 use crate::turns::turn;
-use gem_object::Value;
-use gem_value::Oid;
-use object_programs::Fault;
-use prim_rules::PrimitiveAnswer;
-use running_objects::Stop;
+use gem_object::{Oid, Text, Value};
+use prim_parts::PrimitiveAnswer;
+use running_objects::{Fault, Stop};
 use st_compiler::Instr;
 use std::alloc::Global;
-use texts::Text;
 use tree_meaning::Mark;
 
 /// Runs a part of a text, from its first instruction to its end. The activation that runs has

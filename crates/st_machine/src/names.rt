@@ -15,10 +15,9 @@ use crate::outline::Outline;
 use crate::places::next_of;
 use crate::scopes::scope_number;
 use crate::shared_code::SharedCode;
-use gem_object::{BlockRef, Value};
+use gem_object::{BlockRef, Text, Value};
 use running_objects::{Objects, Stop};
 use std::alloc::{AllocError, Global};
-use texts::Text;
 use tree_meaning::Mark;
 
 /// Puts a variable.

@@ -1,8 +1,7 @@
 //! Frames without scopes.
 ghost use Rattle.std.specs.Prelude.{◌≡◌, []};
 
-use gem_object::Value;
-use gem_value::Oid;
+use gem_object::{Oid, Value};
 use st_locals::{Frame, frame_without_scopes};
 use std::alloc::{AllocError, Global};
 use std::marker::Model;

@@ -12,8 +12,7 @@ use crate::locals::Locals;
 use crate::outline::Outline;
 use crate::shared_code::SharedCode;
 use gem_object::Value;
-use object_programs::Fault;
-use running_objects::{Objects, Stop};
+use running_objects::{Fault, Objects, Stop};
 use tree_meaning::Mark;
 
 /// Takes the only value of the activation that runs; None where it has none, or more.

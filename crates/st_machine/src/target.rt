@@ -13,11 +13,9 @@ use crate::locals::Locals;
 use crate::outline::Outline;
 use crate::shared_code::SharedCode;
 use gem_language::Found;
-use gem_object::{MethodCode, Value};
-use gem_value::Oid;
+use gem_object::{MethodCode, Oid, Text, Value};
 use running_objects::{Objects, Stop};
 use std::alloc::{AllocError, Global};
-use texts::Text;
 use tree_meaning::Mark;
 
 /// What answers a message.

@@ -6,7 +6,7 @@ use Rattle.st_tree.specs.Views.{constant_of}
 use Rattle.st_tree.specs.declared.nodes.Literal.{Literal}
 use Rattle.gem_object.specs.declared.value.Value.{Value}
 use Rattle.object_programs.specs.Run.{Run}
-use Rattle.tree_meaning.specs.Place.{MadeBlock}
+use Rattle.gem_language.specs.tree_meaning.Place.{MadeBlock}
 use Rattle.running_objects.specs.Seen.{Seen}
 use Rattle.running_objects.specs.declared.stop.Stop.{Stop}
 use Rattle.gem_language.specs.Literals.{constant_value, constant_values}

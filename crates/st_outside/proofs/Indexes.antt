@@ -2,12 +2,12 @@
 use Rattle.std.proofs.Common.{◌≡◌, refl, sym, ap, ◌∙◌, subst, ℕ, suc, ◌+◌, ◌*◌, ◌^◌, ◌-◌, ◌<◌, ◌≤◌, Bool, true, false, cond, length, List, [], ◌∷◌, ◌++◌, Option, Some, None, IfSome, is_some, option_map, option_and_then, Result, Ok, Err, arith}
 use Rattle.std.specs.Prelude.{bytes_eq}
 use Rattle.std.proofs.lemmas.List.Sums.{sum_by-cons}
-use Rattle.texts.specs.Bytes.{Bytes as Text}
+use Rattle.gem_object.specs.texts.Bytes.{Bytes as Text}
 use Rattle.gem_object.specs.declared.body.ClassBody.{ClassBody}
 use Rattle.gem_object.specs.declared.body.Body.{Body}
 use Rattle.gem_object.specs.declared.body.Body.TheVariants.{Class}
-use Rattle.gem_image.specs.Image.{Contents}
-use Rattle.gem_world.specs.Access.{a_read}
+use Rattle.gem_sound.specs.gem_image.Image.{Contents}
+use Rattle.object_programs.specs.gem_world.Access.{a_read}
 use Rattle.gem_sound.specs.Parts.{class_of}
 use Rattle.object_programs.specs.Fixed.{ClassPart, class_part, fixed_of}
 use Rattle.object_programs.specs.Guard.{chain_limit}
@@ -15,8 +15,8 @@ use Rattle.object_programs.specs.Atom.{Ask}
 use Rattle.object_programs.specs.Run.{Run, give, and_then}
 use Rattle.object_programs.specs.Programs.{read, part_of}
 use Rattle.object_programs.specs.declared.fault.Fault.TheVariants as fault
-use Rattle.tree_meaning.specs.Place.{MadeBlock}
-use Rattle.tree_meaning.specs.Names.{index_of}
+use Rattle.gem_language.specs.tree_meaning.Place.{MadeBlock}
+use Rattle.gem_language.specs.tree_meaning.Names.{index_of}
 use Rattle.running_objects.specs.Seen.{Seen, object_at, IsSoundState}
 use Rattle.running_objects.specs.Acted.{Acted, Reached}
 use Rattle.running_objects.specs.declared.stop.Stop.{Stop}

@@ -7,8 +7,8 @@ use Rattle.std.specs.declared.cmp.Ordering.TheVariants.{Less, Equal, Greater}
 use Rattle.std.proofs.lemmas.Bool.{and_parts, and_from}
 use Rattle.std.proofs.lemmas.List.{drop_more, set_split}
 use Rattle.std.proofs.lemmas.List.Sums.{sum_by-cons}
-use Rattle.texts.specs.Bytes.{Bytes as Text}
-use Rattle.profile.specs.declared.limits.TheConstants.{SYMBOL_LIMIT}
+use Rattle.gem_object.specs.texts.Bytes.{Bytes as Text}
+use Rattle.gem_object.specs.texts.declared.limits.TheConstants.{SYMBOL_LIMIT}
 use Rattle.gem_object.specs.declared.body.MethodCode.TheVariants.{Source}
 use Rattle.gem_object.specs.declared.body.Method.{Method}
 use Rattle.gem_object.specs.declared.body.ClassBody.{ClassBody}
@@ -16,8 +16,8 @@ use Rattle.gem_object.specs.declared.body.Body.{Body}
 use Rattle.gem_object.specs.declared.body.Body.TheVariants as body
 use Rattle.gem_object.specs.Sizes.{method_size, fields_size}
 use Rattle.gem_object.specs.Slots.{slots_of}
-use Rattle.gem_world.specs.Changes.{with_body}
-use Rattle.gem_image.specs.Image.{Contents}
+use Rattle.object_programs.specs.gem_world.Changes.{with_body}
+use Rattle.gem_sound.specs.gem_image.Image.{Contents}
 use Rattle.gem_sound.specs.Sound.{names_in}
 use Rattle.gem_sound.specs.Parts.{class_of}
 use Rattle.object_programs.specs.Budget.{bytes_cost, is_within_limits}
@@ -27,7 +27,7 @@ use Rattle.object_programs.specs.Methods.{answers_to, is_source_of, method_fits,
 use Rattle.object_programs.specs.declared.limits.TheConstants.{SLOTS_LIMIT, BYTES_LIMIT}
 use Rattle.object_programs.specs.Atom.{Room, Put}
 use Rattle.object_programs.specs.Run.{Run, atom, and_then}
-use Rattle.tree_meaning.specs.Place.{MadeBlock}
+use Rattle.gem_language.specs.tree_meaning.Place.{MadeBlock}
 use Rattle.object_programs.specs.Programs.{need, check, replace_body}
 use Rattle.object_programs.specs.declared.fault.Fault.TheVariants as fault
 use Rattle.running_objects.specs.Seen.{Seen, object_at, IsSoundState}
@@ -38,8 +38,8 @@ use Rattle.prim_parts.specs.Does.{Does}
 use Rattle.prim_parts.specs.Walks.{parts_seen}
 use Rattle.prim_parts.proofs.Does.{does_stop, does_fail, computes_then, computes_give}
 use Rattle.st_outside.specs.Written.{put_in_class}
-use Rattle.st_grammar.specs.Grammar.{method}
-use Rattle.st_grammar_laws.specs.TreeOf.{tree_of}
+use Rattle.gem_sound.specs.st_grammar.Grammar.{method}
+use Rattle.gem_sound.specs.st_grammar_laws.TreeOf.{tree_of}
 
 -- ---- where it comes
 

@@ -1,16 +1,16 @@
 -- Names out of scope, by the slot of the instance variable of this name.
 use Rattle.std.proofs.Common.{◌≡◌, sym, subst, ℕ, Bool, true, false, nat_lt, Option, Some, None, Result, Ok, Err}
 use Rattle.std.specs.Result.{IsErrAnd}
-use Rattle.texts.specs.Bytes.{Bytes as Text}
+use Rattle.gem_object.specs.texts.Bytes.{Bytes as Text}
 use Rattle.gem_object.specs.Edits.{plain_slots, with_slot}
 use Rattle.gem_object.specs.declared.value.Value.{Value}
-use Rattle.gem_image.specs.Image.{Contents}
+use Rattle.gem_sound.specs.gem_image.Image.{Contents}
 use Rattle.object_programs.specs.Run.{Run, give, and_then}
 use Rattle.object_programs.specs.Programs.{check, replace_body}
 use Rattle.object_programs.specs.declared.fault.Fault.TheVariants as fault
-use Rattle.prim_rules.specs.Receivers.{check_stored}
-use Rattle.tree_meaning.specs.Place.{Frame, MadeBlock}
-use Rattle.tree_meaning.specs.Names.{index_of}
+use Rattle.gem_language.specs.prim_rules.Receivers.{check_stored}
+use Rattle.gem_language.specs.tree_meaning.Place.{Frame, MadeBlock}
+use Rattle.gem_language.specs.tree_meaning.Names.{index_of}
 use Rattle.running_objects.specs.Seen.{Seen}
 use Rattle.running_objects.specs.declared.stop.Stop.{Stop}
 use Rattle.gem_language.specs.OutOfScope.{instance_names, slot_of, instance_value, set_instance_value, put_in_slot, value_of_name, read_out_of_scope, assign_name, write_out_of_scope}

@@ -1,19 +1,19 @@
 -- The walk of a look-up over the classes of one side.
 use Rattle.std.proofs.Common.{◌≡◌, refl, sym, ap, ◌∙◌, subst, ℕ, zero, suc, ◌-◌, ◌<◌, Bool, Option, Some, None, option_and_then, Result, Err, arith}
 use Rattle.std.specs.Result.{IsErrAnd}
-use Rattle.texts.specs.Bytes.{Bytes as Text}
+use Rattle.gem_object.specs.texts.Bytes.{Bytes as Text}
 use Rattle.gem_object.specs.declared.body.MethodCode.{MethodCode}
 use Rattle.gem_object.specs.declared.body.ClassBody.{ClassBody}
-use Rattle.gem_image.specs.Image.{Contents}
-use Rattle.gem_world.specs.World.{Setting}
-use Rattle.gem_world.specs.Access.{Access, a_read}
+use Rattle.gem_sound.specs.gem_image.Image.{Contents}
+use Rattle.object_programs.specs.gem_world.World.{Setting}
+use Rattle.object_programs.specs.gem_world.Access.{Access, a_read}
 use Rattle.gem_sound.specs.Parts.{class_of}
 use Rattle.object_programs.specs.Guard.{chain_limit}
 use Rattle.object_programs.specs.Atom.{Ask}
 use Rattle.object_programs.specs.Run.{give, and_then, Ending, gives, returns, fails, State, Outcome, onward, perform}
 use Rattle.object_programs.specs.Programs.{read}
 use Rattle.object_programs.specs.declared.fault.Fault.TheVariants as fault
-use Rattle.tree_meaning.specs.Place.{MadeBlock}
+use Rattle.gem_language.specs.tree_meaning.Place.{MadeBlock}
 use Rattle.running_objects.specs.Seen.{Seen, object_at, with_local}
 use Rattle.running_objects.specs.Ran.{EndsSo}
 use Rattle.running_objects.specs.Acted.{Acted, Reached}

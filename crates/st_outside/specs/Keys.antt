@@ -1,6 +1,6 @@
 -- Keys of globals.
 use Rattle.std.specs.Prelude.{◌≡◌}
-use Rattle.texts.specs.Bytes.{Bytes as Text}
+use Rattle.gem_object.specs.texts.Bytes.{Bytes as Text}
 use Rattle.gem_object.specs.declared.value.Value.{Value}
 use Rattle.gem_object.specs.declared.value.Value.TheVariants.{Sym}
 

@@ -1,7 +1,7 @@
 -- Where a name stands among names that are gone through from the last ones to the first.
 use Rattle.std.specs.Prelude.{ℕ, ◌+◌, length, List, Option, None, Some, option_map}
-use Rattle.texts.specs.Bytes.{Bytes as Text}
-use Rattle.tree_meaning.specs.Names.{index_of}
+use Rattle.gem_object.specs.texts.Bytes.{Bytes as Text}
+use Rattle.gem_language.specs.tree_meaning.Names.{index_of}
 
 -- the one index, or else the other one
 abbrev pub or_further : Option ℕ → Option ℕ → Option ℕ

@@ -1,15 +1,15 @@
 -- A class that was written gets a method.
 use Rattle.std.specs.Prelude.{ℕ, Bool, nat_le, length}
-use Rattle.texts.specs.Bytes.{Bytes as Text}
-use Rattle.profile.specs.declared.limits.TheConstants.{SYMBOL_LIMIT}
+use Rattle.gem_object.specs.texts.Bytes.{Bytes as Text}
+use Rattle.gem_object.specs.texts.declared.limits.TheConstants.{SYMBOL_LIMIT}
 use Rattle.gem_object.specs.declared.body.Method.{Method}
 use Rattle.gem_object.specs.declared.body.Body.TheVariants as body
-use Rattle.gem_image.specs.Image.{Contents}
+use Rattle.gem_sound.specs.gem_image.Image.{Contents}
 use Rattle.object_programs.specs.Budget.{bytes_cost}
 use Rattle.object_programs.specs.Run.{Run, and_then}
 use Rattle.object_programs.specs.Programs.{need, check, replace_body}
 use Rattle.object_programs.specs.declared.fault.Fault.TheVariants as fault
-use Rattle.tree_meaning.specs.Place.{MadeBlock}
+use Rattle.gem_language.specs.tree_meaning.Place.{MadeBlock}
 use Rattle.gem_sound.specs.Parts.{class_of}
 use Rattle.gem_language.specs.Install.{class_with}
 

@@ -3,8 +3,7 @@ ghost use Rattle.std.specs.Prelude.{◌≡◌, option_and_then, option_copied};
 ghost use Rattle.gem_sound.specs.Parts.{class_of};
 ghost use Rattle.running_objects.specs.Seen.{object_at};
 
-use gem_object::{Body, ClassBody};
-use gem_value::Oid;
+use gem_object::{Body, ClassBody, Oid};
 use running_objects::Objects;
 
 /// So many classes are gone through at most: more than there are names.

@@ -8,14 +8,12 @@ ghost use Rattle.gem_language.specs.OutOfScope.{global_at, own_globals, own_glob
 ghost use Rattle.st_outside.specs.Keys.{OfSymbol};
 ghost use Rattle.prim_parts.specs.Does.{Does, Computes};
 
-use gem_object::{Body, Value};
-use gem_value::Oid;
+use gem_object::{Body, Oid, Text, Value};
+use gem_sound::names::GLOBALS;
 use object_programs::Fault;
 use prim_parts::kernel_name;
-use profile::GLOBALS_COUNTER;
 use running_objects::{Objects, Stop};
 use std::alloc::AllocError;
-use texts::Text;
 
 /// A copy of the value of the global of this name: among the user's own globals, and then in
 /// Globals; E2 where there is none. A dictionary is read where it is looked into: E10 where the
@@ -84,7 +82,7 @@ fn or_in_globals<O: Objects>(
 {
     match found {
         Some(value) => Ok(Some(value)),
-        None => global_at(objects, key, kernel_name(GLOBALS_COUNTER)),
+        None => global_at(objects, key, kernel_name(GLOBALS)),
     }
 }
 

@@ -1,24 +1,21 @@
 //! Instance variables.
 ghost use Rattle.std.specs.Prelude.{◌≡◌, ◌≤◌, ◌^◌, ◌*◌, Some, IfSome, length, option_copied};
 ghost use Rattle.gem_object.specs.Edits.{plain_slots, slot_at};
-ghost use Rattle.gem_image.specs.Image.{Contents};
+ghost use Rattle.gem_sound.specs.gem_image.Image.{Contents};
 ghost use Rattle.object_programs.specs.Run.{give, and_then};
 ghost use Rattle.object_programs.specs.Programs.{need};
 ghost use Rattle.object_programs.specs.declared.fault.Fault.TheVariants as fault;
 ghost use Rattle.running_objects.specs.Seen.{object_at};
-ghost use Rattle.tree_meaning.specs.Names.{index_of};
+ghost use Rattle.gem_language.specs.tree_meaning.Names.{index_of};
 ghost use Rattle.gem_language.specs.OutOfScope.{instance_names, instance_value, set_instance_value, put_in_slot};
 ghost use Rattle.st_outside.specs.Names.{first_in};
 ghost use Rattle.prim_parts.specs.Does.{Does, Computes};
 
 use crate::classes::{CHAIN_STEPS, class_at};
-use crate::references::reference_of;
-use gem_object::{Body, Value};
-use gem_value::Oid;
+use gem_object::{Body, Oid, Text, Value};
 use object_programs::Fault;
-use prim_parts::{check, check_stored, replace_slot};
+use prim_parts::{check, check_stored, reference_in, replace_slot};
 use running_objects::{Objects, Stop};
-use texts::Text;
 
 /// Where a name stands first among those of the instance variables of a class, the inherited ones
 /// first. The classes from this one up are read. It takes no memory.
@@ -86,7 +83,7 @@ pub(crate) fn instance_value<O: Objects>(
     ensures { Does (instance_value receiver.now slot) (O.seen objects.old) result
         (O.seen objects.new) }
 {
-    let name = reference_of(receiver)?;
+    let name = reference_in(receiver)?;
     objects.read(name)?;
     let Some(object) = objects.object(name) else {
         unreachable!()
@@ -125,7 +122,7 @@ pub(crate) fn set_instance_value<O: Objects>(
     ensures { Does (set_instance_value receiver.now slot value) (O.seen objects.old) result
         (O.seen objects.new) }
 {
-    let name = reference_of(receiver)?;
+    let name = reference_in(receiver)?;
     objects.write(name)?;
     put_in_slot(objects, name, slot, value)
 }
@@ -155,16 +152,7 @@ fn slots_of<O: Objects>(objects: &O, name: Oid) -> usize
         → result ≡ plain_slots object.body }
 {
     match objects.object(name) {
-        Some(object) => plain_slots(&object.body),
+        Some(object) => object.body.plain_slots(),
         None => 0,
-    }
-}
-
-fn plain_slots(body: &Body) -> usize
-    ensures { result ≡ plain_slots body.now }
-{
-    match body {
-        Body::Plain(values) => values.len(),
-        _ => 0,
     }
 }

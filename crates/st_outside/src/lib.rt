@@ -10,7 +10,6 @@ mod literals;
 mod look_up;
 mod methods;
 mod names;
-mod references;
 
 pub use globals::global_value;
 pub use literals::literal;

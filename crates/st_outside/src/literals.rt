@@ -5,16 +5,13 @@ ghost use Rattle.st_tree.specs.Views.{constant_of};
 ghost use Rattle.gem_language.specs.Literals.{has_symbols, have_symbols, constant_value, constant_values, literal_value};
 ghost use Rattle.prim_parts.specs.Does.{Does};
 
-use gem_object::{Body, Value, Values};
+use gem_object::{Body, SYMBOL_LIMIT, Sequence, Text, Value, Values};
 use gem_sound::names::{ARRAY_CLASS, STRING_CLASS};
-use gem_value::Sequence;
 use object_programs::Fault;
 use prim_parts::{check, kernel_name, new_object};
-use profile::SYMBOL_LIMIT;
 use running_objects::{Objects, Stop};
 use st_tree::Literal;
 use std::alloc::Global;
-use texts::Text;
 
 /// The value of a literal: a string and an array are new objects in the user's default segment, an
 /// array's elements before it. E17 before anything is made where a symbol has more than 1,000

@@ -8,15 +8,13 @@ ghost use Rattle.prim_parts.specs.Does.{Does};
 
 use crate::classes::{CHAIN_STEPS, class_at};
 use gem_language::Found;
-use gem_object::{Body, ClassBody, Method, MethodCode, Value};
+use gem_object::{Body, ClassBody, Method, MethodCode, Oid, Text, Value};
 use gem_sound::names::CLASS_CLASS;
-use gem_value::Oid;
 use object_programs::Fault;
 use prim_parts::{class_of_plain, kernel_name};
 use running_objects::{Objects, Stop};
 use st_locals::Frame;
 use std::marker::Model;
-use texts::Text;
 
 // Where a look-up begins: at this class on this side, or past the last one.
 #[derive(Drop)]

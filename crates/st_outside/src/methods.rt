@@ -1,11 +1,11 @@
 //! Methods that are put into classes.
 ghost use Rattle.std.specs.Prelude.{◌≡◌, true, is_some, length, nat_le, IfOk, OnOk, Some};
-ghost use Rattle.profile.specs.declared.limits.TheConstants.{SYMBOL_LIMIT};
-ghost use Rattle.st_grammar.specs.Grammar.{method};
-ghost use Rattle.st_grammar_laws.specs.TreeOf.{tree_of};
+ghost use Rattle.gem_object.specs.texts.declared.limits.TheConstants.{SYMBOL_LIMIT};
+ghost use Rattle.gem_sound.specs.st_grammar.Grammar.{method};
+ghost use Rattle.gem_sound.specs.st_grammar_laws.TreeOf.{tree_of};
 ghost use Rattle.gem_object.specs.declared.body.MethodCode.TheVariants.{Source};
 ghost use Rattle.gem_object.specs.declared.body.Body.TheVariants.{Class};
-ghost use Rattle.gem_image.specs.Image.{Contents};
+ghost use Rattle.gem_sound.specs.gem_image.Image.{Contents};
 ghost use Rattle.object_programs.specs.Budget.{bytes_cost};
 ghost use Rattle.object_programs.specs.Fixed.{class_part};
 ghost use Rattle.object_programs.specs.Methods.{answers_to};
@@ -17,16 +17,12 @@ ghost use Rattle.prim_parts.specs.Does.{Does};
 
 use crate::classes::class_at;
 use crate::globals::global_value;
-use crate::references::reference_of;
-use gem_object::{Body, ClassBody, Method, MethodCode, Methods, Value};
-use gem_value::Oid;
-use object_programs::{BYTES_LIMIT, Fault};
-use prim_parts::{check, replace_body};
-use profile::SYMBOL_LIMIT;
+use gem_object::{Body, ClassBody, Method, MethodCode, Methods, Oid, SYMBOL_LIMIT, Text, Value};
+use object_programs::{BYTES_LIMIT, Fault, bytes_cost};
+use prim_parts::{check, reference_in, replace_body};
 use running_objects::{Objects, Stop};
 use std::alloc::AllocError;
 use std::cmp::Ordering;
-use texts::Text;
 
 /// Puts the source of a method with this selector into the class that a global names, on its class
 /// side or not: it takes the place of one with the selector. E2 where there is no such global, and
@@ -53,7 +49,7 @@ pub fn install<O: Objects>(
 fn class_named<O: Objects>(objects: &mut O, value: &Value) -> Result<Oid, Stop>
     ensures { Does (class_named value.now) (O.seen objects.old) result (O.seen objects.new) }
 {
-    let name = reference_of(value)?;
+    let name = reference_in(value)?;
     objects.know(name)?;
     let Some(object) = objects.object(name) else {
         return Err(Stop::Fails(Fault::ArgumentKind));
@@ -109,7 +105,7 @@ fn put_in_class<O: Objects>(
     }
     let body = with_source(class, class_side, selector, source)?;
     objects.sound();
-    replace_body(objects, name, body, bytes_cost(source))
+    replace_body(objects, name, body, source_cost(source))
 }
 
 // Whether a text is short enough for a symbol.
@@ -143,11 +139,11 @@ fn with_source(
     Ok(Body::Class(class_with(class_side, method, class)?))
 }
 
-// A slot for each 8 bytes begun.
-fn bytes_cost(source: &Text) -> u64
+// The space that a source takes, in slots.
+fn source_cost(source: &Text) -> u64
     ensures { result ≡ bytes_cost (length source.now) }
 {
-    (source.bytes().len() as u64 + 7) / 8
+    bytes_cost(source.bytes().len() as u64)
 }
 
 // The class with this method on this side.

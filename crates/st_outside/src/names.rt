@@ -6,10 +6,9 @@ ghost use Rattle.prim_parts.specs.Does.{Does};
 
 use crate::globals::{global_value, undefined};
 use crate::instances::{instance_value, set_instance_value, variable_index};
-use gem_object::Value;
+use gem_object::{Text, Value};
 use running_objects::{Objects, Stop};
 use st_locals::Frame;
-use texts::Text;
 
 /// The value of a name that is no variable in scope: of an instance variable of the class that
 /// holds the frame's method, and else of a global; E2 where there is none. That class and all above

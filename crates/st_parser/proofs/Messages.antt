@@ -3,7 +3,7 @@ use Rattle.std.proofs.Common.{◌≡◌, ℕ, Bool, true, false, cond, Result, O
 use Rattle.std.proofs.Common.{refl, sym, ap, ◌∙◌, ◌<◌, ◌≤◌, length, arith}
 use Rattle.std.specs.Prelude.{◌&&◌, nat_lt}
 use Rattle.texts.specs.Bytes.{Bytes}
-use Rattle.profile.specs.declared.limits.TheConstants.{DEPTH_LIMIT}
+use Rattle.st_grammar.specs.declared.limits.TheConstants.{DEPTH_LIMIT}
 use Rattle.st_tree.specs.Trees.{Program, Head, name, block, closure, Expression, expression, Expressions}
 use Rattle.st_tree.specs.Trees.{no_expressions, an_expression, expressions, no_constants, Send, send, Statement}
 use Rattle.st_tree.specs.Trees.{statement, Statements, no_statements, a_statement, append_statements, statements, Sends}

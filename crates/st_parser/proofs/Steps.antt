@@ -4,7 +4,7 @@ use Rattle.std.specs.Prelude.{nat_lt, map}
 use Rattle.std.specs.Result.{IsErrAnd}
 use Rattle.std.proofs.lemmas.Result.{err_from_is_err_and}
 use Rattle.texts.specs.Bytes.{Bytes}
-use Rattle.profile.specs.declared.limits.TheConstants.{DEPTH_LIMIT}
+use Rattle.st_grammar.specs.declared.limits.TheConstants.{DEPTH_LIMIT}
 use Rattle.st_tree.specs.Trees.{Constants, no_constants, a_constant, constants, sym as sym_of}
 use Rattle.st_grammar.specs.Tokens.{Kind, identifier, keyword, binary, bar, open_paren, close_paren, open_array}
 use Rattle.st_grammar.specs.Grammar.{Word, word, p6, is_minus}

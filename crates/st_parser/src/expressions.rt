@@ -31,7 +31,7 @@ use crate::numbers::negative;
 use crate::reader::{Lexeme, Reader};
 use crate::scopes::{Scopes, is_minus, is_super, may_assign, within};
 use crate::stops::{Broken, Stop};
-use profile::DEPTH_LIMIT;
+use st_grammar::DEPTH_LIMIT;
 use st_lexer::TokenKind;
 use st_tree::{BlockTree, Expr, Literal, Message, Primary, Stat};
 use std::alloc::Global;

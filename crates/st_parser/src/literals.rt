@@ -1,6 +1,6 @@
 //! Literals.
 ghost use Rattle.std.specs.Prelude.{◌≡◌, ◌<◌, ◌≤◌, ◌∷◌, true, false, length, IfOk};
-ghost use Rattle.profile.specs.declared.limits.TheConstants.{DEPTH_LIMIT};
+ghost use Rattle.st_grammar.specs.declared.limits.TheConstants.{DEPTH_LIMIT};
 ghost use Rattle.st_tree.specs.Trees.{array, no_constants, sym};
 ghost use Rattle.st_tree.specs.Views.{constant_of};
 ghost use Rattle.st_grammar.specs.Grammar.{named_constant, starts_with_joined_number};
@@ -21,7 +21,7 @@ use crate::numbers::{negative, number};
 use crate::reader::{Lexeme, Reader};
 use crate::scopes::is_minus;
 use crate::stops::{Broken, Stop};
-use profile::DEPTH_LIMIT;
+use st_grammar::DEPTH_LIMIT;
 use st_lexer::{TokenKind, character_value, string_value, symbol_value};
 use st_tree::{Literal, Literals};
 use std::alloc::{AllocError, Global};

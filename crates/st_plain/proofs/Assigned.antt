@@ -1,8 +1,8 @@
 -- Assignments from right to left, by those that are left.
 use Rattle.std.proofs.Common.{◌≡◌, sym, ap, subst, ◌++◌, List, [], ◌∷◌, Ok, Err}
-use Rattle.texts.specs.Bytes.{Bytes as Text}
+use Rattle.gem_object.specs.texts.Bytes.{Bytes as Text}
 use Rattle.gem_object.specs.declared.value.Value.{Value}
-use Rattle.gem_world.specs.World.{Setting}
+use Rattle.object_programs.specs.gem_world.World.{Setting}
 use Rattle.object_programs.specs.Local.{Local}
 use Rattle.object_programs.specs.Run.{and_then, Outcome, onward, perform}
 use Rattle.running_objects.specs.Seen.{Seen, with_local}

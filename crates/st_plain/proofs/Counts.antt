@@ -3,7 +3,7 @@ use Rattle.std.proofs.Common.{◌≡◌, sym, subst, Bool, true, false, ℤ, pos
 use Rattle.std.specs.Prelude.{int_le}
 use Rattle.gem_object.specs.declared.value.Value.{Value}
 use Rattle.gem_object.specs.declared.value.Value.TheVariants.{Int}
-use Rattle.profile.specs.declared.integers.TheConstants.{LARGEST_INTEGER}
+use Rattle.gem_object.specs.texts.declared.integers.TheConstants.{LARGEST_INTEGER}
 use Rattle.object_programs.specs.Atom.{Tick}
 use Rattle.object_programs.specs.Local.{Local}
 use Rattle.object_programs.specs.Run.{atom}

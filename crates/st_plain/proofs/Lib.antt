@@ -1,10 +1,6 @@
 pub mod Runs
 pub mod Blocks
-pub mod Activations
 pub mod Turns
 pub mod Counts
 pub mod Lists
 pub mod Assigned
-pub mod Replies
-pub mod Unread
-pub mod Selectors

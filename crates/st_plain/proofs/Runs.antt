@@ -3,31 +3,18 @@ use Rattle.std.proofs.Common.{◌≡◌, sym, subst, ℕ, zero, suc, ◌<◌, re
 use Rattle.gem_object.specs.declared.value.Value.{Value}
 use Rattle.gem_object.specs.declared.value.Value.TheVariants.{Nil}
 use Rattle.object_programs.specs.Local.{Local}
-use Rattle.object_programs.specs.Run.{give, seeing, become, and_then, ending, Ending}
+use Rattle.object_programs.specs.Run.{give, seeing, become, and_then}
 use Rattle.running_objects.specs.Seen.{Seen}
 use Rattle.running_objects.specs.Ran.{Ran}
 use Rattle.running_objects.specs.declared.stop.Stop.{Stop}
-use Rattle.running_objects.specs.declared.stop.Stop.TheVariants as stop
-use Rattle.running_objects.proofs.Running.{ran_give, ran_fail, ran_return, ran_become, ran_seeing, ran_then, ran_stop, ran_nothing, leads_to, leads_given, leads_failed, leads_returned}
+use Rattle.running_objects.proofs.Running.{ran_give, ran_fail, ran_return, ran_become, ran_seeing, ran_then, ran_stop}
 use Rattle.tree_meaning.specs.Place.{Frame, MadeBlock}
 use Rattle.tree_meaning.specs.Operands.{ValueRun}
 use Rattle.tree_meaning.specs.Scopes.{mark, with_scope, open_scope, give_back, close_scope, in_scope}
 use Rattle.tree_meaning.specs.declared.place.Mark.{Mark}
-use Rattle.st_plain.specs.Leaving.{LeftSo}
 
 -- for `using`
 pub ruleset runs = (ran_then, ran_stop, ran_give, ran_fail, ran_return)
-
--- A body that ended somehow, and what follows it however it ended.
-pub ending_ran : {first : ValueRun} (next : Ending Value → ValueRun) (ended : Result Value Stop) {before between : Seen}
-    {local middle later : Local MadeBlock} {result : Result Value Stop} → Ran first before local ended between middle
-    → LeftSo next ended between middle result later → Ran (ending first next) before local result between later
-ending_ran next (Ok answer) ran left = leads_to (leads_given next ran) left
-ending_ran next (Err (stop.Fails fault)) ran left = leads_to (leads_failed next ran) left
-ending_ran next (Err (stop.Returns answer home)) ran left = leads_to (leads_returned next ran) left
-ending_ran {first} next (Err stop.NoMemory) {before} {between} {local} {middle} {later} {result} ran left =
-    let At : Result Value Stop → Type 0 = λ one. Ran (ending first next) before local one between later in
-    subst At (sym left) (ran_nothing (ending first next) local later ran.keeps)
 
 -- what is done in a new scope of so many variables
 abbrev in_new_scope : Frame → (Frame → ValueRun) → ℕ → ValueRun

@@ -3,10 +3,10 @@ use Rattle.std.proofs.Common.{◌≡◌, refl, sym, subst, ap, ℕ, zero, suc, �
 use Rattle.std.specs.Prelude.{int_le}
 use Rattle.gem_object.specs.declared.value.Value.{Value}
 use Rattle.gem_object.specs.declared.value.Value.TheVariants.{Nil, Int}
-use Rattle.profile.specs.declared.integers.TheConstants.{LARGEST_INTEGER}
+use Rattle.gem_object.specs.texts.declared.integers.TheConstants.{LARGEST_INTEGER}
 use Rattle.object_programs.specs.Atom.{Tick, ticked}
 use Rattle.object_programs.specs.Budget.{Budget}
-use Rattle.gem_world.specs.World.{World}
+use Rattle.object_programs.specs.gem_world.World.{World}
 use Rattle.object_programs.specs.Local.{Local}
 use Rattle.object_programs.specs.Run.{give, fail, atom, and_then, Ending, gives, fails, Outcome, outcome_of}
 use Rattle.object_programs.specs.Programs.{choose}

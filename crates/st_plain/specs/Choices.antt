@@ -1,6 +1,6 @@
 -- What the evaluator decides by values and blocks.
 use Rattle.std.specs.Prelude.{Bool, true, false, not, List, Option, None, Some, Result, Ok, Err}
-use Rattle.texts.specs.Bytes.{Bytes as Text}
+use Rattle.gem_object.specs.texts.Bytes.{Bytes as Text}
 use Rattle.st_tree.specs.Trees.{Closure, closure}
 use Rattle.gem_object.specs.declared.value.Value.{Value}
 use Rattle.object_programs.specs.declared.fault.Fault.TheVariants as fault

@@ -1,5 +1,1 @@
 pub mod Choices
-pub mod Sources
-pub mod Leaving
-pub mod Replies
-pub mod Commands

@@ -1,6 +1,5 @@
 //! What stands between objects and variables: calls that do something to objects, said with the
 //! variables at hand, which they leave as they are.
-ghost use Rattle.std.specs.Prelude.{◌≡◌, true};
 ghost use Rattle.object_programs.specs.Atom.{Tick};
 ghost use Rattle.object_programs.specs.Run.{atom};
 ghost use Rattle.prim_rules.specs.Rules.{rule_of};
@@ -8,21 +7,16 @@ ghost use Rattle.prim_rules.specs.Printing.{print_text};
 ghost use Rattle.gem_language.specs.LookUp.{find_method};
 ghost use Rattle.gem_language.specs.OutOfScope.{read_out_of_scope, write_out_of_scope};
 ghost use Rattle.gem_language.specs.Literals.{literal_value};
-ghost use Rattle.gem_language.specs.Install.{install};
 ghost use Rattle.st_tree.specs.Views.{constant_of};
-ghost use Rattle.st_grammar.specs.Grammar.{method};
-ghost use Rattle.st_grammar_laws.specs.TreeOf.{tree_of};
-ghost use Rattle.object_programs.specs.Methods.{answers_to};
 ghost use Rattle.running_objects.specs.Ran.{Ran};
 
 use gem_language::Found;
-use gem_object::Value;
+use gem_object::{Text, Value};
 use prim_rules::PrimitiveAnswer;
 use running_objects::{Objects, Stop};
 use st_locals::{Frame, Locals};
 use st_tree::Literal;
 use std::alloc::Global;
-use texts::Text;
 
 /// Takes a unit: E13 where none is left.
 pub(crate) fn take_unit<O: Objects>(objects: &mut O, locals: &Locals) -> Result<(), Stop>
@@ -112,21 +106,5 @@ pub(crate) fn print<O: Objects>(
     ensures { Ran (print_text value.now) (O.seen objects.old) locals.now result
         (O.seen objects.new) locals.now }
 {
-    prim_classes::print_text(alloc, objects, value)
-}
-
-/// Puts the source of a method into the class that a global names.
-pub(crate) fn install<O: Objects>(
-    objects: &mut O,
-    locals: &Locals,
-    class_side: bool,
-    class: &Text,
-    selector: &Text,
-    source: &Text,
-) -> Result<(), Stop>
-    requires { answers_to selector.now (tree_of method source.now) ≡ true }
-    ensures { Ran (install class_side class.now selector.now source.now) (O.seen objects.old)
-        locals.now result (O.seen objects.new) locals.now }
-{
-    st_outside::install(objects, class_side, class, selector, source)
+    st_commands::print_value(alloc, objects, value)
 }

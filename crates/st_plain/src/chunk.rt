@@ -12,9 +12,8 @@ ghost use Rattle.running_objects.specs.Ran.{Ran};
 
 use crate::eval::eval_statements;
 use crate::leaving::leave_method;
-use gem_object::Value;
+use gem_object::{Oid, Value};
 use gem_sound::names::UNDEFINED_OBJECT_CLASS;
-use gem_value::Oid;
 use object_programs::ACTIVATION_LIMIT;
 use running_objects::{Objects, Stop};
 use st_locals::{Frame, Locals, Place, method_frame, with_nils};

@@ -1,44 +1,20 @@
 //! Commands.
-ghost use Rattle.std.specs.Prelude.{◌≡◌, ◌≤◌, ◌^◌, true, IfOk};
+ghost use Rattle.std.specs.Prelude.{◌≤◌, ◌^◌};
 ghost use Rattle.st_tree.specs.Falls.{size_program};
-ghost use Rattle.gem_language.specs.Commands.{run_chunk, install_method, chunk_reply, method_reply, selector_of};
-ghost use Rattle.st_grammar.specs.Grammar.{method};
-ghost use Rattle.st_grammar_laws.specs.TreeOf.{tree_of};
-ghost use Rattle.object_programs.specs.Methods.{answers_to};
+ghost use Rattle.gem_language.specs.Commands.{run_chunk, chunk_reply};
 ghost use Rattle.running_objects.specs.Ran.{Ran};
-ghost use Rattle.st_plain.specs.Replies.{said, got, RepliedBy, Replied};
-ghost use Rattle.st_plain.specs.Commands.{command_of};
+ghost use Rattle.st_commands.specs.Replies.{said, RepliedBy, Replied};
+ghost use Rattle.st_commands.specs.Commands.{command_of};
 
-use crate::border::{install, print};
+use crate::border::print;
 use crate::chunk::eval_chunk;
-use crate::reply::{Reply, reply_to_chunk, reply_to_fault, reply_to_method};
+use gem_object::Text;
 use running_objects::{Objects, Stop};
+use st_commands::{Command, Reply, install_source, reply_to_chunk, reply_to_fault};
 use st_locals::Locals;
-use st_parser::{parse_chunk, parse_method};
+use st_parser::parse_chunk;
 use st_tree::Tree;
 use std::alloc::{AllocError, Global};
-use texts::Text;
-
-/// A command on objects.
-#[derive(Debug, Drop)]
-pub enum Command {
-    /// A chunk.
-    Chunk {
-        /// Whether its value is printed.
-        prints: bool,
-        /// Its text.
-        text: Text,
-    },
-    /// A method for a class.
-    Method {
-        /// Whether it is for the class side.
-        class_side: bool,
-        /// The global that names the class.
-        class: Text,
-        /// Its source.
-        source: Text,
-    },
-}
 
 /// Runs a command on these objects, with nothing local. The budget is the one at hand.
 ///
@@ -88,31 +64,6 @@ pub fn run_text<O: Objects>(
     }
 }
 
-/// Puts the source of a method into the class that a global names.
-///
-/// # Errors
-///
-/// Those of `run_command`.
-pub fn install_source<O: Objects>(
-    alloc: Global,
-    objects: &mut O,
-    class_side: bool,
-    class: &Text,
-    source: &Text,
-) -> Result<Reply, AllocError>
-    ensures { Replied (install_method class_side class.now source.now) (O.seen objects.old) result
-        (O.seen objects.new) }
-{
-    let bytes = source.bytes();
-    if bytes.len() >= 1 << 32 {
-        return Err(AllocError);
-    }
-    match parse_method(alloc, bytes) {
-        Ok(tree) => install_read_method(alloc, objects, class_side, class, source, &tree),
-        Err(fault) => reply_to_fault(fault),
-    }
-}
-
 /// The reply to a chunk that was read.
 fn run_read_chunk<O: Objects>(
     alloc: Global,
@@ -147,51 +98,4 @@ fn print_of_chunk<O: Objects>(
     }
     let text = print(alloc, objects, locals, &value)?;
     Ok(Some(text))
-}
-
-/// The reply to a method that was read.
-fn install_read_method<O: Objects>(
-    alloc: Global,
-    objects: &mut O,
-    class_side: bool,
-    class: &Text,
-    source: &Text,
-    tree: &Tree,
-) -> Result<Reply, AllocError>
-    requires { answers_to (selector_of tree.now) (tree_of method source.now) ≡ true }
-    ensures { RepliedBy (method_reply class_side class.now source.now tree.now)
-        (O.seen objects.old) result (O.seen objects.new) }
-{
-    let locals = Locals::new(alloc);
-    let ended = install_method_of(alloc, objects, &locals, class_side, class, source, tree);
-    reply_to_method(ended)
-}
-
-/// Installs a method that was read; its selector.
-fn install_method_of<O: Objects>(
-    alloc: Global,
-    objects: &mut O,
-    locals: &Locals,
-    class_side: bool,
-    class: &Text,
-    source: &Text,
-    tree: &Tree,
-) -> Result<Text, Stop>
-    requires { answers_to (selector_of tree.now) (tree_of method source.now) ≡ true }
-    ensures { Ran (method_reply class_side class.now source.now tree.now) (O.seen objects.old)
-        locals.now (got result) (O.seen objects.new) locals.now }
-{
-    let selector = selector_of(alloc, tree)?;
-    install(objects, locals, class_side, class, &selector, source)?;
-    Ok(selector)
-}
-
-/// A copy of the selector of a method that was read.
-fn selector_of(alloc: Global, tree: &Tree) -> Result<Text, AllocError>
-    ensures { IfOk result (λ selector. selector ≡ selector_of tree.now) }
-{
-    match &tree.selector {
-        Some(selector) => selector.clone(),
-        None => Ok(Text::of(Vec::new(alloc))),
-    }
 }

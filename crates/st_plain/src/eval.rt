@@ -8,8 +8,8 @@ ghost use Rattle.std.specs.Prelude.{◌≤◌, ◌+◌, ◌^◌, ◌∷◌, [], 
 ghost use Rattle.st_tree.specs.Trees.{sends, expressions, statements};
 ghost use Rattle.st_tree.specs.Falls.{size_head, size_closure, size_expression, size_send, size_statement, size_statements, size_sends, size_expressions, size_program};
 ghost use Rattle.st_tree.specs.Views.{head_of};
-ghost use Rattle.st_grammar.specs.Grammar.{method};
-ghost use Rattle.st_grammar_laws.specs.TreeOf.{tree_of};
+ghost use Rattle.gem_sound.specs.st_grammar.Grammar.{method};
+ghost use Rattle.gem_sound.specs.st_grammar_laws.TreeOf.{tree_of};
 ghost use Rattle.object_programs.specs.Atom.{Tick};
 ghost use Rattle.object_programs.specs.Run.{give, atom, and_then};
 ghost use Rattle.tree_meaning.specs.Names.{singleton_value};
@@ -30,11 +30,9 @@ use crate::leaving::{leave_block, leave_method};
 use crate::sources::method_tree;
 use crate::variables::{assign_all, constant_value, hand, make_block, name_value, return_value};
 use gem_language::Found;
-use gem_object::{MethodCode, Value};
-use gem_value::Oid;
+use gem_object::{LARGEST_INTEGER, MethodCode, Oid, Text, Value};
 use object_programs::Fault;
 use prim_rules::PrimitiveAnswer;
-use profile::LARGEST_INTEGER;
 use running_objects::{Objects, Stop};
 use st_locals::{
     Frame, Locals, MadeBlock, Place, block_place, first_loop, form_under, int_pair, is_super_head,
@@ -42,7 +40,6 @@ use st_locals::{
 };
 use st_tree::{BlockTree, Expr, Message, Primary, Stat, Tree};
 use std::alloc::Global;
-use texts::Text;
 use tree_meaning::{Form, Pair, Singleton, Truth};
 
 // An expression: what begins it, its messages, and then its assignments.

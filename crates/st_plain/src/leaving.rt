@@ -1,6 +1,6 @@
 //! The ends of activations.
 ghost use Rattle.tree_meaning.specs.Scopes.{leave_method, leave_block};
-ghost use Rattle.st_plain.specs.Leaving.{LeftSo};
+ghost use Rattle.st_commands.specs.Leaving.{LeftSo};
 
 use gem_object::Value;
 use running_objects::{Objects, Stop};

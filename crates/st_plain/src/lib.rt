@@ -5,17 +5,13 @@
 
 mod arguments;
 mod border;
-mod calls;
 mod choices;
 mod chunk;
 mod command;
 mod eval;
 mod leaving;
-mod reply;
 mod sources;
 mod variables;
 
-pub use calls::{call_primitive, print_value};
 pub use chunk::run_chunk;
-pub use command::{Command, install_source, run_command, run_text};
-pub use reply::Reply;
+pub use command::{run_command, run_text};

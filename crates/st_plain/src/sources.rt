@@ -1,11 +1,11 @@
 //! The trees of methods' sources.
 ghost use Rattle.std.specs.Prelude.{IfOk};
-ghost use Rattle.st_plain.specs.Sources.{IsTreeOf};
+ghost use Rattle.st_commands.specs.Sources.{IsTreeOf};
 
+use gem_object::Text;
 use st_parser::{ParseFault, parse_method};
 use st_tree::Tree;
 use std::alloc::{AllocError, Global};
-use texts::Text;
 
 /// The tree of a method's source, where it has one. A source of 2^32 bytes or more is as if memory
 /// had run out.

@@ -3,7 +3,7 @@ use Rattle.std.proofs.Common.{◌≡◌, ◌≢◌, ◌↔◌, ◌==◌, ℕ, Bo
 use Rattle.std.proofs.lemmas.Bool.Decides.{nat_tests}
 use Rattle.std.proofs.lemmas.List.Elements.{filter-append}
 use Rattle.gem_image.specs.Image.{Image}
-use Rattle.gem_sound.specs.Sound.{IsSoundImage}
+use Rattle.gem_meaning.specs.gem_sound.Sound.{IsSoundImage}
 use Rattle.gem_record.specs.declared.record.TxnRecord.{TxnRecord}
 use Rattle.lock_table.specs.Locks.{kind_held}
 use Rattle.lock_table.specs.declared.lock.LockKind.{LockKind}

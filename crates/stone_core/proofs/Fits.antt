@@ -5,7 +5,7 @@ use Rattle.std.proofs.Math.Seq.{take-length}
 use Rattle.std.proofs.lemmas.List.{take_more}
 use Rattle.std.proofs.lemmas.List.Elements.{All-from_recursion}
 use Rattle.gem_object.specs.declared.object.Object.{Object}
-use Rattle.gem_update.specs.Spelling.{entries_of}
+use Rattle.gem_record.specs.gem_update.Spelling.{entries_of}
 use Rattle.history_laws.proofs.OneMore.{all_one_more}
 
 -- it has fewer pairs or items than can be counted in 32 bits

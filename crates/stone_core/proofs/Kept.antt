@@ -9,7 +9,7 @@ use Rattle.std.proofs.lemmas.Map.Keys.{sorted_head, sorted_tail}
 use Rattle.gem_object.specs.declared.object.Object.{Object}
 use Rattle.gem_record.specs.Names.{AscendByName, under}
 use Rattle.gem_record.specs.declared.record.TxnRecord.{TxnRecord}
-use Rattle.gem_update.specs.declared.update.Update.{Update}
+use Rattle.gem_record.specs.gem_update.declared.update.Update.{Update}
 use Rattle.kept_set.specs.Kept.{names_of, roots_of, kept_of}
 use Rattle.gem_meaning.specs.Effect.{kept_objects}
 use Rattle.stone_core.specs.Effects.{named, found_in}

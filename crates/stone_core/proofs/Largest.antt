@@ -5,7 +5,7 @@ use Rattle.std.specs.Cmp.{tied_itself}
 use Rattle.std.specs.FinMap.{find, entries, get-entries}
 use Rattle.std.proofs.lemmas.Cmp.{nat_cmp_total}
 use Rattle.std.proofs.lemmas.Option.{none-some}
-use Rattle.gem_value.specs.Oid.{serial_of}
+use Rattle.gem_object.specs.gem_value.Oid.{serial_of}
 use Rattle.gem_object.specs.declared.object.Object.{Object}
 use Rattle.gem_image.specs.Image.{Image}
 use Rattle.radix_pages.specs.Next.{IsNext}

@@ -2,7 +2,7 @@
 -- may come first; then the call's own one. Each answer is judged when the others' events have come.
 use Rattle.std.specs.Prelude.{◌≡◌, ◌≢◌, ◌↔◌, ◌<◌, ℕ, ◌+◌, Bool, true, IsTrue, List, [], ◌∷◌, ◌++◌, Some, None, is_some}
 use Rattle.gem_image.specs.Image.{Image}
-use Rattle.gem_sound.specs.Sound.{IsSoundImage}
+use Rattle.gem_meaning.specs.gem_sound.Sound.{IsSoundImage}
 use Rattle.gem_record.specs.declared.record.TxnRecord.{TxnRecord}
 use Rattle.gem_record.specs.History.{entry_of}
 use Rattle.commit_check.specs.Conflicts.{last_change}

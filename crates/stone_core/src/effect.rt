@@ -4,14 +4,13 @@ ghost use Rattle.std.specs.Ordering.{nat_cmp};
 ghost use Rattle.std.specs.BTreeMap.{insert_entry};
 ghost use Rattle.gem_object.specs.Spelling.{IsSpelled};
 ghost use Rattle.gem_image.specs.Image.{with_objects};
-ghost use Rattle.gem_update.specs.Spelling.{entries_of};
+ghost use Rattle.gem_record.specs.gem_update.Spelling.{entries_of};
 ghost use Rattle.gem_meaning.specs.Effect.{kept_objects, stamped, by_name};
 ghost use Rattle.stone_core.specs.Effects.{named, found_in};
 
 use gem_image::Image;
-use gem_object::{Body, Object};
+use gem_object::{Body, Object, Oid};
 use gem_record::{ByName, Effect, TxnRecord};
-use gem_value::Oid;
 use kept_set::kept;
 use radix_pages::Steps;
 use std::alloc::{AllocError, Global};

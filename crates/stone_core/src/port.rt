@@ -6,8 +6,8 @@ ghost use Rattle.gem_meaning.specs.Serial.{IsRecorded};
 ghost use Rattle.stone_core.specs.Port.{PortState, BeginSays, CommitSays, LockSays, UnlockSays, LogoutSays, GoesOn};
 
 use gem_image::Image;
+use gem_object::{Conflicts, Oid};
 use gem_record::TxnRecord;
-use gem_value::{Conflicts, Oid};
 use lock_table::LockKind;
 use std::alloc::{AllocError, Global};
 

@@ -4,12 +4,12 @@ use Rattle.std.specs.Ordering.{nat_cmp, eq_by_cmp, is_eq}
 use Rattle.std.specs.Cmp.{nat_cmp_total, tied_itself}
 use Rattle.std.specs.FinMap.{get, insert, get-insert}
 use Rattle.std.proofs.lemmas.Bool.{false≢true, le-leb, cases_lt}
-use Rattle.gem_value.specs.Oid.{oid_number}
+use Rattle.gem_object.specs.gem_value.Oid.{oid_number}
 use Rattle.gem_image.specs.Image.{Image, IsImage}
 use Rattle.gem_object.specs.declared.object.Object.{Object}
 use Rattle.gem_sound.specs.Sound.{IsSoundImage}
 use Rattle.kernel_image.specs.Objects.{kernel_image}
-use Rattle.commit_check.specs.Conflicts.{changed_of, last_change}
+use Rattle.gem_meaning.specs.commit_check.Conflicts.{changed_of, last_change}
 use Rattle.shell_words.specs.Script.{SessionCommands}
 use Rattle.gem_meaning.specs.declared.event.What.TheVariants.{Held, Dropped, Left}
 use Rattle.gem_meaning.specs.Opened.{Opened, base_serial, largest_serial}

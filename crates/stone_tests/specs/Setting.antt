@@ -1,7 +1,7 @@
 -- What tests keep of a Stone.
 use Rattle.std.specs.Prelude.{◌≡◌, ◌≤◌, ℕ, true, List, [], ◌∷◌, codes, IsSome}
 use Rattle.std.specs.FinMap.{get}
-use Rattle.gem_value.specs.Oid.{oid_number}
+use Rattle.gem_object.specs.gem_value.Oid.{oid_number}
 use Rattle.gem_image.specs.Image.{Image}
 use Rattle.shell_words.specs.Script.{SessionCommands}
 use Rattle.shell_words.specs.declared.script.Command.TheVariants.{Commit}

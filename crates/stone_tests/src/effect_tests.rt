@@ -1,15 +1,14 @@
 // The effect of a commit, of a record made by hand.
 ghost use Rattle.std.specs.Prelude.{◌≡◌, ◌<◌, ◌^◌};
-ghost use Rattle.gem_value.specs.Oid.{oid_number};
+ghost use Rattle.gem_object.specs.gem_value.Oid.{oid_number};
 
 use gem_image::Image;
-use gem_object::{Body, Object, Value, Values};
+use gem_object::{Body, Counter, Object, Oid, Sequence, Value, Values};
 use gem_record::{ByName, Effect, OidList, TxnRecord};
-use gem_sound::names::{ARRAY_CLASS, DATA_CURATOR_SEGMENT, RC_COUNTER_CLASS};
+use gem_sound::names::{
+    ARRAY_CLASS, DATA_CURATOR, DATA_CURATOR_SEGMENT, KERNEL_SERIAL, RC_COUNTER_CLASS,
+};
 use gem_update::Update;
-use gem_value::{Oid, Sequence};
-use profile::{DATA_CURATOR_COUNTER, KERNEL_SERIAL};
-use rc_counter_bag::Counter;
 use sorted_pairs::ascend;
 use std::alloc::{AllocError, Global};
 use std::process::Abort;
@@ -116,7 +115,7 @@ fn record(rt: &impl Abort, alloc: Global) -> Result<TxnRecord, AllocError> {
     Ok(TxnRecord {
         session: 3,
         transaction: 1,
-        user: name(KERNEL_SERIAL, DATA_CURATOR_COUNTER),
+        user: name(KERNEL_SERIAL, DATA_CURATOR),
         first_command: 1,
         last_command: 2,
         first_name: 1,

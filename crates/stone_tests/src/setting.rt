@@ -1,21 +1,19 @@
 // A Stone over the kernel's image and two boxes, for two sessions that commit at once, and its
 // calls.
 ghost use Rattle.std.specs.Prelude.{◌≡◌, ◌<◌, ◌≤◌, ◌^◌, ℕ, IfOk, OnOk};
-ghost use Rattle.gem_value.specs.Oid.{oid_number};
+ghost use Rattle.gem_object.specs.gem_value.Oid.{oid_number};
 ghost use Rattle.gem_object.specs.Spelling.{IsSpelled};
 ghost use Rattle.gem_sound.specs.Sound.{IsSoundImage};
-ghost use Rattle.commit_check.specs.Conflicts.{last_change};
+ghost use Rattle.gem_meaning.specs.commit_check.Conflicts.{last_change};
 ghost use Rattle.gem_meaning.specs.Serial.{most_at_opening};
 ghost use Rattle.stone_tests.specs.Setting.{one_commit, two_sessions, HasBoxes, IsReady};
 
 use gem_image::Image;
-use gem_object::{Body, Object, Value, Values};
-use gem_sound::names::{ARRAY_CLASS, DATA_CURATOR_SEGMENT};
-use gem_value::Oid;
+use gem_object::{Body, Object, Oid, Text, Value, Values};
+use gem_sound::names::{ARRAY_CLASS, DATA_CURATOR_SEGMENT, KERNEL_SERIAL};
 use kernel_image::laws::kernel_is_unchanged;
 use kernel_image::{kernel, sound};
 use lock_table::LockKind;
-use profile::KERNEL_SERIAL;
 use radix_pages::Steps;
 use shell_words::{Command, Script, SessionScript};
 use std::alloc::{AllocError, Global};
@@ -23,7 +21,6 @@ use std::sync::Arc;
 use std::sync::ledger::Ledger;
 use std::test::Fail;
 use stone_core::{LockAnswer, Stone, largest_serial};
-use texts::Text;
 
 /// The serial of the boxes.
 pub const SERIAL: u32 = 1;

@@ -147,8 +147,8 @@ impl From<Failed> for AppendFault {
 
 impl Log {
     /// Adds the record of this body, which `spell_body` gives for the next number; a body that is
-    /// too long for any log may be of anything. It makes four calls of the disk, and takes no
-    /// memory.
+    /// too long for any log may be of anything. It takes no memory, and makes four calls of the
+    /// disk where none fails (no clause counts them).
     ///
     /// `Full`: exactly where the log's length and the body's exceed `LOG_LIMIT`; no call was made.
     /// `Disk`: the count of faults rose in this call; the log is opened anew before it is used.

@@ -1,7 +1,7 @@
 -- Activations and evaluations of blocks.
 use Rattle.std.proofs.Common.{◌≡◌, ◌∙◌, refl, sym, ap, true≢false, ℕ, zero, suc, Bool, true, false, nat_eq, List, [], ◌∷◌, length, get_or, take, set, slice_get, Some, None}
-use Rattle.gem_object.specs.declared.value.Value.{Value}
-use Rattle.gem_world.specs.World.{Setting}
+use Rattle.object_programs.specs.gem_object.declared.value.Value.{Value}
+use Rattle.object_programs.specs.gem_world.World.{Setting}
 use Rattle.object_programs.specs.Local.{Local}
 use Rattle.object_programs.specs.Run.{give, return_to, and_then, Ending, gives, returns, fails, State, perform}
 use Rattle.object_programs.specs.Programs.{choose, check}

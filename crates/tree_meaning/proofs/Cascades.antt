@@ -1,8 +1,8 @@
 -- Cascades have one receiver.
 use Rattle.std.proofs.Common.{◌≡◌, ◌∙◌, refl, sym, ap, subst, Bool, false, List, [], ◌∷◌, Option, Some, None}
-use Rattle.st_tree.specs.Trees.{Head, expression, Send, Sends, no_sends, a_send, append_sends}
-use Rattle.gem_object.specs.declared.value.Value.{Value}
-use Rattle.gem_world.specs.World.{Setting}
+use Rattle.object_programs.specs.st_tree.Trees.{Head, expression, Send, Sends, no_sends, a_send, append_sends}
+use Rattle.object_programs.specs.gem_object.declared.value.Value.{Value}
+use Rattle.object_programs.specs.gem_world.World.{Setting}
 use Rattle.object_programs.specs.Run.{State, Outcome, and_then, onward, perform}
 use Rattle.tree_meaning.specs.Place.{Place, Frame, MadeBlock}
 use Rattle.tree_meaning.specs.Forms.{loop_of, first_loop}

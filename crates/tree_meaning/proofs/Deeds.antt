@@ -1,8 +1,8 @@
 -- Deeds one after the other, and a unit.
 use Rattle.std.proofs.Common.{◌≡◌, refl, ℕ, zero, suc, ◌≤◌, List, ◌∷◌}
-use Rattle.st_tree.specs.Trees.{Expressions, no_expressions, an_expression}
-use Rattle.gem_object.specs.declared.value.Value.{Value}
-use Rattle.gem_world.specs.World.{Setting}
+use Rattle.object_programs.specs.st_tree.Trees.{Expressions, no_expressions, an_expression}
+use Rattle.object_programs.specs.gem_object.declared.value.Value.{Value}
+use Rattle.object_programs.specs.gem_world.World.{Setting}
 use Rattle.object_programs.specs.Atom.{Tick, ticked}
 use Rattle.object_programs.specs.Run.{Run, atom, and_then, Ending, gives, returns, fails, State, end_of, onward, perform}
 use Rattle.object_programs.specs.Laws.{Falls}

@@ -1,7 +1,7 @@
 -- What a name stands for among the variables in scope.
 use Rattle.std.proofs.Common.{◌≡◌, ◌≢◌, ◌∙◌, refl, sym, ap, true≢false, ℕ, zero, suc, ◌<◌, Bool, true, false, cond, bytes_eq, List, [], ◌∷◌, slice_get, Option, Some, None, is_some, option_map, unwrap_or, arith}
 use Rattle.std.proofs.lemmas.Slice.Eq.{bytes_eq-Decides}
-use Rattle.texts.specs.Bytes.{Bytes as Text}
+use Rattle.object_programs.specs.texts.Bytes.{Bytes as Text}
 use Rattle.tree_meaning.specs.Names.{index_of, one_deeper, innermost, variable_in}
 use Rattle.tree_meaning.specs.Reading.{IsVariable, IsNoVariable}
 use Rattle.tree_meaning.specs.declared.name.Where.{Where}

@@ -1,7 +1,7 @@
 -- Which messages are special forms.
 use Rattle.std.proofs.Common.{◌≡◌, refl, sym, subst, ℕ, nat_eq, ◌&&◌, length, codes, Bool, true, false, Some}
 use Rattle.std.proofs.lemmas.Bool.{eqb-true}
-use Rattle.st_tree.specs.Trees.{block, Closure, closure, Expression, send}
+use Rattle.object_programs.specs.st_tree.Trees.{block, Closure, closure, Expression, send}
 use Rattle.tree_meaning.specs.Forms.{takes, is_block_of, form_of, loop_of}
 use Rattle.tree_meaning.specs.Reading.{a_block, one_argument, two_arguments}
 use Rattle.tree_meaning.specs.declared.name.Singleton.TheVariants as singleton

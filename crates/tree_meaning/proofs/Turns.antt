@@ -1,9 +1,9 @@
 -- The turns of loops: no more of them can be had than there are units.
 use Rattle.std.proofs.Common.{◌≡◌, ◌∙◌, refl, sym, ℕ, zero, suc, ◌<◌, Bool, true, false, ℤ, pos, ◌+ℤ◌, int_le, arith}
-use Rattle.gem_object.specs.declared.value.Value.{Value}
-use Rattle.gem_object.specs.declared.value.Value.TheVariants.{Nil, Int}
-use Rattle.gem_world.specs.World.{Setting}
-use Rattle.profile.specs.declared.integers.TheConstants.{LARGEST_INTEGER}
+use Rattle.object_programs.specs.gem_object.declared.value.Value.{Value}
+use Rattle.object_programs.specs.gem_object.declared.value.Value.TheVariants.{Nil, Int}
+use Rattle.object_programs.specs.gem_world.World.{Setting}
+use Rattle.object_programs.specs.texts.declared.integers.TheConstants.{LARGEST_INTEGER}
 use Rattle.object_programs.specs.Atom.{Tick}
 use Rattle.object_programs.specs.Run.{give, atom, and_then, Ending, gives, returns, fails, State, onward, perform}
 use Rattle.object_programs.specs.Programs.{choose}

@@ -1,6 +1,6 @@
 -- What a method, a chunk and a made block mean, once their variables stand in the innermost scope.
 use Rattle.std.specs.Prelude.{ℕ, true, false, [], ◌∷◌, ◌++◌, length}
-use Rattle.st_tree.specs.Trees.{Closure, closure, Statements, Program}
+use Rattle.object_programs.specs.st_tree.Trees.{Closure, closure, Statements, Program}
 use Rattle.object_programs.specs.Run.{return_to, and_then}
 use Rattle.tree_meaning.specs.Place.{Place, Frame}
 use Rattle.tree_meaning.specs.Operands.{ValueRun}

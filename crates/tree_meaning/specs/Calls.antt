@@ -1,8 +1,8 @@
 -- Activations: how a method and a block run, once it is known what they do.
 use Rattle.std.specs.Prelude.{ℕ, Bool, nat_eq, List, [], ◌∷◌, ◌++◌, length, replicate, slice_get, Option, None, Some}
-use Rattle.st_tree.specs.Trees.{Closure}
-use Rattle.gem_object.specs.declared.value.Value.{Value}
-use Rattle.gem_object.specs.declared.value.Value.TheVariants as value
+use Rattle.object_programs.specs.st_tree.Trees.{Closure}
+use Rattle.object_programs.specs.gem_object.declared.value.Value.{Value}
+use Rattle.object_programs.specs.gem_object.declared.value.Value.TheVariants as value
 use Rattle.object_programs.specs.Local.{Local}
 use Rattle.object_programs.specs.Run.{give, fail, seeing, become, and_then, ending}
 use Rattle.object_programs.specs.Programs.{check}

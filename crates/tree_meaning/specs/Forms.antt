@@ -1,8 +1,8 @@
 -- The special forms: which messages aren't sent, but evaluate blocks in their place. Meaning,
 -- evaluator and compiler all ask here.
 use Rattle.std.specs.Prelude.{ℕ, Bool, true, false, ◌&&◌, nat_eq, if◌then◌else◌, [], length, Option, None, Some, codes, bytes_eq}
-use Rattle.texts.specs.Bytes.{Bytes as Text}
-use Rattle.st_tree.specs.Trees.{Head, block, Closure, closure, Expression, expression, Expressions, no_expressions, an_expression, Send, send, Sends, no_sends, a_send}
+use Rattle.object_programs.specs.texts.Bytes.{Bytes as Text}
+use Rattle.object_programs.specs.st_tree.Trees.{Head, block, Closure, closure, Expression, expression, Expressions, no_expressions, an_expression, Send, send, Sends, no_sends, a_send}
 use Rattle.tree_meaning.specs.declared.name.Singleton.TheVariants as singleton
 use Rattle.tree_meaning.specs.declared.form.Form.{Form}
 use Rattle.tree_meaning.specs.declared.form.Form.TheVariants.{Plain, OneArm, TwoArms, Counting, Repeating}

@@ -1,9 +1,9 @@
 -- Loops. A loop ends at the latest when no unit is left: so it is told by recursion on how many
 -- turns there can be, which is one more than the units that are left.
 use Rattle.std.specs.Prelude.{ℕ, zero, suc, Bool, ℤ, pos, ◌+ℤ◌, int_le}
-use Rattle.gem_object.specs.declared.value.Value.{Value}
-use Rattle.gem_object.specs.declared.value.Value.TheVariants.{Nil, Int}
-use Rattle.profile.specs.declared.integers.TheConstants.{LARGEST_INTEGER}
+use Rattle.object_programs.specs.gem_object.declared.value.Value.{Value}
+use Rattle.object_programs.specs.gem_object.declared.value.Value.TheVariants.{Nil, Int}
+use Rattle.object_programs.specs.texts.declared.integers.TheConstants.{LARGEST_INTEGER}
 use Rattle.object_programs.specs.Atom.{Tick}
 use Rattle.object_programs.specs.Run.{give, fail, atom, seeing, and_then}
 use Rattle.object_programs.specs.Programs.{choose}

@@ -2,10 +2,10 @@
 -- names that are no variables, is one record of programs. All that decides, as special forms,
 -- cascades and loops, is a function over small records of programs, and looks at no tree.
 use Rattle.std.specs.Prelude.{pos, Bool, true, false, List, [], ◌∷◌, Option, None, Some}
-use Rattle.texts.specs.Bytes.{Bytes as Text}
-use Rattle.st_tree.specs.Trees.{Constant, int, char, str, sym, nothing, yes, no, array, Head, name, constant, block, paren, Closure, closure, Expression, expression, Expressions, no_expressions, an_expression, Send, send, Sends, no_sends, a_send, Statement, statement, Statements, no_statements, a_statement}
-use Rattle.gem_object.specs.declared.value.Value.{Value}
-use Rattle.gem_object.specs.declared.value.Value.TheVariants as value
+use Rattle.object_programs.specs.texts.Bytes.{Bytes as Text}
+use Rattle.object_programs.specs.st_tree.Trees.{Constant, int, char, str, sym, nothing, yes, no, array, Head, name, constant, block, paren, Closure, closure, Expression, expression, Expressions, no_expressions, an_expression, Send, send, Sends, no_sends, a_send, Statement, statement, Statements, no_statements, a_statement}
+use Rattle.object_programs.specs.gem_object.declared.value.Value.{Value}
+use Rattle.object_programs.specs.gem_object.declared.value.Value.TheVariants as value
 use Rattle.object_programs.specs.Atom.{Tick}
 use Rattle.object_programs.specs.Run.{give, atom, and_then}
 use Rattle.tree_meaning.specs.Place.{Place, Frame}

@@ -1,8 +1,8 @@
 -- What a name stands for at a place.
 use Rattle.std.specs.Prelude.{ℕ, suc, Bool, cond, if◌then◌else◌, List, [], ◌∷◌, Option, None, Some, option_map, codes, bytes_eq}
-use Rattle.texts.specs.Bytes.{Bytes as Text}
-use Rattle.gem_object.specs.declared.value.Value.{Value}
-use Rattle.gem_object.specs.declared.value.Value.TheVariants as value
+use Rattle.object_programs.specs.texts.Bytes.{Bytes as Text}
+use Rattle.object_programs.specs.gem_object.declared.value.Value.{Value}
+use Rattle.object_programs.specs.gem_object.declared.value.Value.TheVariants as value
 use Rattle.tree_meaning.specs.declared.name.Singleton.{Singleton}
 use Rattle.tree_meaning.specs.declared.name.Singleton.TheVariants as singleton
 use Rattle.tree_meaning.specs.declared.name.Where.{Where}

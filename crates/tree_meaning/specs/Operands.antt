@@ -1,7 +1,7 @@
 -- What the special forms ask of values.
 use Rattle.std.specs.Prelude.{Bool}
-use Rattle.gem_object.specs.declared.value.Value.{Value}
-use Rattle.gem_object.specs.declared.value.Value.TheVariants as value
+use Rattle.object_programs.specs.gem_object.declared.value.Value.{Value}
+use Rattle.object_programs.specs.gem_object.declared.value.Value.TheVariants as value
 use Rattle.object_programs.specs.Run.{Run, fail}
 use Rattle.object_programs.specs.Programs.{choose}
 use Rattle.object_programs.specs.declared.fault.Fault.TheVariants as fault

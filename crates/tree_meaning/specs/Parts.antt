@@ -1,9 +1,9 @@
 -- How the programs of a tree's parts are put together: messages in turn, cascades, statements,
 -- literal blocks. Nothing here looks at a tree.
 use Rattle.std.specs.Prelude.{Bool, true, false, List, [], ◌∷◌, ◌++◌, length, Option, None, Some}
-use Rattle.texts.specs.Bytes.{Bytes as Text}
-use Rattle.gem_object.specs.declared.value.Value.{Value}
-use Rattle.gem_object.specs.declared.value.Value.TheVariants as value
+use Rattle.object_programs.specs.texts.Bytes.{Bytes as Text}
+use Rattle.object_programs.specs.gem_object.declared.value.Value.{Value}
+use Rattle.object_programs.specs.gem_object.declared.value.Value.TheVariants as value
 use Rattle.object_programs.specs.Run.{give, fail, return_to, seeing, and_then}
 use Rattle.object_programs.specs.Programs.{choose}
 use Rattle.object_programs.specs.declared.fault.Fault.TheVariants as fault

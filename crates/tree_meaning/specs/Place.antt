@@ -1,9 +1,9 @@
 -- Where a part of a tree stands: what is known of it before anything runs, and what an activation
 -- knows when it comes there.
 use Rattle.std.specs.Prelude.{ℕ, Bool, List}
-use Rattle.texts.specs.Bytes.{Bytes as Text}
-use Rattle.st_tree.specs.Trees.{Closure}
-use Rattle.gem_object.specs.declared.value.Value.{Value}
+use Rattle.object_programs.specs.texts.Bytes.{Bytes as Text}
+use Rattle.object_programs.specs.st_tree.Trees.{Closure}
+use Rattle.object_programs.specs.gem_object.declared.value.Value.{Value}
 use Rattle.tree_meaning.specs.declared.place.Mark.{Mark}
 
 -- What is known of a place in a tree before anything runs.

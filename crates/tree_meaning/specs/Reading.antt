@@ -1,10 +1,10 @@
 -- How a tree is read: what its parts do, by cases on the tree. A deed is what something does in
 -- each state. The laws in `src/laws.rt` say that the programs of the meaning do just this.
 use Rattle.std.specs.Prelude.{◌≡◌, ◌≢◌, ◌<◌, slice_get, Some, ℕ, zero, suc, nat_eq, Bool, true, false, List, [], ◌∷◌}
-use Rattle.texts.specs.Bytes.{Bytes as Text}
-use Rattle.st_tree.specs.Trees.{block, Closure, Expression, expression, Expressions, no_expressions, an_expression, Send, Sends, no_sends, a_send}
-use Rattle.gem_object.specs.declared.value.Value.{Value}
-use Rattle.gem_world.specs.World.{Setting}
+use Rattle.object_programs.specs.texts.Bytes.{Bytes as Text}
+use Rattle.object_programs.specs.st_tree.Trees.{block, Closure, Expression, expression, Expressions, no_expressions, an_expression, Send, Sends, no_sends, a_send}
+use Rattle.object_programs.specs.gem_object.declared.value.Value.{Value}
+use Rattle.object_programs.specs.gem_world.World.{Setting}
 use Rattle.object_programs.specs.Run.{Ending, gives, returns, fails, State, Outcome, onward, perform}
 use Rattle.object_programs.specs.declared.fault.Fault.{Fault}
 use Rattle.object_programs.specs.declared.fault.Fault.TheVariants as fault

@@ -2,9 +2,9 @@
 -- what is left and what is local. Laws over it say nothing of what touches objects, but their
 -- lemmas hold of anything that stands outside.
 use Rattle.std.specs.Prelude.{Bool, List}
-use Rattle.texts.specs.Bytes.{Bytes as Text}
-use Rattle.st_tree.specs.Trees.{Constant}
-use Rattle.gem_object.specs.declared.value.Value.{Value}
+use Rattle.object_programs.specs.texts.Bytes.{Bytes as Text}
+use Rattle.object_programs.specs.st_tree.Trees.{Constant}
+use Rattle.object_programs.specs.gem_object.declared.value.Value.{Value}
 use Rattle.object_programs.specs.Atom.{Tick}
 use Rattle.object_programs.specs.Budget.{Budget}
 use Rattle.object_programs.specs.Local.{Local}

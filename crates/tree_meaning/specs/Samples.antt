@@ -1,11 +1,11 @@
 -- Worked chunks: what a few of them come to, where integers understand `+` and nothing else is
 -- understood.
 use Rattle.std.specs.Prelude.{◌≡◌, ℕ, pos, ◌+ℤ◌, true, false, List, [], ◌∷◌, length, None, codes}
-use Rattle.texts.specs.Bytes.{Bytes as Text}
-use Rattle.st_tree.specs.Trees.{int, Head, name, constant, block, closure, Expression, expression, expressions, Send, send, sends, Statement, statement, statements, Program}
-use Rattle.gem_object.specs.declared.value.Value.{Value}
-use Rattle.gem_object.specs.declared.value.Value.TheVariants as value
-use Rattle.gem_world.specs.World.{Setting, untouched}
+use Rattle.object_programs.specs.texts.Bytes.{Bytes as Text}
+use Rattle.object_programs.specs.st_tree.Trees.{int, Head, name, constant, block, closure, Expression, expression, expressions, Send, send, sends, Statement, statement, statements, Program}
+use Rattle.object_programs.specs.gem_object.declared.value.Value.{Value}
+use Rattle.object_programs.specs.gem_object.declared.value.Value.TheVariants as value
+use Rattle.object_programs.specs.gem_world.World.{Setting, untouched}
 use Rattle.object_programs.specs.Local.{nothing}
 use Rattle.object_programs.specs.Run.{Ending, gives, fails, State, Outcome, perform}
 use Rattle.object_programs.specs.declared.fault.Fault.TheVariants as fault

@@ -4,8 +4,8 @@
 -- was made since it began, it is given back with all that came after it: nothing can refer to it
 -- any more, and no script sees the difference. Where a block was made all of them stay.
 use Rattle.std.specs.Prelude.{ℕ, zero, suc, Bool, true, false, nat_eq, List, [], ◌∷◌, ◌++◌, length, get_or, take, set, replicate}
-use Rattle.gem_object.specs.declared.value.Value.{Value}
-use Rattle.gem_object.specs.declared.value.Value.TheVariants.{Nil}
+use Rattle.object_programs.specs.gem_object.declared.value.Value.{Value}
+use Rattle.object_programs.specs.gem_object.declared.value.Value.TheVariants.{Nil}
 use Rattle.object_programs.specs.Local.{Local}
 use Rattle.object_programs.specs.Run.{give, fail, return_to, seeing, become, and_then, Ending, gives, returns, fails}
 use Rattle.object_programs.specs.Programs.{choose}

@@ -1,13 +1,13 @@
 //! What follows from the definitions alone. Each law is the contract of a function that does
 //! nothing. What stands outside a tree is anything that `Replies` can say.
 ghost use Rattle.std.specs.Prelude.{◌≡◌, ◌++◌, ◌∷◌, ◌+ℤ◌, ◌&&◌, [], ℕ, ℤ, pos, suc, int_le, nat_eq, length, slice_get, replicate, codes, Bool, true, false, List, Some, None};
-ghost use Rattle.texts.specs.Bytes.{Bytes};
-ghost use Rattle.st_tree.specs.Trees.{Program, Head, block, paren, Closure, closure, Expression, expression, Expressions, no_expressions, an_expression, Send, send, Sends, no_sends, a_send, append_sends, statement, Statements};
-ghost use Rattle.gem_object.specs.declared.value.Value.{Value};
-ghost use Rattle.gem_object.specs.declared.value.Value.TheVariants as value;
-ghost use Rattle.gem_world.specs.World.{Setting};
+ghost use Rattle.object_programs.specs.texts.Bytes.{Bytes};
+ghost use Rattle.object_programs.specs.st_tree.Trees.{Program, Head, block, paren, Closure, closure, Expression, expression, Expressions, no_expressions, an_expression, Send, send, Sends, no_sends, a_send, append_sends, statement, Statements};
+ghost use Rattle.object_programs.specs.gem_object.declared.value.Value.{Value};
+ghost use Rattle.object_programs.specs.gem_object.declared.value.Value.TheVariants as value;
+ghost use Rattle.object_programs.specs.gem_world.World.{Setting};
 ghost use Rattle.object_programs.specs.Run.{gives, fails, State};
-ghost use Rattle.profile.specs.declared.integers.TheConstants.{LARGEST_INTEGER};
+ghost use Rattle.object_programs.specs.texts.declared.integers.TheConstants.{LARGEST_INTEGER};
 ghost use Rattle.object_programs.specs.declared.fault.Fault.TheVariants as fault;
 ghost use Rattle.tree_meaning.specs.Place.{Place, Frame, MadeBlock};
 ghost use Rattle.tree_meaning.specs.Names.{variable_in, where_is, singleton_value};

@@ -1,11 +1,8 @@
 // What updates change of the slots and of the stored bytes of a body, by class.
 use crate::gem_update_tests::{add, bag, dict, put, remove};
 use body_growth::{Change, body_updated};
-use gem_object::{Body, Value};
+use gem_object::{BagUpdate, Body, Counter, DictUpdate, Queue, QueueUpdate, Value};
 use gem_update::Update;
-use rc_counter_bag::{BagUpdate, Counter};
-use rc_dict::DictUpdate;
-use rc_queue::{Queue, QueueUpdate};
 use std::alloc::Global;
 use std::test::Fail;
 

@@ -1,10 +1,9 @@
 // Updates and merges as sessions and commits make them, by class, and the same over bodies.
-use gem_object::{Body, Value};
+use gem_object::{
+    Bag, BagFault, BagUpdate, Body, ConflictKind, Counter, CounterRange, DictFault, DictUpdate,
+    KeyDict, Queue, QueueFault, QueueUpdate, Value,
+};
 use gem_update::*;
-use gem_value::ConflictKind;
-use rc_counter_bag::{Bag, BagFault, BagUpdate, Counter, CounterRange};
-use rc_dict::{DictFault, DictUpdate, KeyDict};
-use rc_queue::{Queue, QueueFault, QueueUpdate};
 use std::alloc::Global;
 use std::slice;
 use std::test::Fail;

@@ -3,11 +3,9 @@ ghost use Rattle.std.specs.Prelude.{◌↔◌, IsTrue};
 ghost use Rattle.std.specs.Ordering.{nat_cmp};
 ghost use Rattle.sorted_pairs.specs.Place.{Ascends};
 
-use gem_object::{Body, Object, Value};
+use gem_object::{BagUpdate, Body, Object, Oid, Sequence, Value};
 use gem_update::Update;
-use gem_value::{Oid, Sequence};
 use kept_set::kept;
-use rc_counter_bag::BagUpdate;
 use sorted_pairs::ascend;
 use std::alloc::Global;
 use std::test::Fail;

@@ -3,16 +3,13 @@ ghost use Rattle.std.specs.Prelude.{◌≡◌, ◌<◌};
 
 use crate::notes::note_unless;
 use crate::walk::is_shared;
-use gem_object::{Body, Object, Value, Values};
+use gem_object::{Body, Counter, Object, Oid, Right, Value, Values};
 use gem_record::TxnRecord;
 use gem_sound::names::{ARRAY_CLASS, DATA_CURATOR_SEGMENT, SYSTEM_SEGMENT};
 use gem_update::Update;
-use gem_value::Oid;
 use kernel_state::{begin_over, kernel_name, larger_image};
 use object_programs::COUNTER_LIMIT;
 use radix_pages::Steps;
-use rc_counter_bag::Counter;
-use seg_rights::Right;
 use session_view::{View, ViewFault};
 use std::alloc::{AllocError, Global};
 use std::marker::Brand;

@@ -1,6 +1,6 @@
 use Rattle.std.proofs.Common.{sym}
 use Rattle.std.specs.Ordering.{nat_cmp}
-use Rattle.rc_dict.proofs.Edits.{entry-stands, absent}
+use Rattle.gem_object.proofs.rc_dict_lemmas.Edits.{entry-stands, absent}
 use Rattle.gem_record.proofs.by_name.under.Goals as goal
 
 pub returns-in-Ok : goal.returns-in-Ok

@@ -1,7 +1,7 @@
 use Rattle.std.proofs.Common.{◌++◌, ap₂, ◌∙◌, codes}
 use Rattle.std.proofs.lemmas.Result.{IfOk-weaker}
 use Rattle.std.specs.Fmt.{decimal}
-use Rattle.gem_value.specs.Oid.{oid_text}
+use Rattle.gem_object.specs.gem_value.Oid.{oid_text}
 use Rattle.gem_replies.specs.Line.{kind_name}
 use Rattle.gem_replies.proofs.Written.{eight_pieces}
 use Rattle.gem_replies.proofs.report.denied_words.Goals as goal

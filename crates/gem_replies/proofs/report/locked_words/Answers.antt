@@ -1,6 +1,6 @@
 use Rattle.std.proofs.Common.{◌++◌, ap₂, ◌∙◌, codes}
 use Rattle.std.proofs.lemmas.Result.{IfOk-weaker}
-use Rattle.gem_value.specs.Oid.{oid_text}
+use Rattle.gem_object.specs.gem_value.Oid.{oid_text}
 use Rattle.gem_replies.specs.Line.{kind_name, state_name}
 use Rattle.gem_replies.proofs.Written.{six_pieces}
 use Rattle.gem_replies.proofs.report.locked_words.Goals as goal

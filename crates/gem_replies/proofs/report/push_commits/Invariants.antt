@@ -1,5 +1,5 @@
 use Rattle.std.proofs.Common.{◌≡◌, ◌+◌, ◌++◌, take}
-use Rattle.texts.specs.Lines.{text_of_lines}
+use Rattle.gem_object.specs.texts.Lines.{text_of_lines}
 use Rattle.gem_replies.specs.Report.{history_lines}
 use Rattle.gem_replies.proofs.report.push_commits.Given as goal
 

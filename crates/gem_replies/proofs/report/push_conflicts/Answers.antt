@@ -1,5 +1,5 @@
 use Rattle.std.proofs.Common.{◌≡◌, ◌++◌, ◌∷◌, [], ap, ◌∙◌, length, arith}
-use Rattle.texts.specs.Lines.{text_of_lines}
+use Rattle.gem_object.specs.texts.Lines.{text_of_lines}
 use Rattle.gem_replies.specs.Report.{conflict_text}
 use Rattle.gem_replies.proofs.Written.{all_written, line_by_item}
 use Rattle.gem_replies.proofs.report.push_conflicts.Goals as goal

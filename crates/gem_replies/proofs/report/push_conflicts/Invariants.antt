@@ -1,6 +1,6 @@
 use Rattle.std.proofs.Common.{◌≡◌, ◌++◌, ◌∷◌, [], take}
 use Rattle.std.specs.List.{flat_map}
-use Rattle.texts.specs.Lines.{text_of_lines}
+use Rattle.gem_object.specs.texts.Lines.{text_of_lines}
 use Rattle.gem_replies.specs.Report.{conflict_text}
 use Rattle.gem_replies.proofs.report.push_conflicts.Given as goal
 

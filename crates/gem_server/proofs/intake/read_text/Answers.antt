@@ -1,6 +1,6 @@
 use Rattle.std.proofs.Common.{◌<◌, ◌≤◌, ◌++◌, length, take, arith, refl}
 use Rattle.std.proofs.lemmas.Result.{err_from_is_err_and}
-use Rattle.profile.specs.declared.limits.TheConstants.{SCRIPT_LIMIT}
+use Rattle.shell_words.specs.declared.limits.TheConstants.{SCRIPT_LIMIT}
 use Rattle.gem_server.proofs.Devices.{read_piece}
 use Rattle.gem_server.proofs.intake.read_text.Goals as goal
 

@@ -1,5 +1,5 @@
 use Rattle.std.proofs.Common.{◌-◌, length}
-use Rattle.profile.specs.declared.limits.TheConstants.{SCRIPT_LIMIT}
+use Rattle.shell_words.specs.declared.limits.TheConstants.{SCRIPT_LIMIT}
 use Rattle.gem_server.proofs.Devices.{HasRead}
 use Rattle.gem_server.proofs.intake.read_text.Given as goal
 

@@ -1,5 +1,5 @@
 use Rattle.std.proofs.Common.{All, subst, sym, length, ◌<◌, List}
-use Rattle.texts.specs.Bytes.{Bytes as Text}
+use Rattle.gem_object.specs.texts.Bytes.{Bytes as Text}
 use Rattle.gem_object.specs.Spelling.{IsText}
 use Rattle.kernel_tests.proofs.ImageSamples.{user_is}
 use Rattle.kernel_tests.proofs.gem_image_tests.user.Goals as goal

@@ -1,6 +1,6 @@
 use Rattle.std.proofs.Common.{◌≡◌, sym, subst, None}
 use Rattle.std.proofs.lemmas.Option.{same_Some}
-use Rattle.texts.specs.Bytes.{Bytes as Text}
+use Rattle.gem_object.specs.texts.Bytes.{Bytes as Text}
 use Rattle.gem_language.specs.LookUp.{Start}
 use Rattle.running_objects.specs.Seen.{Seen}
 use Rattle.look_up_cache.specs.Remembered.{Finds}

@@ -1,5 +1,5 @@
 use Rattle.std.proofs.Common.{sym, subst}
-use Rattle.gem_image.specs.Image.{contents_of}
+use Rattle.running_objects.specs.gem_image.Image.{contents_of}
 use Rattle.gem_language.specs.LookUp.{Start}
 use Rattle.running_objects.specs.Seen.{Seen}
 use Rattle.look_up_cache.specs.Calm.{Begins}

@@ -1,5 +1,5 @@
 use Rattle.std.proofs.Common.{sym, subst}
-use Rattle.gem_world.specs.World.{Setting}
+use Rattle.running_objects.specs.gem_world.World.{Setting}
 use Rattle.look_up_cache.specs.Calm.{Begins}
 use Rattle.look_up_cache.specs.Remembered.{Finds}
 use Rattle.look_up_cache.proofs.Stays.{begins_stay, finds_stay}

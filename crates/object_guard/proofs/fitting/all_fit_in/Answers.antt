@@ -1,5 +1,5 @@
 use Rattle.std.proofs.Common.{◌∙◌, sym, ap, length, arith}
-use Rattle.gem_image.specs.Image.{contents_of}
+use Rattle.object_programs.specs.gem_image.Image.{contents_of}
 use Rattle.std.proofs.Common.{map}
 use Rattle.object_programs.specs.Guard.{all_fit}
 use Rattle.object_guard.proofs.Pieces.{method_first, methods_left, others_left}

@@ -1,7 +1,7 @@
 use Rattle.std.proofs.Common.{◌≡◌, ◌+◌, ◌^◌, ◌≤◌, ℕ, true, length, map}
 use Rattle.std.specs.List.{list_all}
 use Rattle.gem_object.specs.declared.object.Object.{Object}
-use Rattle.gem_image.specs.Image.{contents_of}
+use Rattle.object_programs.specs.gem_image.Image.{contents_of}
 use Rattle.object_programs.specs.Guard.{all_fit}
 use Rattle.object_programs.specs.Methods.{methods_fit}
 use Rattle.object_guard.proofs.fitting.all_fit_in.Given as goal

@@ -1,5 +1,5 @@
 use Rattle.std.proofs.Common.{◌∙◌, sym}
-use Rattle.gem_image.specs.Image.{contents_of}
+use Rattle.object_programs.specs.gem_image.Image.{contents_of}
 use Rattle.object_guard.proofs.Pieces.{fits_by}
 use Rattle.object_guard.proofs.fitting.fits_in.Goals as goal
 

@@ -1,5 +1,5 @@
 use Rattle.std.proofs.Common.{refl}
-use Rattle.gem_sound.specs.Kernel.{kernel_bodies, kernel_classes}
+use Rattle.object_programs.specs.gem_sound.Kernel.{kernel_bodies, kernel_classes}
 use Rattle.object_guard.proofs.kernel.bodies.Goals as goal
 
 pub returns : goal.returns

@@ -1,6 +1,6 @@
 use Rattle.std.proofs.Common.{◌∙◌, ap}
 use Rattle.std.specs.Option.{option_map}
-use Rattle.gem_sound.specs.Kernel.{numbered}
+use Rattle.object_programs.specs.gem_sound.Kernel.{numbered}
 use Rattle.object_guard.specs.Kernel.{body_of}
 use Rattle.object_guard.proofs.Rows.{numbered_map}
 use Rattle.object_guard.proofs.kernel.kernel_body.Goals as goal

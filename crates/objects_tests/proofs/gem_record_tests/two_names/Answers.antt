@@ -1,7 +1,7 @@
 use Rattle.std.proofs.Common.{◌≡◌, [], ◌∷◌, refl, rules}
 use Rattle.std.specs.Ordering.{nat_cmp}
 use Rattle.std.specs.declared.cmp.Ordering.TheVariants.{Less}
-use Rattle.gem_value.specs.Oid.{oid_number}
+use Rattle.gem_object.specs.gem_value.Oid.{oid_number}
 use Rattle.objects_tests.proofs.TwoNames.{two_ascend}
 use Rattle.objects_tests.proofs.gem_record_tests.two_names.Goals as goal
 

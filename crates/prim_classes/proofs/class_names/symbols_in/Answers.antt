@@ -1,5 +1,5 @@
 use Rattle.std.proofs.Common.{◌≡◌, ◌+◌, ◌++◌, List, drop, option_map, subst, sym, arith}
-use Rattle.texts.specs.Bytes.{Bytes as Text}
+use Rattle.gem_object.specs.texts.Bytes.{Bytes as Text}
 use Rattle.prim_rules.specs.Classes.{symbols_in}
 use Rattle.prim_classes.proofs.Lists.{symbol_none, symbol_more}
 use Rattle.prim_classes.proofs.class_names.symbols_in.Goals as goal

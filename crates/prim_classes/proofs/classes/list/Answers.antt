@@ -1,4 +1,4 @@
-use Rattle.gem_world.specs.Access.{a_read}
+use Rattle.object_programs.specs.gem_world.Access.{a_read}
 use Rattle.prim_rules.specs.Parts.{class_in}
 use Rattle.prim_parts.proofs.Does.{does_then, does_give, does_exit, computes_then}
 use Rattle.prim_classes.proofs.Steps.{does_no_memory}

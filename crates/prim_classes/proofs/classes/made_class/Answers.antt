@@ -1,7 +1,7 @@
 use Rattle.std.proofs.Common.{refl, ◌∙◌}
 use Rattle.prim_parts.proofs.Does.{does_then, does_exit}
 use Rattle.gem_image.specs.Image.{contents_of}
-use Rattle.gem_world.specs.Access.{a_write}
+use Rattle.object_programs.specs.gem_world.Access.{a_write}
 use Rattle.prim_rules.specs.Parts.{pairs_in}
 use Rattle.prim_classes.proofs.Stays.{segment_shows}
 use Rattle.prim_classes.proofs.ClassFacts.{received_as, received_none, received_refused, pairs_there}

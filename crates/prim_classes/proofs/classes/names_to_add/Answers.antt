@@ -1,4 +1,4 @@
-use Rattle.texts.specs.Bytes.{Bytes as Text}
+use Rattle.gem_object.specs.texts.Bytes.{Bytes as Text}
 use Rattle.prim_rules.specs.Classes.{symbols_in, may_add_names}
 use Rattle.object_programs.specs.declared.fault.Fault.TheVariants as fault
 use Rattle.std.proofs.Common.{List, sym, ap, ◌∙◌}

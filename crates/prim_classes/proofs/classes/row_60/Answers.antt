@@ -1,5 +1,5 @@
 use Rattle.object_programs.specs.declared.fault.Fault.TheVariants as fault
-use Rattle.gem_world.specs.Access.{a_write}
+use Rattle.object_programs.specs.gem_world.Access.{a_write}
 use Rattle.prim_rules.specs.Parts.{class_in}
 use Rattle.prim_parts.proofs.Does.{does_then, does_exit, computes_then}
 use Rattle.prim_classes.proofs.Steps.{does_no_memory}

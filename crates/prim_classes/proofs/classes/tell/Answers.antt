@@ -1,5 +1,5 @@
 use Rattle.std.proofs.Common.{ap}
-use Rattle.gem_world.specs.Access.{a_read}
+use Rattle.object_programs.specs.gem_world.Access.{a_read}
 use Rattle.prim_rules.specs.declared.answer.PrimitiveAnswer.TheVariants.{Gives}
 use Rattle.prim_rules.specs.Parts.{class_in}
 use Rattle.prim_parts.proofs.Does.{does_then, does_exit, computes_then}

@@ -1,5 +1,5 @@
 use Rattle.running_objects.specs.declared.stop.Stop.TheVariants as stop
-use Rattle.texts.specs.Bytes.{Bytes as Text}
+use Rattle.gem_object.specs.texts.Bytes.{Bytes as Text}
 use Rattle.prim_rules.specs.Classes.{new_class}
 use Rattle.prim_classes.proofs.ClassMade.{gives_wanted}
 use Rattle.std.proofs.Common.{ap, ◌∙◌}

@@ -3,7 +3,7 @@ use Rattle.std.proofs.lemmas.Bool.{false≢true}
 use Rattle.std.specs.List.Sorted.{IsStrictlySortedBy}
 use Rattle.gem_object.specs.contracts.value.ValueOrd.TheImpl as order
 use Rattle.gem_object.specs.declared.value.Value.{Value}
-use Rattle.rc_counter_bag.specs.Bag.{IsBag}
+use Rattle.gem_object.specs.rc_counter_bag.Bag.{IsBag}
 use Rattle.prim_classes.proofs.creation.no_items.Goals as goal
 
 pub returns-in-None : goal.returns-in-None

@@ -3,7 +3,7 @@ use Rattle.std.proofs.lemmas.Bool.{false≢true}
 use Rattle.std.specs.List.Sorted.{IsStrictlySortedBy}
 use Rattle.gem_object.specs.contracts.value.ValueOrd.TheImpl as order
 use Rattle.gem_object.specs.declared.value.Value.{Value}
-use Rattle.rc_dict.specs.Dict.{IsDict}
+use Rattle.gem_object.specs.rc_dict.Dict.{IsDict}
 use Rattle.prim_classes.proofs.creation.no_pairs.Goals as goal
 
 pub returns-in-None : goal.returns-in-None

@@ -1,6 +1,6 @@
 use Rattle.std.proofs.Common.{◌≡◌, ◌++◌, ◌-◌, ◌∙◌, sym, ap, List, None, [], arith}
 use Rattle.std.proofs.lemmas.List.{append-nil}
-use Rattle.texts.specs.Bytes.{Bytes as Text}
+use Rattle.gem_object.specs.texts.Bytes.{Bytes as Text}
 use Rattle.object_programs.specs.Guard.{Parts}
 use Rattle.object_programs.specs.Programs.{part_of}
 use Rattle.prim_parts.specs.Walks.{part_of_class, parts_seen, classes_up, names_of}

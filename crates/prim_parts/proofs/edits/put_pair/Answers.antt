@@ -1,7 +1,7 @@
 use Rattle.std.proofs.Common.{sym}
 use Rattle.std.proofs.lemmas.Result.{err_from_is_err_and}
 use Rattle.gem_object.specs.Edits.{with_value_at}
-use Rattle.gem_image.specs.Image.{contents_of}
+use Rattle.gem_sound.specs.gem_image.Image.{contents_of}
 use Rattle.prim_rules.specs.Dictionaries.{pair_growth}
 use Rattle.prim_parts.proofs.Replaced.{replaced_stop, replaced_then}
 use Rattle.prim_parts.proofs.edits.put_pair.Goals as goal

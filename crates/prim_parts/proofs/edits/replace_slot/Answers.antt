@@ -1,7 +1,7 @@
 use Rattle.std.proofs.Common.{refl, sym}
 use Rattle.std.proofs.lemmas.Result.{err_from_is_err_and}
 use Rattle.gem_object.specs.Edits.{with_slot}
-use Rattle.gem_image.specs.Image.{contents_of}
+use Rattle.gem_sound.specs.gem_image.Image.{contents_of}
 use Rattle.prim_parts.proofs.Replaced.{replaced_stop, replaced_then}
 use Rattle.prim_parts.proofs.edits.replace_slot.Goals as goal
 

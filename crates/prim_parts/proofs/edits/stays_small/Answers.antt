@@ -1,4 +1,4 @@
-use Rattle.gem_image.specs.Image.{contents_of}
+use Rattle.gem_sound.specs.gem_image.Image.{contents_of}
 use Rattle.prim_parts.proofs.Replaced.{limits_told, stored_held}
 use Rattle.prim_parts.proofs.edits.stays_small.Goals as goal
 

@@ -1,6 +1,6 @@
 use Rattle.std.proofs.Common.{◌≡◌, ◌∙◌, sym, ap, Bool, ◌&&◌}
 use Rattle.std.proofs.lemmas.Option.{none-some}
-use Rattle.gem_image.specs.Image.{contents_of}
+use Rattle.gem_sound.specs.gem_image.Image.{contents_of}
 use Rattle.prim_parts.proofs.Replaced.{limits_updated}
 use Rattle.prim_parts.proofs.edits.stays_small_updated.Goals as goal
 use Rattle.prim_parts.proofs.edits.stays_small_updated.Goals.{then-before, else-before}

@@ -1,7 +1,7 @@
 use Rattle.std.proofs.Common.{◌≡◌, List, length, map, ap, ◌∙◌, arith}
 use Rattle.std.specs.List.{list_all}
 use Rattle.gem_object.specs.declared.object.Object.{Object}
-use Rattle.gem_image.specs.Image.{contents_of}
+use Rattle.gem_sound.specs.gem_image.Image.{contents_of}
 use Rattle.object_programs.specs.Budget.{is_within_limits}
 use Rattle.prim_parts.proofs.Entries.{entry_large, dictionary_large, entry_unnamed, entry_no_room, entry_made, all_small}
 use Rattle.prim_parts.proofs.entering.make_and_enter.Goals as goal

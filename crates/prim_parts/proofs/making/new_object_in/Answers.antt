@@ -1,6 +1,6 @@
 use Rattle.std.proofs.Common.{sym, ap, ℕ, List, [], ◌∷◌, map}
 use Rattle.gem_object.specs.declared.value.Value.TheVariants as value
-use Rattle.gem_image.specs.Image.{Contents, contents_of}
+use Rattle.gem_sound.specs.gem_image.Image.{Contents, contents_of}
 use Rattle.prim_rules.specs.Parts.{new_object_in}
 use Rattle.prim_parts.proofs.Does.{does_atom, does_give, does_then, does_exit}
 use Rattle.prim_parts.proofs.making.new_object_in.Goals as goal

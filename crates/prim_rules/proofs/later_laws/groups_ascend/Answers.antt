@@ -3,7 +3,7 @@ use Rattle.std.proofs.Common.{subst, sym}
 use Rattle.std.proofs.lemmas.Cmp.{nat_list_cmp_total}
 use Rattle.std.specs.Ordering.{nat_cmp}
 use Rattle.std.specs.Cmp.Lexicographic.{slice_cmp}
-use Rattle.seg_rights.specs.declared.right.Right.TheVariants.{None as NoRight, Read, Write}
+use Rattle.gem_object.specs.seg_rights.declared.right.Right.TheVariants.{None as NoRight, Read, Write}
 use Rattle.gem_object.specs.Spelling.{Ascend}
 use Rattle.prim_rules.proofs.Ascending.{insert_ascends, remove_ascends, keys_with_entry, keys_without_entry}
 use Rattle.prim_rules.proofs.later_laws.groups_ascend.Goals as goal

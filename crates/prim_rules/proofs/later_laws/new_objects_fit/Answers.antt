@@ -1,5 +1,5 @@
 use Rattle.std.proofs.Common.{refl}
-use Rattle.gem_sound.specs.Kernel.{kernel_classes, kernel_bodies}
+use Rattle.object_programs.specs.gem_sound.Kernel.{kernel_classes, kernel_bodies}
 use Rattle.object_programs.specs.Guard.{names_at, fits}
 use Rattle.object_programs.specs.Spelled.{is_spelled}
 use Rattle.prim_rules.specs.Admitted.{kernel_parts, fit_beside_kernel}

@@ -1,7 +1,7 @@
 use Rattle.std.specs.Prelude.{pos, length, [], ◌∷◌}
 use Rattle.std.proofs.Common.{refl, ap, ◌∙◌}
 use Rattle.gem_object.specs.declared.value.Value.TheVariants.{Nil, True, False, Int, Char, Block}
-use Rattle.gem_world.specs.Access.{a_read, a_write}
+use Rattle.object_programs.specs.gem_world.Access.{a_read, a_write}
 use Rattle.object_programs.specs.Run.{give, Outcome}
 use Rattle.object_programs.specs.declared.fault.Fault.TheVariants as fault
 use Rattle.prim_rules.specs.declared.answer.PrimitiveAnswer.{PrimitiveAnswer}

@@ -1,15 +1,15 @@
 use Rattle.std.specs.Prelude.{[], ◌∷◌, codes}
 use Rattle.std.specs.Fmt.{digits}
 use Rattle.std.proofs.Common.{refl, ap}
-use Rattle.texts.specs.Bytes.{Bytes as Text}
+use Rattle.gem_object.specs.texts.Bytes.{Bytes as Text}
 use Rattle.gem_object.specs.declared.value.Value.TheVariants.{Nil, Char, Sym, Ref}
-use Rattle.gem_world.specs.Access.{a_read}
+use Rattle.object_programs.specs.gem_world.Access.{a_read}
 use Rattle.object_programs.specs.Run.{Outcome}
 use Rattle.prim_rules.specs.Texts.{is_symbol_token}
 use Rattle.prim_rules.specs.Worked.{NoBlocks, after, minus, string_in, array_in}
 use Rattle.prim_rules.proofs.Printed.{object_printed, not_printed, array_in_array}
 use Rattle.prim_rules.proofs.laws.objects_are_read.Goals as goal
-use Rattle.gem_sound.specs.declared.names.TheConstants.{ARRAY_CLASS}
+use Rattle.object_programs.specs.gem_sound.declared.names.TheConstants.{ARRAY_CLASS}
 
 pub returns-clause-text : goal.returns-clause-text
 returns-clause-text c = λ name segment setting state may.

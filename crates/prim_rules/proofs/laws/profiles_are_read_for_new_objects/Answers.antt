@@ -1,6 +1,6 @@
 use Rattle.std.proofs.Common.{ap}
 use Rattle.gem_object.specs.declared.value.Value.{Value}
-use Rattle.gem_world.specs.Access.{a_read}
+use Rattle.object_programs.specs.gem_world.Access.{a_read}
 use Rattle.object_programs.specs.Run.{Outcome}
 use Rattle.object_programs.specs.declared.fault.Fault.TheVariants as fault
 use Rattle.prim_rules.specs.Parts.{default_segment, new_object_in, new_object}

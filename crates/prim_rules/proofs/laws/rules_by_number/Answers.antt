@@ -1,5 +1,5 @@
 use Rattle.std.specs.Prelude.{refl}
-use Rattle.op_table.specs.Prims.{primitives}
+use Rattle.object_programs.specs.op_table.Prims.{primitives}
 use Rattle.prim_rules.proofs.laws.rules_by_number.Goals as goal
 
 pub returns : goal.returns

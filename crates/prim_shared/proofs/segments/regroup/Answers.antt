@@ -2,8 +2,8 @@ use Rattle.std.proofs.Common.{◌≡◌, sym, ap, ◌∙◌, None, arith}
 use Rattle.running_objects.specs.Seen.{object_at}
 use Rattle.prim_shared.specs.Held.{held_of}
 use Rattle.prim_shared.proofs.Steps.{over, finds, never_none}
-use Rattle.texts.specs.Bytes.{Bytes as Text}
-use Rattle.seg_rights.specs.declared.rights.Rights.{Rights}
+use Rattle.gem_object.specs.texts.Bytes.{Bytes as Text}
+use Rattle.gem_object.specs.seg_rights.declared.rights.Rights.{Rights}
 use Rattle.prim_rules.specs.Parts.{segment_in}
 use Rattle.prim_rules.specs.Segments.{with_group_right, regrouped}
 use Rattle.prim_shared.proofs.segments.regroup.Goals as goal

@@ -2,8 +2,8 @@ use Rattle.std.proofs.Common.{◌≡◌, sym, ap, ◌∙◌, None, arith}
 use Rattle.running_objects.specs.Seen.{object_at}
 use Rattle.prim_shared.specs.Held.{held_of}
 use Rattle.prim_shared.proofs.Steps.{over, finds, never_none}
-use Rattle.texts.specs.Bytes.{Bytes as Text}
-use Rattle.seg_rights.specs.declared.rights.Rights.{Rights}
+use Rattle.gem_object.specs.texts.Bytes.{Bytes as Text}
+use Rattle.gem_object.specs.seg_rights.declared.rights.Rights.{Rights}
 use Rattle.gem_object.specs.declared.body.Body.TheVariants as body
 use Rattle.object_programs.specs.Run.{and_then}
 use Rattle.object_programs.specs.Programs.{replace_body}

@@ -1,12 +1,12 @@
 use Rattle.std.proofs.Common.{◌≡◌, sym, ap, ◌∙◌, ℕ, ◌-◌, length, None, arith}
-use Rattle.texts.specs.Bytes.{Bytes as Text}
+use Rattle.gem_object.specs.texts.Bytes.{Bytes as Text}
 use Rattle.gem_object.specs.declared.body.Body.TheVariants as body
 use Rattle.running_objects.specs.Seen.{object_at}
 use Rattle.prim_rules.specs.Receivers.{items_added}
 use Rattle.prim_shared.specs.Held.{held_of}
 use Rattle.prim_shared.proofs.Steps.{handed, over, finds, never_none}
 use Rattle.prim_shared.proofs.Limited.{limited, limit_kept, limit_passed}
-use Rattle.seg_rights.specs.declared.rights.Rights.{Rights}
+use Rattle.gem_object.specs.seg_rights.declared.rights.Rights.{Rights}
 use Rattle.prim_rules.specs.Parts.{segment_in}
 use Rattle.prim_shared.proofs.segments.replace_rights.Goals as goal
 

@@ -1,5 +1,5 @@
 use Rattle.std.proofs.Common.{cond, is_some, Option, ap}
-use Rattle.rc_dict.specs.Dict.{entry}
+use Rattle.gem_object.specs.rc_dict.Dict.{entry}
 use Rattle.gem_object.specs.Order.{value_order}
 use Rattle.prim_rules.specs.Receivers.{shared_pairs_in}
 use Rattle.gem_object.specs.declared.value.Value.{Value}

@@ -3,7 +3,7 @@ use Rattle.std.specs.declared.cmp.Ordering.{Ordering}
 use Rattle.gem_object.specs.Order.{value_order}
 use Rattle.gem_object.specs.declared.value.Value.{Value}
 use Rattle.prim_shared.proofs.Order.{order_of_values}
-use Rattle.rc_dict.specs.Dict.{entry}
+use Rattle.gem_object.specs.rc_dict.Dict.{entry}
 use Rattle.prim_shared.proofs.shared.entry_of.Goals as goal
 
 pub returns : goal.returns

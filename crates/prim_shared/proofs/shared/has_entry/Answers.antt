@@ -1,5 +1,5 @@
 use Rattle.std.proofs.Common.{is_some, ap}
-use Rattle.rc_dict.specs.Dict.{entry}
+use Rattle.gem_object.specs.rc_dict.Dict.{entry}
 use Rattle.gem_object.specs.Order.{value_order}
 use Rattle.prim_rules.specs.Receivers.{shared_pairs_in}
 use Rattle.prim_shared.proofs.Steps.{looked_up}

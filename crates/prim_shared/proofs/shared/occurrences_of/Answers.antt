@@ -3,7 +3,7 @@ use Rattle.std.specs.declared.cmp.Ordering.{Ordering}
 use Rattle.gem_object.specs.Order.{value_order}
 use Rattle.gem_object.specs.declared.value.Value.{Value}
 use Rattle.prim_shared.proofs.Order.{order_of_values}
-use Rattle.rc_counter_bag.specs.Bag.{count}
+use Rattle.gem_object.specs.rc_counter_bag.Bag.{count}
 use Rattle.prim_shared.proofs.shared.occurrences_of.Goals as goal
 
 pub returns : goal.returns

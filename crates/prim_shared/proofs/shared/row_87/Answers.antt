@@ -1,8 +1,8 @@
 use Rattle.prim_parts.proofs.Does.{does_then, does_stop, computes_then, computes_stop, does_compute}
 use Rattle.prim_shared.proofs.Steps.{handed, held_there, over}
 use Rattle.std.proofs.Common.{ℕ, pos, sym, ◌∙◌}
-use Rattle.profile.specs.SmallInteger.{is_small_integer}
-use Rattle.rc_counter_bag.specs.Bag.{count}
+use Rattle.gem_object.specs.texts.SmallInteger.{is_small_integer}
+use Rattle.gem_object.specs.rc_counter_bag.Bag.{count}
 use Rattle.gem_object.specs.Order.{value_order}
 use Rattle.gem_object.specs.declared.value.Value.TheVariants.{Int}
 use Rattle.object_programs.specs.Programs.{check}

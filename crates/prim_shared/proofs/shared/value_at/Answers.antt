@@ -1,4 +1,4 @@
-use Rattle.rc_dict.specs.Dict.{entry}
+use Rattle.gem_object.specs.rc_dict.Dict.{entry}
 use Rattle.gem_object.specs.Order.{value_order}
 use Rattle.prim_rules.specs.Receivers.{shared_pairs_in}
 use Rattle.object_programs.specs.Programs.{need}

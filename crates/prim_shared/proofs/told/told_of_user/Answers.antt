@@ -1,5 +1,5 @@
 use Rattle.std.proofs.Common.{refl, ap, Some}
-use Rattle.texts.specs.Bytes.{Bytes as Text}
+use Rattle.gem_object.specs.texts.Bytes.{Bytes as Text}
 use Rattle.gem_object.specs.declared.value.Value.TheVariants.{Sym}
 use Rattle.gem_object.specs.declared.body.Body.TheVariants as body
 use Rattle.prim_shared.proofs.Tells.{told_so, none_of_user}

@@ -1,6 +1,6 @@
 use Rattle.prim_parts.proofs.Does.{does_then, does_stop, does_atom, does_give, computes_then, computes_stop}
 use Rattle.prim_shared.proofs.Steps.{handed, over}
-use Rattle.texts.specs.Bytes.{Bytes as Text}
+use Rattle.gem_object.specs.texts.Bytes.{Bytes as Text}
 use Rattle.object_programs.specs.Atom.{Show}
 use Rattle.object_programs.specs.Run.{atom}
 use Rattle.prim_shared.proofs.transcript.row_81.Goals as goal

@@ -3,7 +3,7 @@ use Rattle.running_objects.specs.Seen.{object_at}
 use Rattle.prim_shared.specs.Held.{held_of}
 use Rattle.prim_shared.proofs.Steps.{over, finds, never_none}
 use Rattle.std.proofs.Common.{List}
-use Rattle.texts.specs.Bytes.{Bytes as Text}
+use Rattle.gem_object.specs.texts.Bytes.{Bytes as Text}
 use Rattle.gem_object.specs.declared.body.UserBody.{UserBody}
 use Rattle.prim_rules.specs.Parts.{user_in}
 use Rattle.prim_rules.specs.Groups.{with_group}

@@ -1,4 +1,4 @@
-use Rattle.gem_world.specs.Changes.{was_written}
+use Rattle.gem_record.specs.gem_world.Changes.{was_written}
 use Rattle.session_view.proofs.Listed.{objects_ascend}
 use Rattle.session_view.proofs.finish.written.Goals as goal
 

@@ -1,5 +1,5 @@
 use Rattle.std.proofs.Common.{subst}
-use Rattle.gem_image.specs.Image.{Image}
+use Rattle.gem_record.specs.gem_image.Image.{Image}
 use Rattle.gem_meaning.specs.Serial.{CanServe}
 use Rattle.gem_server.proofs.Kernel.{can_serve}
 use Rattle.side_by_side_tests.proofs.Others.{kernel_base}

@@ -1,5 +1,5 @@
 use Rattle.std.proofs.Common.{◌+◌, ◌*◌, ◌^◌, ◌≤◌, arith}
-use Rattle.profile.specs.declared.integers.TheConstants.{INTEGER_LIMIT}
+use Rattle.texts.specs.declared.integers.TheConstants.{INTEGER_LIMIT}
 use Rattle.st_lexer.proofs.Values.{value_large, test_above}
 use Rattle.st_lexer.proofs.numbers.value_of.Goals as goal
 

@@ -1,4 +1,4 @@
-use Rattle.st_plain.proofs.Unread.{none_read}
+use Rattle.st_commands.proofs.Unread.{none_read}
 use Rattle.st_machine.proofs.cache.compile_method.Goals as goal
 
 pub returns-in-Err-Rule : goal.returns-in-Err-Rule

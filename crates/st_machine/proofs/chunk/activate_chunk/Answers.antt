@@ -3,7 +3,7 @@ use Rattle.gem_object.specs.declared.value.Value.TheVariants.{Nil}
 use Rattle.gem_sound.specs.declared.names.TheConstants.{UNDEFINED_OBJECT_CLASS}
 use Rattle.tree_meaning.specs.Bodies.{chunk_body}
 use Rattle.gem_language.specs.Sends.{outside}
-use Rattle.st_plain.proofs.Activations.{activation_ran}
+use Rattle.st_commands.proofs.Activations.{activation_ran}
 use Rattle.st_machine.specs.Parts.{framed}
 use Rattle.st_machine.proofs.Outlines.{method_framed, chunk_ran_by}
 use Rattle.st_machine.proofs.chunk.activate_chunk.Goals as goal

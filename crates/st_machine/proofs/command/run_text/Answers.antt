@@ -1,7 +1,7 @@
 use Rattle.std.proofs.Common.{◌≡◌, refl, List, None}
 use Rattle.st_tree.specs.Trees.{Program}
-use Rattle.st_grammar.specs.Grammar.{Word, Kept, ReadsProgram, a_chunk, chunk}
-use Rattle.st_plain.proofs.Replies.{chunk_read, chunk_not_read}
+use Rattle.gem_sound.specs.st_grammar.Grammar.{Word, Kept, ReadsProgram, a_chunk, chunk}
+use Rattle.st_commands.proofs.Replies.{chunk_read, chunk_not_read}
 use Rattle.st_machine.proofs.command.run_text.Goals as goal
 
 unselected : {kept : Kept} {program : Program} {words : List Word} → ReadsProgram kept chunk program words

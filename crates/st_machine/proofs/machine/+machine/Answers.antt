@@ -6,11 +6,11 @@ use Rattle.tree_meaning.specs.Bodies.{temps_count, method_body, block_body}
 use Rattle.tree_meaning.specs.declared.place.Mark.{Mark}
 use Rattle.gem_language.specs.Commands.{selector_of}
 use Rattle.gem_language.specs.Sends.{outside}
-use Rattle.object_programs.specs.declared.fault.Fault.TheVariants as fault
+use Rattle.tree_meaning.specs.object_programs.declared.fault.Fault.TheVariants as fault
 use Rattle.running_objects.specs.declared.stop.Stop.TheVariants as stop
 use Rattle.st_compiler.specs.Instruction.{Instruction}
 use Rattle.st_compiler.specs.Emitted.{instruction_of}
-use Rattle.st_plain.proofs.Activations.{activation_ran, evaluation_ran, method_ran, made_ran}
+use Rattle.st_commands.proofs.Activations.{activation_ran, evaluation_ran, method_ran, made_ran}
 use Rattle.st_machine.specs.Layers.{Layers}
 use Rattle.st_machine.specs.Parts.{table_of, part_code, part_run, framed}
 use Rattle.st_machine.proofs.Ends.{receiver_is, rest_is, never_empty, whatever}

@@ -1,5 +1,5 @@
 use Rattle.std.proofs.Common.{◌≡◌, ◌-◌, length, drop}
-use Rattle.tree_meaning.specs.Names.{index_of}
+use Rattle.gem_language.specs.tree_meaning.Names.{index_of}
 use Rattle.st_outside.proofs.Indexes.{later}
 use Rattle.st_outside.proofs.instances.index_of.Given as goal
 

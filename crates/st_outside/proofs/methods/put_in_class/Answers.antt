@@ -52,4 +52,4 @@ returns g c = λ object there.
     let new : Method = record { selector = c.args.selector.now; code = Source c.args.source.now } in
     put_some c.args.class_side new c.args.source.now c.args.name object c.in-Some.class.now there (sym c.in-Some.ensures)
     (checked new c.is_symbol.result c.is_symbol.ensures (computes_then c.in_ok-check.ensures
-    (put_so c.args.name object c.in_ok-body.ensures c.bytes_cost.ensures (c.replace_body.ensures object there))))
+    (put_so c.args.name object c.in_ok-body.ensures c.source_cost.ensures (c.replace_body.ensures object there))))

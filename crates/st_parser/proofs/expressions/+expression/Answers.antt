@@ -1,7 +1,7 @@
 use Rattle.std.proofs.Common.{◌≡◌, ◌<◌, ◌+◌, ◌∷◌, ◌++◌, [], true, false, refl, sym, ap, subst, ◌∙◌, length, rules}
 use Rattle.std.proofs.Common.{arith}
 use Rattle.std.specs.Prelude.{nat_lt}
-use Rattle.profile.specs.declared.limits.TheConstants.{DEPTH_LIMIT}
+use Rattle.st_grammar.specs.declared.limits.TheConstants.{DEPTH_LIMIT}
 use Rattle.st_tree.specs.Trees.{expression, expressions, no_expressions, sends, no_sends, statements, no_statements}
 use Rattle.st_tree.specs.Trees.{send, block, closure}
 use Rattle.st_grammar.specs.Tokens.{identifier, binary, bar, keyword}

@@ -1,6 +1,6 @@
 use Rattle.std.proofs.Common.{◌≡◌, true, arith, rules}
 use Rattle.std.specs.Prelude.{nat_lt}
-use Rattle.profile.specs.declared.limits.TheConstants.{DEPTH_LIMIT}
+use Rattle.st_grammar.specs.declared.limits.TheConstants.{DEPTH_LIMIT}
 use Rattle.st_tree.specs.Trees.{no_constants}
 use Rattle.st_grammar_laws.specs.Machine.{want, in_elements, of_head, depth_of}
 use Rattle.st_parser.proofs.Steps.{hands_on}

@@ -1,7 +1,7 @@
 use Rattle.std.proofs.Common.{◌≡◌, ◌∷◌, true, sym, ap, ◌∙◌, subst, rules, arith, is_ok}
 use Rattle.std.proofs.ResultArms.{chosen}
 use Rattle.std.specs.Prelude.{nat_lt, map}
-use Rattle.profile.specs.declared.limits.TheConstants.{DEPTH_LIMIT}
+use Rattle.st_grammar.specs.declared.limits.TheConstants.{DEPTH_LIMIT}
 use Rattle.st_tree.specs.Trees.{constants, no_constants}
 use Rattle.st_grammar.specs.Tokens.{keyword, binary}
 use Rattle.st_tree.specs.Views.{constant_of}

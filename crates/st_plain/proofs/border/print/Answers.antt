@@ -2,4 +2,4 @@ use Rattle.prim_parts.proofs.Does.{does_ran}
 use Rattle.st_plain.proofs.border.print.Goals as goal
 
 pub returns : goal.returns
-returns g c = does_ran c.print_text.ensures c.args.locals.now
+returns g c = does_ran c.print_value.ensures c.args.locals.now

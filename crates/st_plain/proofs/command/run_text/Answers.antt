@@ -1,4 +1,4 @@
-use Rattle.st_plain.proofs.Replies.{chunk_read, chunk_not_read}
+use Rattle.st_commands.proofs.Replies.{chunk_read, chunk_not_read}
 use Rattle.st_plain.proofs.command.run_text.Goals as goal
 
 pub returns-in-Ok : goal.returns-in-Ok

@@ -11,7 +11,7 @@ use Rattle.tree_meaning.specs.Operands.{ValueRun}
 use Rattle.tree_meaning.specs.Parts.{first_argument, first_body}
 use Rattle.tree_meaning.specs.Meaning.{head_in_place, messages_of, arguments_of}
 use Rattle.gem_language.specs.Sends.{outside}
-use Rattle.st_plain.proofs.Activations.{activation_ran, evaluation_ran, method_ran, made_ran}
+use Rattle.st_commands.proofs.Activations.{activation_ran, evaluation_ran, method_ran, made_ran}
 use Rattle.st_plain.proofs.Blocks.{closure_ran, closure_stop}
 use Rattle.st_plain.proofs.Turns.{is_turning, turning_starts, turning_goes_on, condition_stops, test_stops, next_condition_stops, next_test_stops, counting_starts}
 use Rattle.st_plain.proofs.Counts.{handed_goes_on}

@@ -1,6 +1,6 @@
 use Rattle.std.proofs.Common.{◌<◌, ◌^◌, take}
 use Rattle.std.specs.List.{AllByRecursion}
-use Rattle.gem_update.specs.Spelling.{entries_of}
+use Rattle.gem_record.specs.gem_update.Spelling.{entries_of}
 use Rattle.stone_core.proofs.effect.fit.Given as goal
 
 -- the objects so far can be stored

@@ -1,6 +1,6 @@
 use Rattle.std.proofs.Common.{ℕ, ◌≤◌}
 use Rattle.gem_image.specs.Image.{Image}
-use Rattle.commit_check.specs.Conflicts.{last_change}
+use Rattle.gem_meaning.specs.commit_check.Conflicts.{last_change}
 use Rattle.stone_tests.specs.Setting.{HasBoxes}
 use Rattle.stone_tests.proofs.Ready.{boxes_made, has_boxes, boxes_changed}
 use Rattle.stone_tests.proofs.setting.boxes.Goals as goal

@@ -1,6 +1,6 @@
 use Rattle.std.proofs.Common.{◌++◌, replicate, List}
-use Rattle.gem_object.specs.declared.value.Value.{Value}
-use Rattle.gem_object.specs.declared.value.Value.TheVariants as value
+use Rattle.object_programs.specs.gem_object.declared.value.Value.{Value}
+use Rattle.object_programs.specs.gem_object.declared.value.Value.TheVariants as value
 use Rattle.object_programs.specs.Run.{State, perform}
 use Rattle.tree_meaning.specs.Place.{MadeBlock}
 use Rattle.tree_meaning.specs.Operands.{ValueRun}

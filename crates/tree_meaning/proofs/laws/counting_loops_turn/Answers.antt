@@ -1,6 +1,6 @@
 use Rattle.std.proofs.Common.{ap, ◌∙◌, pos, codes, false, Some, None}
-use Rattle.gem_object.specs.declared.value.Value.{Value}
-use Rattle.gem_object.specs.declared.value.Value.TheVariants.{Int}
+use Rattle.object_programs.specs.gem_object.declared.value.Value.{Value}
+use Rattle.object_programs.specs.gem_object.declared.value.Value.TheVariants.{Int}
 use Rattle.object_programs.specs.Atom.{Tick}
 use Rattle.object_programs.specs.Run.{atom, and_then, perform}
 use Rattle.tree_meaning.specs.Operands.{int_pair}

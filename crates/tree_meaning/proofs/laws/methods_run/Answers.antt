@@ -1,5 +1,5 @@
 use Rattle.std.proofs.Common.{◌∙◌, ap, ◌++◌, length, replicate, nat_eq}
-use Rattle.gem_object.specs.declared.value.Value.TheVariants as value
+use Rattle.object_programs.specs.gem_object.declared.value.Value.TheVariants as value
 use Rattle.object_programs.specs.Run.{State, perform}
 use Rattle.tree_meaning.specs.Place.{MadeBlock}
 use Rattle.tree_meaning.specs.Scopes.{mark, begin_method, give_back, end_living, is_living}

@@ -1,5 +1,5 @@
 use Rattle.std.proofs.Common.{refl}
-use Rattle.st_tree.specs.Trees.{send}
+use Rattle.object_programs.specs.st_tree.Trees.{send}
 use Rattle.tree_meaning.specs.Forms.{form_of}
 use Rattle.tree_meaning.proofs.SpecialForms.{if_true, if_false, and_form, or_form, true_first, false_first, counts, repeats, while_true, while_false}
 use Rattle.tree_meaning.proofs.laws.special_forms.Goals as goal

@@ -1,6 +1,6 @@
 use Rattle.std.proofs.Common.{ap}
 use Rattle.gem_record.specs.declared.record.TxnRecord.{TxnRecord}
-use Rattle.run_records.specs.Record.{record_of}
+use Rattle.gem_record.specs.Record.{record_of}
 use Rattle.gem_session.proofs.session.Session.record.Goals as goal
 
 pub returns : goal.returns

@@ -1,7 +1,7 @@
 use Rattle.std.proofs.Common.{◌≡◌, true, Some, None}
 use Rattle.std.specs.Result.{OnOk, IsErrOf}
-use Rattle.rc_counter_bag.specs.Bag.{updated, adds_new}
-use Rattle.rc_counter_bag.specs.declared.update.BagFault.TheVariants.{Missing, NoMemory}
+use Rattle.gem_object.specs.rc_counter_bag.Bag.{updated, adds_new}
+use Rattle.gem_object.specs.rc_counter_bag.declared.update.BagFault.TheVariants.{Missing, NoMemory}
 use Rattle.gem_object.specs.Order.{value_order}
 use Rattle.gem_update.proofs.Order.{in_order}
 use Rattle.gem_update.proofs.Answered.{bag_names, updated_ok, updated_refused, updated_refuses, updated_memory}

@@ -1,7 +1,7 @@
 use Rattle.std.proofs.Common.{◌≡◌, ℕ, Ok, Err}
 use Rattle.std.specs.Result.{IfOk, IsErrOf}
-use Rattle.rc_counter_bag.specs.Bag.{merged}
-use Rattle.rc_counter_bag.specs.declared.update.BagFault.TheVariants.{Missing}
+use Rattle.gem_object.specs.rc_counter_bag.Bag.{merged}
+use Rattle.gem_object.specs.rc_counter_bag.declared.update.BagFault.TheVariants.{Missing}
 use Rattle.gem_object.specs.Order.{value_order}
 use Rattle.gem_update.proofs.Order.{in_order}
 use Rattle.gem_update.proofs.Answered.{bag_names, merged_says}

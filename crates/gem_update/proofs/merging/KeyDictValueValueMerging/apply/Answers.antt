@@ -1,7 +1,7 @@
 use Rattle.std.proofs.Common.{◌≡◌, true, Some, None}
 use Rattle.std.specs.Result.{OnOk, IsErrOf}
-use Rattle.rc_dict.specs.Dict.{updated, puts_new}
-use Rattle.rc_dict.specs.declared.update.DictFault.TheVariants.{Key, NoMemory}
+use Rattle.gem_object.specs.rc_dict.Dict.{updated, puts_new}
+use Rattle.gem_object.specs.rc_dict.declared.update.DictFault.TheVariants.{Key, NoMemory}
 use Rattle.gem_object.specs.Order.{value_order}
 use Rattle.gem_update.proofs.Order.{in_order}
 use Rattle.gem_update.proofs.Answered.{dict_names, updated_ok, updated_refused, updated_refuses, updated_memory}

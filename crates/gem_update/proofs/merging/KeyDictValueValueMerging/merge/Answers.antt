@@ -1,7 +1,7 @@
 use Rattle.std.proofs.Common.{◌≡◌, Ok, Err}
 use Rattle.std.specs.Result.{IfOk, IsErrOf}
-use Rattle.rc_dict.specs.Dict.{merged}
-use Rattle.rc_dict.specs.declared.update.DictFault.TheVariants.{Key}
+use Rattle.gem_object.specs.rc_dict.Dict.{merged}
+use Rattle.gem_object.specs.rc_dict.declared.update.DictFault.TheVariants.{Key}
 use Rattle.gem_object.specs.Order.{value_order}
 use Rattle.gem_update.proofs.Order.{in_order}
 use Rattle.gem_update.proofs.Answered.{dict_names, merged_says}

@@ -1,7 +1,7 @@
 use Rattle.std.proofs.Common.{◌≡◌, ℕ, Ok, Err}
 use Rattle.std.specs.Result.{IfOk, IsErrOf}
-use Rattle.rc_queue.specs.Update.{merged}
-use Rattle.rc_queue.specs.declared.update.QueueFault.TheVariants.{Remove}
+use Rattle.gem_object.specs.rc_queue.Update.{merged}
+use Rattle.gem_object.specs.rc_queue.declared.update.QueueFault.TheVariants.{Remove}
 use Rattle.gem_object.specs.Order.{value_order}
 use Rattle.gem_update.proofs.Order.{in_order}
 use Rattle.gem_update.proofs.Answered.{queue_names, merged_says}

@@ -1,5 +1,5 @@
 use Rattle.std.proofs.Common.{ℕ, false, Option, Result, Err}
-use Rattle.tree_meaning.specs.Place.{Frame}
+use Rattle.gem_language.specs.tree_meaning.Place.{Frame}
 use Rattle.running_objects.specs.Seen.{Seen, Keeps}
 use Rattle.running_objects.specs.declared.stop.Stop.{Stop}
 use Rattle.running_objects.specs.declared.stop.Stop.TheVariants as stop

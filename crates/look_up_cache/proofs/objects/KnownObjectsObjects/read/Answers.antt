@@ -1,4 +1,4 @@
-use Rattle.gem_world.specs.Access.{a_read}
+use Rattle.running_objects.specs.gem_world.Access.{a_read}
 use Rattle.look_up_cache.proofs.Keeps.{access_known}
 use Rattle.look_up_cache.proofs.AfterReads.{read_known, still_ok}
 use Rattle.look_up_cache.proofs.objects.KnownObjectsObjects.read.Goals as goal

@@ -1,4 +1,4 @@
-use Rattle.gem_world.specs.Access.{a_write}
+use Rattle.running_objects.specs.gem_world.Access.{a_write}
 use Rattle.look_up_cache.proofs.Keeps.{access_known}
 use Rattle.look_up_cache.proofs.objects.KnownObjectsObjects.write.Goals as goal
 

@@ -1,7 +1,7 @@
 use Rattle.std.proofs.Common.{◌∙◌, ap}
 use Rattle.std.proofs.lemmas.Result.{IfOk-weaker}
 use Rattle.std.specs.FinMap.{keys}
-use Rattle.run_records.specs.Names.{ascending}
+use Rattle.gem_record.specs.RunNames.{ascending}
 use Rattle.plain_state.proofs.Listing.{names_of_entries}
 use Rattle.plain_state.proofs.overlay.Overlay.names.Goals as goal
 

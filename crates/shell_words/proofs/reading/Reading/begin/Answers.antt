@@ -1,6 +1,6 @@
 use Rattle.std.proofs.Common.{rules, ◌≡◌, ◌<◌, ◌≤◌, true, false, length, refl, arith}
-use Rattle.profile.specs.declared.limits.TheConstants.{SESSION_LIMIT}
-use Rattle.shell_words.specs.Names.{is_user_name}
+use Rattle.shell_words.specs.declared.limits.TheConstants.{SESSION_LIMIT}
+use Rattle.texts.specs.Names.{is_user_name}
 use Rattle.shell_words.specs.ScriptGrammar.{no_user_name, one_session_more}
 use Rattle.shell_words.specs.Reading.{sessions_of}
 use Rattle.shell_words.proofs.Drafts.{begun_reading}

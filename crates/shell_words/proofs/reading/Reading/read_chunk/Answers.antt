@@ -1,5 +1,5 @@
 use Rattle.std.proofs.Common.{rules, ◌≡◌, ◌<◌, ◌≤◌, true, false, length, is_some, refl, ap, ◌∙◌}
-use Rattle.profile.specs.declared.limits.TheConstants.{CHUNK_LIMIT}
+use Rattle.shell_words.specs.declared.limits.TheConstants.{CHUNK_LIMIT}
 use Rattle.shell_words.specs.Script.{with_next_command}
 use Rattle.shell_words.specs.ScriptGrammar.{chunk_outside, chunk_without_end, long_chunk, chunk_lines}
 use Rattle.shell_words.specs.Reading.{command_of, sessions_of}

@@ -1,5 +1,5 @@
 use Rattle.std.proofs.Common.{◌∙◌, ap, List}
-use Rattle.texts.specs.Bytes.{Bytes as Text}
+use Rattle.gem_object.specs.texts.Bytes.{Bytes as Text}
 use Rattle.st_machine.specs.Methods.{is_kept}
 use Rattle.st_machine.proofs.Kept.{there_is}
 use Rattle.st_machine.proofs.cache.CodeCache.holds.Goals as goal

@@ -1,6 +1,6 @@
 use Rattle.std.proofs.Common.{◌∙◌, ap, [], get_or}
 use Rattle.gem_object.specs.declared.value.Value.TheVariants.{Nil}
-use Rattle.object_programs.specs.Local.{Local}
+use Rattle.tree_meaning.specs.object_programs.Local.{Local}
 use Rattle.st_machine.proofs.MoreNils.{none_nil}
 use Rattle.st_machine.proofs.locals.Locals.value.Goals as goal
 

@@ -1,5 +1,5 @@
 use Rattle.std.proofs.Common.{refl, subst, le_refl}
-use Rattle.gem_sound.specs.Sound.{IsSoundImage}
+use Rattle.gem_meaning.specs.gem_sound.Sound.{IsSoundImage}
 use Rattle.gem_meaning.specs.Events.{standing}
 use Rattle.history_laws.proofs.Views.{image_now, number_at_least}
 use Rattle.stone_core.proofs.OneMore.{session_bounds}

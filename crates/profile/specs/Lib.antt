@@ -1,2 +1,0 @@
-pub mod SmallInteger
-pub mod Kernel

@@ -1,0 +1,5 @@
+pub mod Endings
+pub mod Activations
+pub mod Replies
+pub mod Unread
+pub mod Selectors

@@ -1,0 +1,4 @@
+pub mod Sources
+pub mod Leaving
+pub mod Replies
+pub mod Commands
