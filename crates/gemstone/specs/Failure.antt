@@ -1,7 +1,5 @@
--- How the program ends: what each end of the server's call is as an exit status and as a line on
--- standard error.
-use Rattle.std.specs.Prelude.{ℕ, List, ◌++◌, codes, Option, Some, None}
-use Rattle.std.specs.Fmt.{decimal}
+-- How the program ends: what each end of the server's call is as an exit status.
+use Rattle.std.specs.Prelude.{ℕ, Option, Some, None}
 use Rattle.gem_server.specs.declared.status.Status.{Status}
 use Rattle.gem_server.specs.declared.status.Status.TheVariants as status
 use Rattle.gemstone.specs.declared.failure.Failure.{Failure}
@@ -23,12 +21,3 @@ number_of (Script line rule) = 3
 number_of ReadFault = 7
 number_of WriteFault = 9
 number_of NoMemory = 10
-
--- the line on standard error
-abbrev pub line_of : Failure → List ℕ
-line_of Usage = codes "gemstone: usage"
-line_of (Script line rule) =
-    codes "gemstone: script line " ++ decimal line ++ codes " rule S" ++ decimal rule
-line_of ReadFault = codes "gemstone: read fault"
-line_of WriteFault = codes "gemstone: write fault"
-line_of NoMemory = codes "gemstone: no memory"

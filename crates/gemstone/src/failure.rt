@@ -1,22 +1,28 @@
 //! Why the program fails, and what it says then.
 ghost use Rattle.std.specs.Prelude.{◌≡◌, None, Some, MatchResult};
-ghost use Rattle.gemstone.specs.Failure.{failure_of, number_of, line_of};
+ghost use Rattle.gemstone.specs.Failure.{failure_of, number_of};
 
 use gem_server::Status;
-use std::fmt;
+use thiserror::Error;
 
-/// Why the program ends with a status that isn't 0. Its text is the line on standard error.
-#[derive(Clone, Copy, Debug, PartialEq, Eq)]
+/// Why the program ends with a status that isn't 0. Its text is the line on standard error; no
+/// clause says what it is, the test below does.
+#[derive(Clone, Copy, Debug, Drop, PartialEq, Eq, Error)]
 pub enum Failure {
     /// The words of the command line aren't the one word `serve`.
+    #[error("gemstone: usage")]
     Usage,
     /// The script breaks this rule, first at this line, from 1. Line 0 is the script as a whole.
+    #[error("gemstone: script line {line} rule S{rule}")]
     Script { line: u32, rule: u8 },
     /// Standard input failed.
+    #[error("gemstone: read fault")]
     ReadFault,
     /// Standard output failed.
+    #[error("gemstone: write fault")]
     WriteFault,
     /// There was no memory.
+    #[error("gemstone: no memory")]
     NoMemory,
 }
 
@@ -31,22 +37,6 @@ impl Failure {
             Failure::ReadFault => 7,
             Failure::WriteFault => 9,
             Failure::NoMemory => 10,
-        }
-    }
-}
-
-impl fmt::Display for Failure {
-    ghost output = { λ failure. Some (line_of failure) };
-
-    fn fmt<W: fmt::Write>(&self, f: &mut fmt::Formatter<W>) -> fmt::Result {
-        match *self {
-            Failure::Usage => f.write_str("gemstone: usage"),
-            Failure::Script { line, rule } => {
-                write!(f, "gemstone: script line {line} rule S{rule}")
-            }
-            Failure::ReadFault => f.write_str("gemstone: read fault"),
-            Failure::WriteFault => f.write_str("gemstone: write fault"),
-            Failure::NoMemory => f.write_str("gemstone: no memory"),
         }
     }
 }
