@@ -1,0 +1,5 @@
+session DataCurator
+printit
+3
+%
+logout
