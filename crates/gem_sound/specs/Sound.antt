@@ -23,6 +23,7 @@ use Rattle.gem_image.specs.Rights.{rights_at}
 use Rattle.gem_sound.specs.Parts.{class_of, class_at, user_at, dictionary_at}
 use Rattle.gem_sound.specs.Kernel.{class_class, transcript_class, KernelClass, kernel_class, KernelBody, kernel_body, has_kind, may_stand}
 use Rattle.gem_sound.specs.Inherited.{HasNames}
+use Rattle.gem_sound.specs.declared.limits.TheConstants.{NAMES_LIMIT}
 
 -- The rules, in the order in which they are tried for a name.
 pub data ImageRule : Type 0 where
@@ -102,7 +103,7 @@ HasPlaceByRow objects class None = HasInheritedKind objects class class.supercla
 pub record HasPlace (objects : Objects) (number : ℕ) (class : ClassBody) : Type 0 where
   pub names : List Text
   pub chain : HasNames objects number names
-  pub few_names : length names ≤ 200
+  pub few_names : length names ≤ NAMES_LIMIT
   pub row : HasPlaceByRow objects class (kernel_class number)
   pub named : 0 < length class.names → IsTrue (has_named_slots class.kind)
 

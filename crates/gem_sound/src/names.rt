@@ -1,4 +1,7 @@
 //! The names of the kernel's objects: their serial, and the counter of each.
+ghost use Rattle.std.specs.Prelude.{◌≡◌, ◌<◌, ◌^◌, nat_eq};
+
+use gem_object::Oid;
 
 /// The serial in the names of the kernel's objects.
 pub const KERNEL_SERIAL: u32 = 0;
@@ -107,3 +110,18 @@ pub const DATA_CURATOR_GLOBALS: u32 = 34;
 
 /// Transcript.
 pub const TRANSCRIPT: u32 = 35;
+
+/// The name of the kernel's object with this counter.
+pub fn kernel_name(counter: u32) -> Oid
+    requires { counter < 2 ^ 24 }
+    ensures { result ≡ counter }
+{
+    Oid::from_parts(KERNEL_SERIAL, counter)
+}
+
+/// Whether this is the name of the kernel's object with this counter.
+pub fn is_kernel_name(name: Oid, counter: u32) -> bool
+    ensures { result ≡ nat_eq name counter }
+{
+    name.number() == u64::from(counter)
+}

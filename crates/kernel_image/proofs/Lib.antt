@@ -4,9 +4,4 @@ pub mod Spelled
 pub mod Entries
 pub mod Named
 pub mod KernelSound
-pub mod Circles
-pub mod Counts
-pub mod Lists
-pub mod Kept
-pub mod Places
 pub mod Unchanged

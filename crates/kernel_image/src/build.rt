@@ -13,18 +13,10 @@ use gem_object::{
 };
 use gem_sound::names::{
     ALL_USERS, CLASS_CLASS, DATA_CURATOR, DATA_CURATOR_GLOBALS, DATA_CURATOR_SEGMENT, GLOBALS,
-    KERNEL_SERIAL, SEGMENT_CLASS, SYMBOL_DICTIONARY_CLASS, SYSTEM_SEGMENT, SYSTEM_USER,
-    SYSTEM_USER_GLOBALS, TRANSCRIPT, TRANSCRIPT_STREAM_CLASS, USER_PROFILE_CLASS,
+    SEGMENT_CLASS, SYMBOL_DICTIONARY_CLASS, SYSTEM_SEGMENT, SYSTEM_USER, SYSTEM_USER_GLOBALS,
+    TRANSCRIPT, TRANSCRIPT_STREAM_CLASS, USER_PROFILE_CLASS, kernel_name,
 };
 use std::alloc::{AllocError, Global};
-
-// The name of the kernel's object with this counter.
-pub(crate) fn name(counter: u32) -> Oid
-    requires { counter < 2 ^ 24 }
-    ensures { result ≡ counter }
-{
-    Oid::from_parts(KERNEL_SERIAL, counter)
-}
 
 // An object of the kernel.
 fn object(class: u32, segment: u32, body: Body) -> Object
@@ -33,8 +25,8 @@ fn object(class: u32, segment: u32, body: Body) -> Object
     ensures { result ≡ kernel_object class segment body }
 {
     Object {
-        class: name(class),
-        segment: name(segment),
+        class: kernel_name(class),
+        segment: kernel_name(segment),
         changed: 0,
         body,
     }
@@ -108,7 +100,10 @@ fn entry(alloc: Global, key: &str, counter: u32) -> Result<(Value, Value), Alloc
     requires { counter < 2 ^ 24 }
     ensures { IfOk result (λ made. made ≡ entry key.now counter) }
 {
-    Ok((Value::Sym(text(alloc, key)?), Value::Ref(name(counter))))
+    Ok((
+        Value::Sym(text(alloc, key)?),
+        Value::Ref(kernel_name(counter)),
+    ))
 }
 
 // What Globals leads to beside a class.
@@ -237,8 +232,8 @@ fn user(alloc: Global, key: &str, segment: u32, globals: u32) -> Result<Object, 
     let user = UserBody {
         name: text(alloc, key)?,
         groups: Names::of(Vec::new(alloc)),
-        default_segment: name(segment),
-        globals: name(globals),
+        default_segment: kernel_name(segment),
+        globals: kernel_name(globals),
     };
     Ok(object(USER_PROFILE_CLASS, segment, Body::User(user)))
 }
@@ -307,7 +302,7 @@ fn named(alloc: Global, objects: Vec<Object>) -> Result<Vec<(Oid, Object)>, Allo
     let mut named = Vec::new(alloc);
     let mut counter = 1u32;
     for object in objects {
-        named.push((name(counter), object))?;
+        named.push((kernel_name(counter), object))?;
         counter += 1;
     }
     Ok(named)

@@ -1,10 +1,10 @@
 //! The image of the kernel with more objects beside.
-ghost use Rattle.std.specs.Prelude.{◌≡◌, ◌<◌, ◌^◌};
+ghost use Rattle.std.specs.Prelude.{◌<◌, ◌^◌};
 
 use gem_image::Image;
 use gem_object::{Body, Counter, Object, Oid, Value, Values};
 use gem_sound::names::{
-    ARRAY_CLASS, DATA_CURATOR_SEGMENT, KERNEL_SERIAL, RC_COUNTER_CLASS, SYSTEM_SEGMENT,
+    ARRAY_CLASS, DATA_CURATOR_SEGMENT, RC_COUNTER_CLASS, SYSTEM_SEGMENT, kernel_name,
 };
 use kernel_image::kernel;
 use object_guard::is_spelled;
@@ -12,14 +12,6 @@ use object_programs::laws::what_is_spelled;
 use radix_pages::Steps;
 use std::alloc::{AllocError, Global};
 use std::sync::ledger::Ledger;
-
-/// The name of the kernel's object with this counter.
-pub fn kernel_name(counter: u32) -> Oid
-    requires { counter < 2 ^ 24 }
-    ensures { result ≡ counter }
-{
-    Oid::from_parts(KERNEL_SERIAL, counter)
-}
 
 /// The image of the kernel with so many arrays of one slot and as many counters at 0, with names of
 /// the serial 2: the arrays have odd counters, and the other objects even ones. Every fourth pair

@@ -6,4 +6,4 @@ mod begins;
 mod images;
 
 pub use begins::{Begins, begin, begin_over};
-pub use images::{kernel_name, larger_image};
+pub use images::larger_image;

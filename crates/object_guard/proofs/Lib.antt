@@ -5,4 +5,3 @@ pub mod Beside
 pub mod Names
 pub mod Lines
 pub mod Costs
-pub mod Rows

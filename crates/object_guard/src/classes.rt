@@ -6,9 +6,8 @@ ghost use Rattle.object_guard.specs.Parts.{part_of_class, has_room};
 
 use crate::sees::Sees;
 use gem_object::{Body, ClassBody, Oid};
-
-/// More classes than there are names are never gone through.
-pub(crate) const CHAIN_LIMIT: u64 = 1 << 48;
+use gem_sound::names::{OBJECT_CLASS, is_kernel_name};
+use object_programs::CHAIN_LIMIT;
 
 /// The class of this name, if there is one. It takes no memory.
 pub fn class_at<S: Sees>(state: &S, class: Oid) -> Option<&ClassBody>
@@ -40,7 +39,7 @@ pub fn has_names<S: Sees>(state: &S, class: Oid, slots: usize) -> bool
         }
         slots -= found.names.len();
         let Some(superclass) = found.superclass else {
-            return class.number() == 1;
+            return is_kernel_name(class, OBJECT_CLASS);
         };
         class = superclass;
         limit -= 1;

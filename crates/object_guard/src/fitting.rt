@@ -5,22 +5,23 @@ ghost use Rattle.gem_object.specs.Edits.{plain_slots};
 ghost use Rattle.gem_object.specs.References.{names_in_body};
 ghost use Rattle.object_programs.specs.gem_image.Image.{contents_of};
 ghost use Rattle.object_programs.specs.gem_sound.Kernel.{kernel_class};
-ghost use Rattle.object_programs.specs.gem_sound.Sound.{names_in, has_named_slots};
+ghost use Rattle.object_programs.specs.gem_sound.Sound.{names_in};
 ghost use Rattle.object_programs.specs.Fixed.{class_part, same_number};
 ghost use Rattle.object_programs.specs.Guard.{Parts, with_part, is_known, is_segment_at, is_user_at, is_dictionary_at, is_class_object, is_transcript, accepts, named_fit, kernel_fits, kind_is_inherited, row_fits, place_fits, holds_of, are_few, names_of_class, names_at, fits, with_parts, all_fit};
 ghost use Rattle.object_programs.specs.Methods.{methods_fit};
 ghost use Rattle.object_programs.specs.Spelled.{is_spelled};
 ghost use Rattle.object_guard.specs.Parts.{fixed_part, part_of_class, with_objects};
-ghost use Rattle.object_guard.specs.Kernel.{class_of};
+ghost use Rattle.image_check.specs.Kernel.{class_of};
 
 use crate::classes::{class_at, has_names};
-use crate::kernel::{KernelClass, kernel_class, kernel_fits};
 use crate::known::{is_there, knows_all};
 use crate::sees::Sees;
 use crate::spelled::is_spelled;
 use crate::together::Together;
-use gem_object::{Body, ClassBody, Kind, Object, Oid};
-use object_programs::NAMES_LIMIT;
+use gem_object::{Body, ClassBody, Object, Oid};
+use gem_sound::NAMES_LIMIT;
+use gem_sound::names::{CLASS_CLASS, OBJECT_CLASS, TRANSCRIPT_STREAM_CLASS, is_kernel_name};
+use image_check::{KernelClass, has_body, has_named_slots, kernel_body, kernel_class};
 use std::slice;
 
 /// Whether this object may stand at the name, where all else is as the state shows it. The methods
@@ -145,15 +146,6 @@ fn is_dictionary<S: Sees>(state: &S, dictionary: Oid) -> bool
     }
 }
 
-fn slot_count(body: &Body) -> usize
-    ensures { result ≡ plain_slots body.now }
-{
-    match body {
-        Body::Plain(values) => values.len(),
-        _ => 0,
-    }
-}
-
 // Whether the class of this name may have an object of this body.
 fn accepts<S: Sees>(state: &S, class: Oid, body: &Body) -> bool
     ensures { result ≡ accepts (S.parts state.now) class body.now }
@@ -161,7 +153,7 @@ fn accepts<S: Sees>(state: &S, class: Oid, body: &Body) -> bool
     let Some(found) = class_at(state, class) else {
         return false;
     };
-    (found.kind.fits(body) && has_names(state, class, slot_count(body)))
+    (found.kind.fits(body) && has_names(state, class, body.plain_slots()))
         || is_class_object(class, body)
         || is_transcript(class, body)
 }
@@ -170,7 +162,7 @@ fn is_class_object(class: Oid, body: &Body) -> bool
     ensures { result ≡ is_class_object class body.now }
 {
     match body {
-        Body::Class(_) => class.number() == 2,
+        Body::Class(_) => is_kernel_name(class, CLASS_CLASS),
         _ => false,
     }
 }
@@ -179,7 +171,9 @@ fn is_transcript(class: Oid, body: &Body) -> bool
     ensures { result ≡ is_transcript class body.now }
 {
     match body {
-        Body::Plain(values) => values.is_empty() && class.number() == 26,
+        Body::Plain(values) => {
+            values.is_empty() && is_kernel_name(class, TRANSCRIPT_STREAM_CLASS)
+        }
         _ => false,
     }
 }
@@ -198,6 +192,16 @@ fn named_fit<S: Sees>(state: &S, body: &Body) -> bool
             is_segment(state, user.default_segment) && is_dictionary(state, user.globals)
         }
         _ => true,
+    }
+}
+
+// Whether the body is of the kind that the kernel's object with this number has, if there is one.
+fn kernel_fits(number: u64, body: &Body) -> bool
+    ensures { result ≡ kernel_fits number body.now }
+{
+    match kernel_body(number) {
+        Some(kind) => has_body(kind, body),
+        None => true,
     }
 }
 
@@ -226,7 +230,7 @@ fn has_few_names<S: Sees>(state: &S, name: Oid, class: &ClassBody) -> bool
     };
     match class.superclass {
         Some(superclass) => has_names(state, superclass, left),
-        None => name.number() == 1,
+        None => is_kernel_name(name, OBJECT_CLASS),
     }
 }
 
@@ -244,17 +248,17 @@ fn row_fits<S: Sees>(state: &S, name: Oid, class: &ClassBody) -> bool
 fn is_row(row: KernelClass, class: &ClassBody) -> bool
     ensures { result ≡ row_fits (λ _. None) (Some (class_of row)) (part_of_class class.now) }
 {
-    is_superclass(row.0, class.superclass)
-        && row.1.number() == class.kind.number()
+    is_superclass(row.superclass, class.superclass)
+        && row.kind.number() == class.kind.number()
         && class.names.is_empty()
 }
 
-fn is_superclass(number: Option<u64>, superclass: Option<Oid>) -> bool
-    ensures { result ≡ same_number superclass number }
+fn is_superclass(counter: Option<u32>, superclass: Option<Oid>) -> bool
+    ensures { result ≡ same_number superclass counter }
 {
-    match (number, superclass) {
+    match (counter, superclass) {
         (None, None) => true,
-        (Some(number), Some(superclass)) => superclass.number() == number,
+        (Some(counter), Some(superclass)) => is_kernel_name(superclass, counter),
         _ => false,
     }
 }
@@ -270,10 +274,4 @@ fn has_inherited_kind<S: Sees>(state: &S, class: &ClassBody) -> bool
         Some(above) => above.kind.number() == class.kind.number(),
         None => false,
     }
-}
-
-fn has_named_slots(kind: Kind) -> bool
-    ensures { result ≡ has_named_slots kind }
-{
-    kind == Kind::Plain || kind == Kind::Indexed
 }

@@ -5,7 +5,6 @@
 
 mod classes;
 mod fitting;
-mod kernel;
 mod known;
 mod limits;
 mod missing;

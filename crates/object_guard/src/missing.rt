@@ -8,10 +8,10 @@ ghost use Rattle.object_programs.specs.Atom.{asked_by_all};
 ghost use Rattle.object_guard.specs.Parts.{with_objects};
 ghost use Rattle.object_guard.specs.Missing.{is_missing, missing_of, HaveNames, superclass_of};
 
-use crate::classes::CHAIN_LIMIT;
 use crate::sees::Sees;
 use crate::together::Together;
 use gem_object::{Body, Object, Oid};
+use object_programs::CHAIN_LIMIT;
 use std::alloc::{AllocError, Global};
 
 /// The names that new objects ask for where no object is, when all of the new ones are there: the

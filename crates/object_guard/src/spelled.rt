@@ -8,12 +8,9 @@ ghost use Rattle.running_objects.specs.Fitting.{can_count};
 ghost use Rattle.object_guard.specs.Spelled.{is_entry, is_key_pair, is_item};
 
 use gem_object::{
-    Bag, Body, ClassBody, Dictionary, KeyDict, Method, MethodCode, Oid, Queue, Right, Rights, Text,
-    UserBody, Value, is_small_integer,
+    Bag, Body, ClassBody, Dictionary, KeyDict, Method, MethodCode, Oid, Queue, Right, Rights,
+    SYMBOL_LIMIT, Text, UserBody, Value, is_small_integer,
 };
-
-/// The bytes that a text has at most where it is stored.
-const TEXT_LIMIT: usize = 1000;
 
 /// Where a list of values, pairs or bytes is stored it has fewer items than this.
 const COUNT_LIMIT: usize = 1 << 32;
@@ -32,7 +29,7 @@ fn are_plain(bytes: &[u8]) -> bool
 fn is_text(text: &Text) -> bool
     ensures { result ≡ is_text text.now }
 {
-    text.bytes().len() <= TEXT_LIMIT && are_plain(text.bytes())
+    text.bytes().len() <= SYMBOL_LIMIT && are_plain(text.bytes())
 }
 
 /// Whether the value can be stored: it is no block, its integer is one of the language's, and what

@@ -17,7 +17,7 @@ use Rattle.gem_sound.specs.Sound.{has_named_slots}
 use Rattle.object_programs.specs.Fixed.{BodyKind, DictKind, SegmentKind, UserKind, ClassPart, class_part, Fixed, fixed_of, fixed_by, same_fixed, same_kind, same_number}
 use Rattle.object_programs.specs.Spelled.{is_spelled}
 use Rattle.object_programs.specs.Methods.{methods_fit}
-use Rattle.object_programs.specs.declared.limits.TheConstants.{NAMES_LIMIT}
+use Rattle.gem_sound.specs.declared.limits.TheConstants.{NAMES_LIMIT}
 
 -- The fixed part of the object of each name, where there is one.
 abbrev pub Parts : Type 0

@@ -6,6 +6,7 @@ use Rattle.std.specs.declared.cmp.Ordering.{Ordering}
 use Rattle.std.specs.Cmp.Lexicographic.{slice_cmp}
 use Rattle.gem_object.specs.texts.Bytes.{Bytes as Text}
 use Rattle.gem_object.specs.texts.SmallInteger.{is_small_integer}
+use Rattle.gem_object.specs.texts.declared.limits.TheConstants.{SYMBOL_LIMIT}
 use Rattle.gem_object.specs.seg_rights.declared.right.Right.{Right}
 use Rattle.gem_object.specs.seg_rights.declared.right.Right.TheVariants.{None as NoRight}
 use Rattle.gem_object.specs.seg_rights.declared.rights.Rights.{Rights}
@@ -31,7 +32,7 @@ is_oid number = nat_lt number (2 ^ 48)
 
 -- whether a text has at most 1,000 bytes, each below 128
 abbrev pub is_text : Text → Bool
-is_text text = nat_le (length text) 1000 && list_all is_plain_byte text
+is_text text = nat_le (length text) SYMBOL_LIMIT && list_all is_plain_byte text
 
 -- whether a list ascends: each item is below the one after it
 abbrev pub ascends_after : {X : Type 0} → (X → X → Ordering) → X → List X → Bool

@@ -19,8 +19,8 @@ pub const TRANSCRIPT_LIMIT: u64 = 65_536;
 /// The counters in names are below this.
 pub const COUNTER_LIMIT: u64 = 1 << 24;
 
-/// How many names of instance variables a class has at most, with those that it inherits.
-pub const NAMES_LIMIT: u64 = 200;
+/// How many classes are gone through upwards at most: as many as there are names.
+pub const CHAIN_LIMIT: u64 = 1 << 48;
 
 /// How many activations live at once at most: the chunk's own, and one for each method with source
 /// and each block that runs.

@@ -5,6 +5,7 @@ ghost use Rattle.plain_state.specs.Classes.{takes_slots, accepts_slots, is_in_ke
 
 use crate::parts::Parts;
 use gem_object::{Kind, Object, Oid};
+use gem_sound::names::{TRANSCRIPT, TRANSCRIPT_STREAM_CLASS, is_kernel_name};
 use object_guard::{Sees, class_at, has_names};
 
 impl Sees for Parts {
@@ -28,7 +29,8 @@ impl Parts {
             return false;
         };
         let takes = takes_slots(found.kind);
-        (takes && has_names(self, class, count)) || (count == 0 && class.number() == 26)
+        (takes && has_names(self, class, count))
+            || (count == 0 && is_kernel_name(class, TRANSCRIPT_STREAM_CLASS))
     }
 }
 
@@ -55,5 +57,5 @@ fn takes_slots(kind: Kind) -> bool
 pub(crate) fn is_in_kernel(oid: Oid) -> bool
     ensures { result ≡ is_in_kernel oid }
 {
-    0 < oid.number() && oid.number() <= 35
+    0 < oid.number() && oid.number() <= u64::from(TRANSCRIPT)
 }

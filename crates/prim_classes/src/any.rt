@@ -11,11 +11,11 @@ ghost use Rattle.prim_parts.specs.Does.{Does, Computes};
 
 use crate::printing::short_text;
 use gem_object::{Body, Oid, Sequence, Text, Value};
-use gem_sound::names::STRING_CLASS;
+use gem_sound::names::{STRING_CLASS, kernel_name};
 use object_programs::Fault;
 use prim_parts::{
-    check, class_of_value, default_segment, kernel_name, new_object, new_object_in, no_arguments,
-    one_of, text_of_argument, truth,
+    check, class_of_value, default_segment, new_object, new_object_in, no_arguments, one_of,
+    text_of_argument, truth,
 };
 use prim_rules::PrimitiveAnswer;
 use running_objects::{Objects, Stop};

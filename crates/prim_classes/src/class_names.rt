@@ -4,12 +4,13 @@ ghost use Rattle.std.specs.List.{list_all, list_any};
 ghost use Rattle.object_programs.specs.Programs.{need};
 ghost use Rattle.object_programs.specs.declared.fault.Fault.TheVariants as fault;
 ghost use Rattle.gem_object.specs.texts.Names.{is_name};
-ghost use Rattle.object_programs.specs.declared.limits.TheConstants.{NAMES_LIMIT};
+ghost use Rattle.gem_sound.specs.declared.limits.TheConstants.{NAMES_LIMIT};
 ghost use Rattle.prim_rules.specs.Classes.{begins_with_capital, class_name_in, may_have_subclasses, symbols_in, is_one_of, are_distinct, may_be_named, may_add_names};
 ghost use Rattle.prim_parts.specs.Does.{Computes, pointed};
 
 use gem_object::{Kind, Names, Sequence, Text, Value, is_name};
-use object_programs::{Fault, NAMES_LIMIT};
+use gem_sound::NAMES_LIMIT;
+use object_programs::Fault;
 use prim_parts::symbol_in;
 use running_objects::Stop;
 use std::alloc::{AllocError, Global};

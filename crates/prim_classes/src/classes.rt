@@ -23,11 +23,11 @@ use crate::class_names::{class_name_in, may_add_names, may_have_subclasses, symb
 use gem_object::{
     Body, ClassBody, Kind, Method, Methods, Names, Object, Oid, Sequence, Text, Value, Values,
 };
-use gem_sound::names::{ARRAY_CLASS, CLASS_CLASS, IDENTITY_DICTIONARY_CLASS};
+use gem_sound::names::{ARRAY_CLASS, CLASS_CLASS, IDENTITY_DICTIONARY_CLASS, kernel_name};
 use object_programs::Fault;
 use prim_parts::{
-    all_names, check, check_kind, default_segment, kernel_name, make_and_enter, named_slots,
-    new_object, no_arguments, one_of, reference_in, replace_body, symbol_in, three_of, truth,
+    all_names, check, check_kind, default_segment, make_and_enter, named_slots, new_object,
+    no_arguments, one_of, reference_in, replace_body, symbol_in, three_of, truth,
 };
 use prim_rules::PrimitiveAnswer;
 use running_objects::{Objects, Stop};

@@ -9,13 +9,10 @@ ghost use Rattle.prim_classes.specs.Superclasses.{superclass_read};
 ghost use Rattle.prim_parts.specs.Does.{Does};
 
 use gem_object::{Body, Oid, Value};
-use object_programs::Fault;
+use object_programs::{CHAIN_LIMIT, Fault};
 use prim_parts::{class_of_value, one_of, reference_in, truth};
 use prim_rules::PrimitiveAnswer;
 use running_objects::{Objects, Stop};
-
-// No more classes than there are names are gone through.
-const CHAIN_LIMIT: u64 = 1 << 48;
 
 // The name of the class that an argument is; E5 where it is none. That is told without a touch.
 fn class_argument<O: Objects>(objects: &mut O, argument: &Value) -> Result<Oid, Stop>

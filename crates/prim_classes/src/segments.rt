@@ -9,9 +9,9 @@ ghost use Rattle.prim_classes.specs.Segments.{movable_by, may_move, rights_read,
 
 use gem_image::groups_of;
 use gem_object::{Body, Groups, Oid, Rights, Text, Value, may_write};
-use gem_sound::names::SEGMENT_CLASS;
+use gem_sound::names::{SEGMENT_CLASS, kernel_name};
 use object_programs::Fault;
-use prim_parts::{check, check_kind, kernel_name, no_arguments, one_of, reference_in};
+use prim_parts::{check, check_kind, no_arguments, one_of, reference_in};
 use prim_rules::PrimitiveAnswer;
 use running_objects::{Objects, Stop};
 use std::alloc::AllocError;

@@ -10,10 +10,8 @@ use crate::indexes::size_of;
 use crate::lists::{keys_of, values_of};
 use crate::pairs::{check_key, has_key, key_argument, read_dictionary, value_at, write_dictionary};
 use gem_object::{Body, Oid, Value, Values};
-use gem_sound::names::ARRAY_CLASS;
-use prim_parts::{
-    check_stored, kernel_name, new_object, no_arguments, put_pair, remove_pair, truth, two_of,
-};
+use gem_sound::names::{ARRAY_CLASS, kernel_name};
+use prim_parts::{check_stored, new_object, no_arguments, put_pair, remove_pair, truth, two_of};
 use prim_rules::PrimitiveAnswer;
 use running_objects::{Objects, Stop};
 use std::alloc::Global;

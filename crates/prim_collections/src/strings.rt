@@ -12,11 +12,11 @@ use crate::bodies::bytes_at;
 use crate::indexes::{part_of, place_in, size_of};
 use crate::integers::integer_in;
 use gem_object::{Oid, SYMBOL_LIMIT, Text, Value};
-use gem_sound::names::STRING_CLASS;
+use gem_sound::names::{STRING_CLASS, kernel_name};
 use object_programs::Fault;
 use prim_parts::{
-    character_in, int_in, is_kind_of, kernel_name, need, new_string, no_arguments, one_of,
-    reference_in, replace_byte, string_bytes, text_of_argument, text_of_receiver, truth, two_of,
+    character_in, int_in, is_kind_of, need, new_string, no_arguments, one_of, reference_in,
+    replace_byte, string_bytes, text_of_argument, text_of_receiver, truth, two_of,
 };
 use prim_rules::PrimitiveAnswer;
 use running_objects::{Objects, Stop};

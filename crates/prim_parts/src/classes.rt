@@ -7,9 +7,6 @@ use gem_object::{Body, ClassBody, Names, Oid, Sequence, Text};
 use running_objects::Objects;
 use std::alloc::{AllocError, Global};
 
-/// More classes than there are names are never gone through.
-pub(crate) const CHAIN_LIMIT: u64 = 1 << 48;
-
 // The class of this name, if there is one.
 fn class_at<O: Objects>(objects: &O, name: Oid) -> Option<&ClassBody>
     ensures { option_map part_of_class (option_copied result)

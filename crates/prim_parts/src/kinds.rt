@@ -2,27 +2,19 @@
 //! touched but names without an object.
 ghost use Rattle.prim_rules.specs.Parts.{class_of_plain, class_of_reference, class_of_value, is_under, is_kind_of, check_kind, named_slots};
 ghost use Rattle.prim_rules.specs.Classes.{all_names};
-ghost use Rattle.std.specs.Prelude.{◌≡◌, ◌<◌, ◌^◌, Ok, IfOk};
+ghost use Rattle.std.specs.Prelude.{◌≡◌, Ok, IfOk};
 ghost use Rattle.prim_parts.specs.Does.{Does, IsThere};
 
 use crate::arguments::check;
-use crate::classes::{CHAIN_LIMIT, count_names, has_class, push_names};
+use crate::classes::{count_names, has_class, push_names};
 use gem_object::{Names, Oid, Value};
 use gem_sound::names::{
     BLOCK_CLASS, CHARACTER_CLASS, FALSE_CLASS, SMALL_INTEGER_CLASS, SYMBOL_CLASS, TRUE_CLASS,
-    UNDEFINED_OBJECT_CLASS,
+    UNDEFINED_OBJECT_CLASS, kernel_name,
 };
-use object_programs::Fault;
+use object_programs::{CHAIN_LIMIT, Fault};
 use running_objects::{Objects, Stop};
 use std::alloc::{AllocError, Global};
-
-/// The name of the object of the kernel with this number, below 2^24.
-pub fn kernel_name(number: u32) -> Oid
-    requires { number < 2 ^ 24 }
-    ensures { result ≡ number }
-{
-    Oid::from_parts(0, number)
-}
 
 /// The class of a value that isn't a reference.
 pub fn class_of_plain(value: &Value) -> Option<Oid>

@@ -23,7 +23,7 @@ pub use edits::{
 pub use entering::make_and_enter;
 pub use kinds::{
     all_names, check_kind, class_of_plain, class_of_reference, class_of_value, is_kind_of,
-    is_under, kernel_name, named_slots,
+    is_under, named_slots,
 };
 pub use making::{default_segment, new_object, new_object_in, new_string};
 pub use prim_rules::PrimitiveAnswer;

@@ -9,9 +9,8 @@ ghost use Rattle.object_programs.specs.declared.fault.Fault.TheVariants as fault
 ghost use Rattle.prim_rules.specs.Parts.{user_in};
 ghost use Rattle.prim_parts.specs.Does.{Does, Computes};
 
-use crate::kinds::kernel_name;
 use gem_object::{Body, Object, Oid, Sequence, Text, Value};
-use gem_sound::names::STRING_CLASS;
+use gem_sound::names::{STRING_CLASS, kernel_name};
 use object_programs::Fault;
 use running_objects::{Objects, Stop};
 use std::alloc::Global;

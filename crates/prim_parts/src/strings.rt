@@ -6,9 +6,9 @@ ghost use Rattle.gem_object.specs.declared.value.Value.TheVariants as value;
 ghost use Rattle.prim_rules.specs.Parts.{bytes_in};
 ghost use Rattle.prim_parts.specs.Does.{Does, Computes};
 
-use crate::kinds::{check_kind, kernel_name};
+use crate::kinds::check_kind;
 use gem_object::{Body, Oid, Text, Value};
-use gem_sound::names::STRING_CLASS;
+use gem_sound::names::{STRING_CLASS, kernel_name};
 use object_programs::Fault;
 use running_objects::{Objects, Stop};
 use std::alloc::Global;

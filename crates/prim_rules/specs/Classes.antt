@@ -14,7 +14,7 @@ use Rattle.gem_object.specs.declared.body.Body.TheVariants as body
 use Rattle.object_programs.specs.gem_image.Image.{Contents}
 use Rattle.object_programs.specs.gem_sound.Kernel.{class_class}
 use Rattle.object_programs.specs.gem_sound.Sound.{has_named_slots}
-use Rattle.object_programs.specs.declared.limits.TheConstants.{NAMES_LIMIT}
+use Rattle.object_programs.specs.gem_sound.declared.limits.TheConstants.{NAMES_LIMIT}
 use Rattle.object_programs.specs.Run.{Run, give, and_then}
 use Rattle.object_programs.specs.Programs.{need, check, read, known, classes_above}
 use Rattle.object_programs.specs.declared.fault.Fault.TheVariants as fault

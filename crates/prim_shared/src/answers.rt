@@ -11,10 +11,10 @@ ghost use Rattle.prim_parts.specs.Does.{Does};
 ghost use Rattle.prim_shared.specs.Told.{fits_array};
 
 use gem_object::{Body, Oid, Value, Values};
-use gem_sound::names::ARRAY_CLASS;
+use gem_sound::names::{ARRAY_CLASS, kernel_name};
 use gem_update::Update;
 use object_programs::Fault;
-use prim_parts::{default_segment, kernel_name, new_object, replace_body, update};
+use prim_parts::{default_segment, new_object, replace_body, update};
 use prim_rules::PrimitiveAnswer;
 use running_objects::{Objects, Stop};
 use std::alloc::Global;

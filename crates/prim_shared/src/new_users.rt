@@ -24,9 +24,10 @@ use gem_object::{
 };
 use gem_sound::names::{
     ALL_USERS, DATA_CURATOR_SEGMENT, SEGMENT_CLASS, SYMBOL_DICTIONARY_CLASS, USER_PROFILE_CLASS,
+    kernel_name,
 };
 use object_programs::Fault;
-use prim_parts::{check, kernel_name, make_and_enter, reference_in};
+use prim_parts::{check, make_and_enter, reference_in};
 use prim_rules::PrimitiveAnswer;
 use running_objects::{Objects, Stop};
 use std::alloc::{AllocError, Global};

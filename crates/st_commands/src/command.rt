@@ -10,6 +10,7 @@ ghost use Rattle.gem_language.specs.tree_meaning.Place.{MadeBlock};
 ghost use Rattle.running_objects.specs.Ran.{Ran};
 ghost use Rattle.st_commands.specs.Replies.{got, RepliedBy, Replied};
 
+use crate::limits::SOURCE_LIMIT;
 use crate::reply::{Reply, reply_to_fault, reply_to_method};
 use gem_object::Text;
 use running_objects::{Objects, Stop};
@@ -55,7 +56,7 @@ pub fn install_source<O: Objects>(
         (O.seen objects.new) }
 {
     let bytes = source.bytes();
-    if bytes.len() >= 1 << 32 {
+    if bytes.len() >= SOURCE_LIMIT {
         return Err(AllocError);
     }
     match parse_method(alloc, bytes) {

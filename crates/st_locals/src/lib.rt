@@ -3,6 +3,7 @@
 //! stand in `machine_tests`.
 #![tactic(auto)]
 
+mod activations;
 mod forms;
 mod frame;
 mod locals;
@@ -12,9 +13,10 @@ mod operands;
 mod place;
 mod scope;
 
+pub use activations::Activations;
 pub use forms::{first_loop, form_of, form_under, is_super_head};
 pub use frame::{Frame, frame_without_scopes, method_frame};
-pub use locals::{Locals, nil_values, with_nils};
+pub use locals::{Locals, count_params, nil_values, with_nils};
 pub use made_block::MadeBlock;
 pub use names::{is_super, where_is};
 pub use operands::{int_pair, plain_constant, singleton_value, truth_of};

@@ -5,8 +5,9 @@ ghost use Rattle.st_tree.specs.Falls.{size_closure};
 ghost use Rattle.tree_meaning.specs.object_programs.Local.{nothing};
 ghost use Rattle.tree_meaning.specs.Place.{MadeBlock as TreeBlock};
 ghost use Rattle.tree_meaning.specs.Bodies.{params_count};
-ghost use Rattle.tree_meaning.specs.Scopes.{mark, scope_number, open_scope, begin_method, is_living, end_living, give_back, value_at, with_value};
+ghost use Rattle.tree_meaning.specs.Scopes.{mark, scope_number, open_scope, begin_method, is_living, value_at, with_value};
 
+use crate::activations::Activations;
 use crate::frame::Frame;
 use crate::made_block::MadeBlock;
 use crate::place::Place;
@@ -42,6 +43,24 @@ impl Model for Locals {
       blocks = locals.blocks.items;
       living = locals.living.items;
     } };
+}
+
+impl Activations for Locals {
+    ghost local = { λ locals. locals };
+
+    fn end_living(&mut self, number: u64) {
+        let number = number as usize;
+        if number < self.living.len() {
+            self.living[number] = false;
+        }
+    }
+
+    fn give_back(&mut self, mark: Mark) {
+        if self.blocks.len() as u64 == mark.blocks {
+            self.scopes.truncate(mark.scopes as usize);
+            self.living.truncate(mark.living as usize);
+        }
+    }
 }
 
 impl Locals {
@@ -99,27 +118,6 @@ impl Locals {
         number < self.living.len() && self.living[number]
     }
 
-    /// Ends the activation of this number, if there is one.
-    pub fn end_living(&mut self, number: u64)
-        ensures { self.new ≡ end_living number self.old }
-    {
-        let number = number as usize;
-        if number < self.living.len() {
-            self.living[number] = false;
-        }
-    }
-
-    /// Gives back the scopes and the activations that came since this much stood, unless a block
-    /// was made since.
-    pub fn give_back(&mut self, mark: Mark)
-        ensures { self.new ≡ give_back mark self.old }
-    {
-        if self.blocks.len() as u64 == mark.blocks {
-            self.scopes.truncate(mark.scopes as usize);
-            self.living.truncate(mark.living as usize);
-        }
-    }
-
     /// A copy of a variable's value: the depth counts the scopes between, from 0, and the index the
     /// variables of the scope. Nil where there is no such variable.
     pub fn value_at(&self, frame: &Frame, depth: usize, index: usize) -> Result<Value, AllocError>
@@ -156,7 +154,7 @@ impl Locals {
         }) }
         ensures unchanged { OnErr result (self.new ≡ self.old) }
     {
-        let params = count_params(tree)?;
+        let params = count_params(tree.params.len())?;
         let number = self.blocks.len() as u64;
         let made = MadeBlock::of(tree.clone()?, place.clone()?, frame.clone()?);
         self.blocks.push(made)?;
@@ -195,10 +193,9 @@ fn put_value(scopes: &mut Vec<Variables>, number: u64, index: usize, value: Valu
 }
 
 /// How many parameters a block has. Err from 2^32 on.
-fn count_params(tree: &BlockTree) -> Result<u32, AllocError>
-    ensures { IfOk result (λ count. count ≡ params_count tree.now) }
+pub fn count_params(count: usize) -> Result<u32, AllocError>
+    ensures { IfOk result (λ params. params ≡ count) }
 {
-    let count = tree.params.len();
     if count < 1 << 32 {
         Ok(count as u32)
     } else {

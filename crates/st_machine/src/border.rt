@@ -2,15 +2,10 @@
 //! variables at hand, which they leave as they are. A frame here has no scopes: those of the
 //! activation that runs stand on a stack, and nothing here asks for them.
 ghost use Rattle.std.specs.Prelude.{◌≡◌, true, false, Ok, IfSome};
-ghost use Rattle.tree_meaning.specs.object_programs.Atom.{Tick};
 ghost use Rattle.tree_meaning.specs.object_programs.Budget.{Budget};
-ghost use Rattle.tree_meaning.specs.object_programs.Run.{atom};
 ghost use Rattle.gem_language.specs.prim_rules.Rules.{rule_of};
-ghost use Rattle.gem_language.specs.prim_rules.Printing.{print_text};
 ghost use Rattle.gem_language.specs.LookUp.{find_method};
 ghost use Rattle.gem_language.specs.OutOfScope.{read_out_of_scope, write_out_of_scope};
-ghost use Rattle.gem_language.specs.Literals.{literal_value};
-ghost use Rattle.st_tree.specs.Views.{constant_of};
 ghost use Rattle.look_up_cache.specs.Memory.{told_by, with_budget};
 ghost use Rattle.look_up_cache.specs.Table.{held_at};
 ghost use Rattle.running_objects.specs.Ran.{Ran};
@@ -24,17 +19,8 @@ use gem_language::Found;
 use gem_object::{Text, Value};
 use prim_parts::PrimitiveAnswer;
 use running_objects::{Objects, Stop};
-use st_tree::Literal;
 use std::alloc::Global;
 use tree_meaning::Mark;
-
-/// Takes a unit: E13 where none is left.
-pub(crate) fn take_unit<O: Objects>(objects: &mut O, locals: &Locals) -> Result<(), Stop>
-    ensures { Ran (atom Tick) (O.seen objects.old) locals.now result (O.seen objects.new)
-        locals.now }
-{
-    objects.tick()
-}
 
 /// The method that answers a message with this selector to `super`.
 pub(crate) fn find_above<O: Objects>(
@@ -129,30 +115,4 @@ pub(crate) fn write_name<O: Objects>(
         (O.seen objects.old) locals.now result (O.seen objects.new) locals.now }
 {
     st_outside::write_name(objects, name, frame.frame(), value)
-}
-
-/// The new object of a string or an array that is written out in the text.
-pub(crate) fn literal<O: Objects>(
-    alloc: Global,
-    objects: &mut O,
-    locals: &Locals,
-    literal: &Literal,
-) -> Result<Value, Stop>
-    ensures { Ran (literal_value (constant_of literal.now)) (O.seen objects.old) locals.now result
-        (O.seen objects.new) locals.now }
-{
-    st_outside::literal(alloc, objects, literal)
-}
-
-/// The print text of a value.
-pub(crate) fn print<O: Objects>(
-    alloc: Global,
-    objects: &mut O,
-    locals: &Locals,
-    value: &Value,
-) -> Result<Text, Stop>
-    ensures { Ran (print_text value.now) (O.seen objects.old) locals.now result
-        (O.seen objects.new) locals.now }
-{
-    st_commands::print_value(alloc, objects, value)
 }

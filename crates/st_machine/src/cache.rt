@@ -6,6 +6,7 @@ ghost use Rattle.st_machine.specs.Methods.{is_kept, sources, AllAreCode, IsMetho
 use crate::shared_code::SharedCode;
 use gem_object::Text;
 use lru::LruCache;
+use st_commands::SOURCE_LIMIT;
 use st_compiler::compile;
 use st_parser::{ParseFault, parse_method};
 use std::alloc::{AllocError, Global};
@@ -133,7 +134,7 @@ fn compile_method(alloc: Global, source: &Text) -> Result<Option<SharedCode>, Al
     ensures { IfOk result (IsMethodOf source.now) }
 {
     let text = source.bytes();
-    if text.len() >= 1 << 32 {
+    if text.len() >= SOURCE_LIMIT {
         return Err(AllocError);
     }
     match parse_method(alloc, text) {

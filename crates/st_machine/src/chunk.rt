@@ -12,7 +12,6 @@ ghost use Rattle.running_objects.specs.Ran.{Ran};
 use crate::cache::CodeCache;
 use crate::finds::FindsMethods;
 use crate::layers::Layers;
-use crate::leaving::leave_method;
 use crate::locals::Locals;
 use crate::machine::run_inside;
 use crate::outline::Outline;
@@ -20,6 +19,7 @@ use crate::shared_code::{Part, SharedCode};
 use gem_object::{Oid, Value};
 use gem_sound::names::UNDEFINED_OBJECT_CLASS;
 use running_objects::{ACTIVATION_LIMIT, Stop};
+use st_commands::leave_method;
 use std::alloc::Global;
 
 /// How many activations may begin in a chunk, which is the first one itself.

@@ -6,7 +6,6 @@ ghost use Rattle.running_objects.specs.Ran.{Ran};
 ghost use Rattle.st_commands.specs.Replies.{said, RepliedBy, Replied};
 ghost use Rattle.st_commands.specs.Commands.{command_of};
 
-use crate::border::print;
 use crate::cache::CodeCache;
 use crate::chunk::run_locally;
 use crate::finds::FindsMethods;
@@ -14,7 +13,9 @@ use crate::locals::Locals;
 use crate::shared_code::SharedCode;
 use gem_object::Text;
 use running_objects::{Objects, Stop};
-use st_commands::{Command, Reply, install_source, reply_to_chunk, reply_to_fault};
+use st_commands::{
+    Command, Reply, SOURCE_LIMIT, install_source, print, reply_to_chunk, reply_to_fault,
+};
 use st_compiler::compile;
 use st_parser::parse_chunk;
 use st_tree::Tree;
@@ -61,7 +62,7 @@ pub fn run_text<O: FindsMethods>(
         (O.seen objects.new) }
 {
     let bytes = text.bytes();
-    if bytes.len() >= 1 << 32 {
+    if bytes.len() >= SOURCE_LIMIT {
         return Err(AllocError);
     }
     match parse_chunk(alloc, bytes) {

@@ -14,7 +14,6 @@ mod flow;
 mod jumps;
 mod known;
 mod layers;
-mod leaving;
 mod locals;
 mod loops;
 mod machine;

@@ -4,12 +4,13 @@ ghost use Rattle.gem_object.specs.declared.value.Value.TheVariants.{Nil};
 ghost use Rattle.tree_meaning.specs.object_programs.Local.{nothing};
 ghost use Rattle.st_machine.specs.Variables.{more_nils};
 ghost use Rattle.tree_meaning.specs.Place.{MadeBlock as TreeBlock};
-ghost use Rattle.tree_meaning.specs.Scopes.{mark, open_scope, begin_method, is_living, end_living, give_back, with_value};
+ghost use Rattle.tree_meaning.specs.Scopes.{mark, open_scope, begin_method, is_living, with_value};
 
 use crate::code_block::CodeBlock;
 use crate::layers::Layers;
 use gem_object::Value;
 use list_stack::ListStack;
+use st_locals::Activations;
 use std::alloc::{AllocError, Global};
 use std::marker::Model;
 use tree_meaning::Mark;
@@ -39,6 +40,24 @@ impl Model for Locals {
       blocks = locals.blocks.items;
       living = locals.living.items;
     } };
+}
+
+impl Activations for Locals {
+    ghost local = { λ locals. locals };
+
+    fn end_living(&mut self, number: u64) {
+        let number = number as usize;
+        if number < self.living.len() {
+            self.living[number] = false;
+        }
+    }
+
+    fn give_back(&mut self, mark: Mark) {
+        if self.blocks.len() as u64 == mark.blocks {
+            self.scopes.truncate(mark.scopes as usize);
+            self.living.truncate(mark.living as usize);
+        }
+    }
 }
 
 impl Locals {
@@ -111,27 +130,6 @@ impl Locals {
     {
         let number = number as usize;
         number < self.living.len() && self.living[number]
-    }
-
-    /// Ends the activation of this number, if there is one.
-    pub(crate) fn end_living(&mut self, number: u64)
-        ensures { self.new ≡ end_living number self.old }
-    {
-        let number = number as usize;
-        if number < self.living.len() {
-            self.living[number] = false;
-        }
-    }
-
-    /// Gives back the scopes and the activations that came since this much stood, unless a block
-    /// was made since.
-    pub(crate) fn give_back(&mut self, mark: Mark)
-        ensures { self.new ≡ give_back mark self.old }
-    {
-        if self.blocks.len() as u64 == mark.blocks {
-            self.scopes.truncate(mark.scopes as usize);
-            self.living.truncate(mark.living as usize);
-        }
     }
 
     /// A copy of the value of a variable of the scope of this number. Nil where there is no such

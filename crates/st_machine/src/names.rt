@@ -17,6 +17,7 @@ use crate::scopes::scope_number;
 use crate::shared_code::SharedCode;
 use gem_object::{BlockRef, Text, Value};
 use running_objects::{Objects, Stop};
+use st_locals::count_params;
 use std::alloc::{AllocError, Global};
 use tree_meaning::Mark;
 
@@ -145,21 +146,10 @@ pub(crate) fn push_block<O: Objects>(
     let Some(block) = code.block(number) else {
         return Ok(Flow::Stuck);
     };
-    let params = block_params(block.params)?;
+    let params = count_params(block.params)?;
     let scopes = chain.own().to_vec(alloc)?;
     let made = CodeBlock::of(code.share()?, number, scopes, frame.clone()?);
     let number = locals.add_block(made)?;
     stack.push(Value::Block(BlockRef { number, params }))?;
     Ok(Flow::Goes(next_of(place)?))
-}
-
-/// How many parameters a block has. Err from 2^32 on.
-fn block_params(count: usize) -> Result<u32, AllocError>
-    ensures { IfOk result (λ params. params ≡ count) }
-{
-    if count < 1 << 32 {
-        Ok(count as u32)
-    } else {
-        Err(AllocError)
-    }
 }

@@ -8,7 +8,6 @@ ghost use Rattle.st_machine.specs.Led.{LedBy, IsForward, TurnedBy, TurnsForward}
 ghost use Rattle.st_machine.specs.Parts.{table_of};
 ghost use Rattle.st_tree.specs.Views.{constant_of};
 
-use crate::border::literal;
 use crate::flow::{Flow, Turn};
 use crate::layers::Layers;
 use crate::locals::Locals;
@@ -17,6 +16,7 @@ use crate::places::next_of;
 use crate::shared_code::SharedCode;
 use gem_object::Value;
 use running_objects::{Objects, Stop};
+use st_commands::literal;
 use st_locals::singleton_value;
 use st_tree::Literal;
 use std::alloc::{AllocError, Global};

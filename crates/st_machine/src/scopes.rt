@@ -14,6 +14,7 @@ use crate::places::next_of;
 use crate::shared_code::SharedCode;
 use gem_object::Value;
 use running_objects::Objects;
+use st_locals::Activations;
 use std::alloc::{AllocError, Global};
 use tree_meaning::Mark;
 

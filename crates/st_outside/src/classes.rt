@@ -4,10 +4,11 @@ ghost use Rattle.gem_sound.specs.Parts.{class_of};
 ghost use Rattle.running_objects.specs.Seen.{object_at};
 
 use gem_object::{Body, ClassBody, Oid};
+use object_programs::CHAIN_LIMIT;
 use running_objects::Objects;
 
 /// So many classes are gone through at most: more than there are names.
-pub(crate) const CHAIN_STEPS: u64 = (1 << 48) + 1;
+pub(crate) const CHAIN_STEPS: u64 = CHAIN_LIMIT + 1;
 
 /// The class that a body is.
 pub(crate) fn class_of(body: &Body) -> Option<&ClassBody>

@@ -9,9 +9,8 @@ ghost use Rattle.st_outside.specs.Keys.{OfSymbol};
 ghost use Rattle.prim_parts.specs.Does.{Does, Computes};
 
 use gem_object::{Body, Oid, Text, Value};
-use gem_sound::names::GLOBALS;
+use gem_sound::names::{GLOBALS, kernel_name};
 use object_programs::Fault;
-use prim_parts::kernel_name;
 use running_objects::{Objects, Stop};
 use std::alloc::AllocError;
 

@@ -6,9 +6,9 @@ ghost use Rattle.gem_language.specs.Literals.{has_symbols, have_symbols, constan
 ghost use Rattle.prim_parts.specs.Does.{Does};
 
 use gem_object::{Body, SYMBOL_LIMIT, Sequence, Text, Value, Values};
-use gem_sound::names::{ARRAY_CLASS, STRING_CLASS};
+use gem_sound::names::{ARRAY_CLASS, STRING_CLASS, kernel_name};
 use object_programs::Fault;
-use prim_parts::{check, kernel_name, new_object};
+use prim_parts::{check, new_object};
 use running_objects::{Objects, Stop};
 use st_tree::Literal;
 use std::alloc::Global;

@@ -1,13 +1,8 @@
 //! What stands between objects and variables: calls that do something to objects, said with the
 //! variables at hand, which they leave as they are.
-ghost use Rattle.object_programs.specs.Atom.{Tick};
-ghost use Rattle.object_programs.specs.Run.{atom};
 ghost use Rattle.prim_rules.specs.Rules.{rule_of};
-ghost use Rattle.prim_rules.specs.Printing.{print_text};
 ghost use Rattle.gem_language.specs.LookUp.{find_method};
 ghost use Rattle.gem_language.specs.OutOfScope.{read_out_of_scope, write_out_of_scope};
-ghost use Rattle.gem_language.specs.Literals.{literal_value};
-ghost use Rattle.st_tree.specs.Views.{constant_of};
 ghost use Rattle.running_objects.specs.Ran.{Ran};
 
 use gem_language::Found;
@@ -15,16 +10,7 @@ use gem_object::{Text, Value};
 use prim_rules::PrimitiveAnswer;
 use running_objects::{Objects, Stop};
 use st_locals::{Frame, Locals};
-use st_tree::Literal;
 use std::alloc::Global;
-
-/// Takes a unit: E13 where none is left.
-pub(crate) fn take_unit<O: Objects>(objects: &mut O, locals: &Locals) -> Result<(), Stop>
-    ensures { Ran (atom Tick) (O.seen objects.old) locals.now result (O.seen objects.new)
-        locals.now }
-{
-    objects.tick()
-}
 
 /// The method that answers a message with this selector to the receiver.
 pub(crate) fn find_method<O: Objects>(
@@ -81,30 +67,4 @@ pub(crate) fn write_name<O: Objects>(
         result (O.seen objects.new) locals.now }
 {
     st_outside::write_name(objects, name, frame, value)
-}
-
-/// The new object of a string or an array that is written out in the text.
-pub(crate) fn literal<O: Objects>(
-    alloc: Global,
-    objects: &mut O,
-    locals: &Locals,
-    literal: &Literal,
-) -> Result<Value, Stop>
-    ensures { Ran (literal_value (constant_of literal.now)) (O.seen objects.old) locals.now result
-        (O.seen objects.new) locals.now }
-{
-    st_outside::literal(alloc, objects, literal)
-}
-
-/// The print text of a value.
-pub(crate) fn print<O: Objects>(
-    alloc: Global,
-    objects: &mut O,
-    locals: &Locals,
-    value: &Value,
-) -> Result<Text, Stop>
-    ensures { Ran (print_text value.now) (O.seen objects.old) locals.now result
-        (O.seen objects.new) locals.now }
-{
-    st_commands::print_value(alloc, objects, value)
 }

@@ -11,11 +11,11 @@ ghost use Rattle.gem_language.specs.Sends.{outside, chunk_value};
 ghost use Rattle.running_objects.specs.Ran.{Ran};
 
 use crate::eval::eval_statements;
-use crate::leaving::leave_method;
 use gem_object::{Oid, Value};
 use gem_sound::names::UNDEFINED_OBJECT_CLASS;
 use object_programs::ACTIVATION_LIMIT;
 use running_objects::{Objects, Stop};
+use st_commands::leave_method;
 use st_locals::{Frame, Locals, Place, method_frame, with_nils};
 use st_tree::Tree;
 use std::alloc::Global;

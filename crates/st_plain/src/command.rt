@@ -6,11 +6,12 @@ ghost use Rattle.running_objects.specs.Ran.{Ran};
 ghost use Rattle.st_commands.specs.Replies.{said, RepliedBy, Replied};
 ghost use Rattle.st_commands.specs.Commands.{command_of};
 
-use crate::border::print;
 use crate::chunk::eval_chunk;
 use gem_object::Text;
 use running_objects::{Objects, Stop};
-use st_commands::{Command, Reply, install_source, reply_to_chunk, reply_to_fault};
+use st_commands::{
+    Command, Reply, SOURCE_LIMIT, install_source, print, reply_to_chunk, reply_to_fault,
+};
 use st_locals::Locals;
 use st_parser::parse_chunk;
 use st_tree::Tree;
@@ -55,7 +56,7 @@ pub fn run_text<O: Objects>(
         (O.seen objects.new) }
 {
     let bytes = text.bytes();
-    if bytes.len() >= 1 << 32 {
+    if bytes.len() >= SOURCE_LIMIT {
         return Err(AllocError);
     }
     match parse_chunk(alloc, bytes) {

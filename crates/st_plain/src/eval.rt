@@ -24,9 +24,8 @@ ghost use Rattle.running_objects.specs.Ran.{Ran};
 ghost use Rattle.st_plain.specs.Choices.{handed_value, params_of};
 
 use crate::arguments::Arguments;
-use crate::border::{find_method, primitive, take_unit};
+use crate::border::{find_method, primitive};
 use crate::choices::{handed, takes, test};
-use crate::leaving::{leave_block, leave_method};
 use crate::sources::method_tree;
 use crate::variables::{assign_all, constant_value, hand, make_block, name_value, return_value};
 use gem_language::Found;
@@ -34,9 +33,10 @@ use gem_object::{LARGEST_INTEGER, MethodCode, Oid, Text, Value};
 use object_programs::Fault;
 use prim_rules::PrimitiveAnswer;
 use running_objects::{Objects, Stop};
+use st_commands::{leave_block, leave_method, take_unit};
 use st_locals::{
-    Frame, Locals, MadeBlock, Place, block_place, first_loop, form_under, int_pair, is_super_head,
-    method_frame, nil_values, singleton_value, truth_of, with_nils,
+    Activations, Frame, Locals, MadeBlock, Place, block_place, first_loop, form_under, int_pair,
+    is_super_head, method_frame, nil_values, singleton_value, truth_of, with_nils,
 };
 use st_tree::{BlockTree, Expr, Message, Primary, Stat, Tree};
 use std::alloc::Global;

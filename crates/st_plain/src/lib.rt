@@ -9,7 +9,6 @@ mod choices;
 mod chunk;
 mod command;
 mod eval;
-mod leaving;
 mod sources;
 mod variables;
 

@@ -3,6 +3,7 @@ ghost use Rattle.std.specs.Prelude.{IfOk};
 ghost use Rattle.st_commands.specs.Sources.{IsTreeOf};
 
 use gem_object::Text;
+use st_commands::SOURCE_LIMIT;
 use st_parser::{ParseFault, parse_method};
 use st_tree::Tree;
 use std::alloc::{AllocError, Global};
@@ -13,7 +14,7 @@ pub(crate) fn method_tree(alloc: Global, source: &Text) -> Result<Option<Tree>, 
     ensures { IfOk result (IsTreeOf source.now) }
 {
     let text = source.bytes();
-    if text.len() >= 1 << 32 {
+    if text.len() >= SOURCE_LIMIT {
         return Err(AllocError);
     }
     match parse_method(alloc, text) {

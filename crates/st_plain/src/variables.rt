@@ -13,10 +13,11 @@ ghost use Rattle.tree_meaning.specs.Calls.{make_block};
 ghost use Rattle.gem_language.specs.Sends.{outside};
 ghost use Rattle.running_objects.specs.Ran.{Ran};
 
-use crate::border::{literal, read_name, write_name};
+use crate::border::{read_name, write_name};
 use gem_object::{Text, Value};
 use object_programs::Fault;
 use running_objects::{Objects, Stop};
+use st_commands::literal;
 use st_locals::{Frame, Locals, Place, plain_constant, singleton_value, where_is};
 use st_tree::{BlockTree, Literal};
 use std::alloc::Global;

@@ -11,8 +11,9 @@ ghost use Rattle.stone_tests.specs.Setting.{one_commit, two_sessions, HasBoxes, 
 use gem_image::Image;
 use gem_object::{Body, Object, Oid, Text, Value, Values};
 use gem_sound::names::{ARRAY_CLASS, DATA_CURATOR_SEGMENT, KERNEL_SERIAL};
+use image_check::sound;
+use kernel_image::kernel;
 use kernel_image::laws::kernel_is_unchanged;
-use kernel_image::{kernel, sound};
 use lock_table::LockKind;
 use radix_pages::Steps;
 use shell_words::{Command, Script, SessionScript};

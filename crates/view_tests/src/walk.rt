@@ -8,9 +8,11 @@ use crate::notes::note_unless;
 use gem_image::Image;
 use gem_object::{Body, Counter, Object, Oid, Value, Values, may_write};
 use gem_record::TxnRecord;
-use gem_sound::names::{ARRAY_CLASS, DATA_CURATOR_SEGMENT, RC_COUNTER_CLASS, SYSTEM_SEGMENT};
+use gem_sound::names::{
+    ARRAY_CLASS, DATA_CURATOR_SEGMENT, RC_COUNTER_CLASS, SYSTEM_SEGMENT, kernel_name,
+};
 use gem_update::Update;
-use kernel_state::{begin_over, kernel_name, larger_image};
+use kernel_state::{begin_over, larger_image};
 use object_programs::COUNTER_LIMIT;
 use plain_state::PlainState;
 use radix_pages::Steps;

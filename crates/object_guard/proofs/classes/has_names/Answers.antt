@@ -1,4 +1,4 @@
-use Rattle.std.proofs.Common.{◌≡◌, ◌<◌, ◌≤◌, ◌∙◌, sym, ap, subst, ℕ, nat_eq, length, None, Bool, arith}
+use Rattle.std.proofs.Common.{◌≡◌, ◌<◌, ◌≤◌, ◌∙◌, sym, subst, ℕ, length, None, Bool, arith}
 use Rattle.object_programs.specs.Guard.{Parts, holds_of, names_at}
 use Rattle.object_programs.specs.Programs.{part_of}
 use Rattle.object_guard.specs.Parts.{part_of_class, has_room}
@@ -36,7 +36,7 @@ returns-in_default-superclass g c =
     let parts : Parts = g.S.Sees.parts c.args.state.now in
     let few : length c.in-Some.found.now.names ≤ c.loop-limit.slots = omega (arith, c.if-len-slots.false, c.len.ensures) in
     let top : c.in-Some.found.now.superclass ≡ None = grind (arith, c.in_default-superclass.is, c.in_default-superclass.not-Some) in
-    ap (λ (n : ℕ). nat_eq n 1) c.number.ensures.number
+    c.is_kernel_name.ensures
     ∙ ends_at_top parts c.loop-limit.limit c.loop-limit.class c.loop-limit.slots c.loop-limit-test.true
     (holds_of (has_room c.args.slots) (names_at parts c.args.class)) c.loop-limit.invariant
     (part_of_class c.in-Some.found.now) (sym c.in-Some.ensures) top few

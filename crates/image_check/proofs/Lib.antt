@@ -1,0 +1,5 @@
+pub mod Circles
+pub mod Counts
+pub mod Lists
+pub mod Kept
+pub mod Places

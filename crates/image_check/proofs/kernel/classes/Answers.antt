@@ -1,0 +1,7 @@
+use Rattle.std.proofs.Common.{refl}
+use Rattle.gem_sound.specs.Kernel.{kernel_classes}
+use Rattle.image_check.proofs.kernel.classes.Goals as goal
+
+pub returns : goal.returns
+unfolding kernel_classes
+returns c = refl

@@ -1,0 +1,4 @@
+pub mod Kernel
+pub mod Chains
+pub mod Faults
+pub mod Bodies

@@ -1,5 +1,0 @@
-use Rattle.prim_parts.proofs.Does.{does_ran}
-use Rattle.st_plain.proofs.border.print.Goals as goal
-
-pub returns : goal.returns
-returns g c = does_ran c.print_value.ensures c.args.locals.now
