@@ -1,5 +1,5 @@
 //! A log on a disk, and how it is opened.
-ghost use Rattle.std.specs.Prelude.{◌≡◌, ◌↔◌, ◌⊎◌, ◌+◌, ◌<◌, ◌≤◌, ℕ, List, [], ◌∷◌, ◌++◌, length, Ok, Err, IsTrue, IfOk, OnOk, IsErrOf};
+ghost use Rattle.std.specs.Prelude.{◌≡◌, ◌↔◌, ◌⊎◌, ◌+◌, ◌<◌, ◌≤◌, ℕ, List, [], ◌∷◌, ◌++◌, length, Ok, Err, IsTrue, IfOk, OnOk, OnErr, IsErrOf};
 ghost use Rattle.gem_io.specs.Faults.{HasRisen, HasCause};
 ghost use Rattle.gem_record.specs.declared.effect.Effect.{Effect};
 ghost use Rattle.gem_disk.specs.declared.disk.Which.TheVariants as which;
@@ -151,7 +151,8 @@ impl Log {
     /// disk where none fails (no clause counts them).
     ///
     /// `Full`: exactly where the log's length and the body's exceed `LOG_LIMIT`; no call was made.
-    /// `Disk`: the count of faults rose in this call; the log is opened anew before it is used.
+    /// `Disk`: the count of faults rose in this call; the log is opened anew before it is used, since
+    /// its end is where it was, and the record may be in it.
     pub fn append<D: Disk>(&mut self, disk: &mut D, body: &[u8]) -> Result<(), AppendFault>
         requires { IsTrue D.tells → (LOG_LIMIT < self.old + 1 + length body.now)
             ⊎ ((effects : List Effect) × (effect : Effect)
@@ -169,8 +170,9 @@ impl Log {
             ↔ ((LOG_LIMIT < self.old + 1 + length body.now) × (size ≡ self.old + 1)
             × (bytes ≡ length body.now)) }
         ensures untouched { (size : ℕ) (bytes : ℕ) → IsErrOf result (AppendFault.Full size bytes)
-            → (disk.new ≡ disk.old) × (self.new ≡ self.old) }
+            → disk.new ≡ disk.old }
         ensures longer { OnOk result (self.new ≡ self.old + length body.now) }
+        ensures kept { OnErr result (self.new ≡ self.old) }
         ensures failed { IsErrOf result AppendFault.Disk
             → HasRisen (D.faults disk.old) (D.faults disk.new) }
         ensures later { D.faults disk.old ≤ D.faults disk.new }
@@ -190,7 +192,7 @@ impl Log {
     /// disk, since bytes that are no record may stand behind its gate. It takes no memory.
     ///
     /// `Failed` tells only that the count of faults rose in this call; the log is opened anew before
-    /// it is used.
+    /// it is used, since its end is where it was, and its records may be gone.
     pub fn restart_empty<D: Disk>(&mut self, disk: &mut D) -> Result<(), Failed>
         requires { IsTrue D.tells → (effects : List Effect)
             × IsAtRest (D.past disk.old) effects self.old }
@@ -205,6 +207,7 @@ impl Log {
             → SameExtent (D.past disk.old) (D.past disk.new) }
         ensures untouched { self.old ≡ 0 → disk.new ≡ disk.old }
         ensures empty { OnOk result (self.new ≡ 0) }
+        ensures kept { OnErr result (self.new ≡ self.old) }
         ensures faults { HasCause (D.faults disk.old) (D.faults disk.new) result }
     {
         if self.end == 0 {
