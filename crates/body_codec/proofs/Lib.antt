@@ -1,13 +1,13 @@
 pub mod Lengths
-mod Fields
+pub mod Fields
 mod Apart
 pub mod Takes
 mod Tagged
 mod Values
-mod Combined
-mod Lists
+pub mod Combined
+pub mod Lists
 mod Loop
-mod InOrder
+pub mod InOrder
 mod Equal
 mod Parts
 mod ListReaders

@@ -63,10 +63,13 @@ impl fmt::Display for BodyFault {
 
 impl Error for BodyFault {}
 
-// The rule that the first field breaks that fails, and how many bytes are left from that field on.
+/// The first field that fails among bytes that are read field by field. No call of this crate gives
+/// one; it is public for the definitions of crates above.
 #[derive(Clone, Copy, Debug, PartialEq, Eq)]
-pub(crate) struct Flaw {
+pub struct Flaw {
+    /// How many bytes are left from the field on.
     pub left: usize,
+    /// The rule that the field breaks.
     pub rule: BodyRule,
 }
 

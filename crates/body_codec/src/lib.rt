@@ -14,6 +14,6 @@ mod read_lists;
 mod read_objects;
 mod write;
 
-pub use fault::{BodyFault, BodyRule};
+pub use fault::{BodyFault, BodyRule, Flaw};
 pub use read_objects::{read_effect, read_object};
 pub use write::{write_effect, write_object};

@@ -16,6 +16,9 @@ MayMake (Wrote at n) old now = Torn at n old now
 MayMake (CutTo n) old now = Cut n old now
 MayMake Synced old now = now ≡ old
 
+pub torn_none : (at n : ℕ) (bytes : List ℕ) → Torn at n bytes bytes
+torn_none at n bytes = record { before = refl; after = refl; no_shorter = omega arith; no_longer = omega arith }
+
 pub torn_by_placing : (at : ℕ) (bytes old : List ℕ) → at ≤ length old → Torn at (length bytes) old (placed at bytes old)
 torn_by_placing at bytes old inside =
     let size = length-placed at bytes old inside in

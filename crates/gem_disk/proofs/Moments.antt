@@ -46,3 +46,12 @@ and_then old mid new P run more = record {
   before = λ since images le left.
       ⊎_elim (run.before since images le) (λ has. inr has) (more.before since images (omega (arith, le, run.later)) left);
 }
+
+-- a run that leaves less
+pub leaves_less : (old new : Past) (P Q : Files → Type 0) → ((images : Files) → P images → Q images)
+    → LeavesOnly old new P → LeavesOnly old new Q
+leaves_less old new P Q less run = record {
+  later = run.later;
+  each = λ images left. less images (run.each images left);
+  before = λ since images le left. ⊎_elim (λ earlier. inl earlier) (λ has. inr (less images has)) (run.before since images le left);
+}

@@ -1,9 +1,11 @@
-//! Room: store. Tests `tran_log`, and shows what a log promises over several calls.
+//! Room: store. Tests `disk_pieces` and `tran_log`, and shows what a log promises over several calls.
 //!
 //! No crate has tests of its own, as it would be proved once more with them.
 #![tactic(auto)]
 
 pub mod again;
+#[cfg(test)]
+mod disk_pieces_tests;
 #[cfg(test)]
 mod sink;
 #[cfg(test)]

@@ -290,3 +290,28 @@ fn filled_log(rt: HostRuntime) -> Result<(), Fail> {
     assert!(rt; is_filled(rt.alloc())?);
     Ok(())
 }
+
+// More records than two bytes count.
+const MANY: u64 = 65_537;
+
+// Whether a log of so many records is read.
+fn reads_many(alloc: Global) -> Result<bool, Fail> {
+    let log = log_bytes(alloc, MANY)?;
+    Ok(open_bytes(alloc, log) == Opened::Records(MANY))
+}
+
+// Whether so many records are added to a log.
+fn takes_many(alloc: Global) -> bool {
+    let mut disk = Sink;
+    match open_log(alloc, &mut disk) {
+        Ok(opened) => behind_bodies(&mut disk, opened.0, MANY, b"\0").is_some(),
+        Err(_) => false,
+    }
+}
+
+#[test]
+fn many_records(rt: HostRuntime) -> Result<(), Fail> {
+    assert!(rt; reads_many(rt.alloc())?);
+    assert!(rt; takes_many(rt.alloc()));
+    Ok(())
+}

@@ -7,12 +7,11 @@ use Rattle.gem_record.specs.declared.effect.Effect.{Effect}
 use Rattle.gem_disk.specs.declared.disk.Which.TheVariants.{Log}
 use Rattle.gem_disk.specs.Disk.{Files, Past, reads, placed, Torn}
 use Rattle.gem_disk.specs.Runs.{LeavesOnly}
-use Rattle.gem_disk.proofs.Moments.{started, and_then}
+use Rattle.gem_disk.proofs.Moments.{started, and_then, leaves_less}
 use Rattle.tran_log.specs.Log.{spelled_record, chain, AreRecords, log_of}
 use Rattle.tran_log.specs.Resting.{IsAtRest, HoldsEither, IsTornAt, IsWritten, MayAppend}
 use Rattle.tran_log.proofs.Walks.{chain_more, records_more}
 use Rattle.tran_log.proofs.Again.{log_is}
-use Rattle.tran_log.proofs.Through.{leaves_less}
 
 -- ---- torn writes
 

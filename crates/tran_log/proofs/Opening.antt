@@ -4,14 +4,13 @@ use Rattle.gem_record.specs.declared.effect.Effect.{Effect}
 use Rattle.gem_disk.specs.declared.disk.Which.TheVariants.{Log}
 use Rattle.gem_disk.specs.Disk.{Files, Synced, Past, reads, stepped, Torn}
 use Rattle.gem_disk.specs.Runs.{LeavesOnly}
-use Rattle.gem_disk.proofs.Moments.{started, goes_on, and_then}
+use Rattle.gem_disk.proofs.Moments.{started, goes_on, and_then, leaves_less}
 use Rattle.tran_log.specs.declared.fault.LogFault.{LogFault}
 use Rattle.tran_log.specs.declared.fault.LogFault.TheVariants.{Disk}
 use Rattle.tran_log.specs.Log.{chain, AreRecords, log_of}
 use Rattle.tran_log.specs.Reads.{EndsAt}
 use Rattle.tran_log.specs.Resting.{IsDurable, IsAtRest, Holds, IsOldOrRead, AllHold, IsTornAt, IsWritten}
 use Rattle.tran_log.proofs.Again.{small_log}
-use Rattle.tran_log.proofs.Through.{leaves_less}
 
 abbrev failed : {X : Type 0} → LogFault → Result X LogFault
 failed fault = Err fault

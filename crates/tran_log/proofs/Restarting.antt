@@ -6,13 +6,12 @@ use Rattle.gem_record.specs.declared.effect.Effect.{Effect}
 use Rattle.gem_disk.specs.declared.disk.Which.TheVariants.{Log}
 use Rattle.gem_disk.specs.Disk.{Files, Past, reads}
 use Rattle.gem_disk.specs.Runs.{LeavesOnly}
-use Rattle.gem_disk.proofs.Moments.{started}
+use Rattle.gem_disk.proofs.Moments.{started, leaves_less}
 use Rattle.tran_log.specs.Log.{spelled_record, chain, log_of}
 use Rattle.tran_log.specs.Resting.{IsAtRest, AllHold, HoldsOrNone, IsTornAt, IsWritten}
 use Rattle.tran_log.proofs.Again.{log_is}
 use Rattle.tran_log.proofs.Appending.{torn_byte}
 use Rattle.tran_log.proofs.Opening.{rests_empty}
-use Rattle.tran_log.proofs.Through.{leaves_less}
 
 module _ (past : Past) (effects : List Effect) (end : ℕ) (rest : IsAtRest past effects end) where
   holds : (c : List ℕ) → c ≡ reads past Log → log_of c ≡ Ok effects

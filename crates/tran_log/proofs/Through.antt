@@ -1,23 +1,11 @@
 -- What a crash leaves of a log during a write that is brought to the disk.
-use Rattle.std.proofs.Common.{◌≡◌, ◌⊎◌, ℕ, ◌≤◌, List, length, Result, Ok, Err, OnOk, refl, sym, ap, subst, ◌∙◌, inl, inr, ⊎_elim, arith}
+use Rattle.std.proofs.Common.{◌≡◌, ◌⊎◌, ℕ, ◌≤◌, List, length, Result, Ok, Err, OnOk, refl, sym, ap, subst, ◌∙◌, inl, inr, arith}
 use Rattle.gem_disk.specs.declared.disk.Which.TheVariants.{Extent, Log}
 use Rattle.gem_disk.specs.Disk.{Files, Wrote, Synced, Past, reads, stepped, placed, Torn, FileImages, Syncs}
 use Rattle.gem_disk.specs.Runs.{LeavesOnly}
 use Rattle.gem_disk.proofs.Moments.{started, goes_on}
-use Rattle.gem_disk.proofs.Leaves.{torn_by_placing}
+use Rattle.gem_disk.proofs.Leaves.{torn_none, torn_by_placing}
 use Rattle.tran_log.specs.Resting.{SameExtent, IsDurable, IsTornAt, IsWritten}
-
--- a run that leaves less
-pub leaves_less : (old new : Past) (P Q : Files → Type 0) → ((images : Files) → P images → Q images)
-    → LeavesOnly old new P → LeavesOnly old new Q
-leaves_less old new P Q less run = record {
-  later = run.later;
-  each = λ images left. less images (run.each images left);
-  before = λ since images le left. ⊎_elim (λ earlier. inl earlier) (λ has. inr (less images has)) (run.before since images le left);
-}
-
-torn_none : (at n : ℕ) (bytes : List ℕ) → Torn at n bytes bytes
-torn_none at n bytes = record { before = refl; after = refl; no_shorter = omega arith; no_longer = omega arith }
 
 module _ (old : Past) (at n : ℕ) (durable : IsDurable old) where
   abbrev IsTorn : Files → Type 0

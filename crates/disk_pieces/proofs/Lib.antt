@@ -1,0 +1,4 @@
+pub mod Crashes
+pub mod Pieces
+pub mod SoFar
+pub mod Switching

@@ -1,0 +1,9 @@
+pub mod Tests
+pub mod Frame
+pub mod Ways
+pub mod Files
+pub mod Back
+pub mod Payloads
+mod Loops
+mod Chains
+mod Extents

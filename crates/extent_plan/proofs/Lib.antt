@@ -1,0 +1,16 @@
+pub mod Runs
+pub mod Chains
+pub mod Gathers
+pub mod Lays
+pub mod Order
+pub mod Agrees
+pub mod Stored
+pub mod Drafting
+pub mod Renewing
+pub mod Laying
+pub mod Counting
+pub mod Assembling
+pub mod Sharing
+pub mod Marking
+pub mod Needs
+pub mod Same

@@ -1,0 +1,12 @@
+pub mod Runs
+pub mod Pieces
+pub mod Leaves
+pub mod Gathered
+pub mod Plan
+pub mod Needed
+pub mod Drafts
+pub mod Laying
+pub mod Totals
+pub mod Planning
+pub mod Shared
+pub mod Used

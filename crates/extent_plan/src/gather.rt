@@ -1,0 +1,124 @@
+//! Leaves gathered from an image.
+ghost use Rattle.std.specs.Prelude.{◌≡◌, ◌<◌, ◌^◌, ◌++◌, ◌||◌, nat_lt, IfOk, OnOk};
+ghost use Rattle.std.specs.FinMap as map;
+ghost use Rattle.body_codec.specs.Spelled.{spelled_changed};
+ghost use Rattle.extent_plan.specs.Leaves;
+ghost use Rattle.extent_plan.specs.Leaves.{plain, leaf_objects, is_changed};
+ghost use Rattle.extent_plan.specs.Gathered.{AddsOne, Adds, AreGathered};
+
+use crate::numbers::put_eight;
+use body_codec::write_object;
+use gem_image::Image;
+use gem_object::{Object, Oid};
+use std::alloc::{AllocError, Global};
+
+// How many names a leaf has.
+pub(crate) const LEAF_SIZE: u64 = 64;
+
+// What was gathered of a leaf: how many objects it has, their largest serial, whether one was
+// changed after some commit, and each object's bytes behind its name.
+#[derive(Drop)]
+pub(crate) struct Gathered {
+    pub count: u64,
+    pub serial: u32,
+    pub changed: bool,
+    pub items: Vec<u8>,
+}
+
+// Adds an object's bytes behind its name.
+fn put_entry(
+    alloc: Global,
+    oid: Oid,
+    object: &Object,
+    items: &mut Vec<u8>,
+) -> Result<(), AllocError>
+    ensures { OnOk result (items.new.items
+        ≡ items.old.items ++ spelled_changed (oid, plain object.now)) }
+{
+    let mut bytes = write_object(alloc, object)?;
+    put_eight(oid.number(), items)?;
+    items.append(&mut bytes)?;
+    Ok(())
+}
+
+fn either(one: bool, other: bool) -> bool
+    ensures { result ≡ (one || other) }
+{
+    one || other
+}
+
+fn is_later(since: u64, changed: u64) -> bool
+    ensures { result ≡ nat_lt since changed }
+{
+    since < changed
+}
+
+// Adds an object.
+fn gather_object(
+    alloc: Global,
+    since: u64,
+    oid: Oid,
+    object: &Object,
+    gathered: &mut Gathered,
+) -> Result<(), AllocError>
+    requires { gathered.old.count < 64 }
+    ensures { OnOk result (AddsOne since oid object.now gathered.old gathered.new) }
+{
+    put_entry(alloc, oid, object, &mut gathered.items)?;
+    gathered.count += 1;
+    gathered.serial = gathered.serial.max(oid.serial());
+    gathered.changed = either(gathered.changed, is_later(since, object.changed));
+    Ok(())
+}
+
+// Adds what stands at a name.
+fn gather_name(
+    alloc: Global,
+    image: &Image,
+    since: u64,
+    oid: Oid,
+    gathered: &mut Gathered,
+) -> Result<(), AllocError>
+    requires { gathered.old.count < 64 }
+    ensures { OnOk result (Adds since oid (map.get image.now oid) gathered.old gathered.new) }
+{
+    match image.look(oid) {
+        Some(object) => gather_object(alloc, since, oid, object, gathered),
+        None => Ok(()),
+    }
+}
+
+// The name of a leaf at this place.
+fn name_in(leaf: u64, place: u64) -> Oid
+    requires leaf { leaf < 2 ^ 42 }
+    requires place { place < 64 }
+    ensures { result ≡ Leaves.name_in leaf place }
+{
+    let Some(oid) = Oid::of(LEAF_SIZE * leaf + place) else {
+        unreachable!()
+    };
+    oid
+}
+
+// Gathers the objects that the image has at the names of a leaf.
+pub(crate) fn gather_leaf(
+    alloc: Global,
+    image: &Image,
+    since: u64,
+    leaf: u64,
+) -> Result<Gathered, AllocError>
+    requires { leaf < 2 ^ 42 }
+    ensures { IfOk result
+        (AreGathered (leaf_objects image.now leaf) (is_changed image.now since leaf)) }
+{
+    let mut gathered = Gathered {
+        count: 0,
+        serial: 0,
+        changed: false,
+        items: Vec::new(alloc),
+    };
+    for place in 0..LEAF_SIZE {
+        gather_name(alloc, image, since, name_in(leaf, place), &mut gathered)?;
+    }
+    Ok(gathered)
+}

@@ -1,0 +1,48 @@
+//! What follows from the definitions alone. Each law is the contract of a function that does
+//! nothing.
+ghost use Rattle.std.specs.Prelude.{◌≡◌, ◌<◌, ℕ, List, length, true};
+ghost use Rattle.std.specs.FinMap.{from_entries};
+ghost use Rattle.gem_object.specs.declared.object.Object.{Object};
+ghost use Rattle.gem_image.specs.Image.{Image};
+ghost use Rattle.disk_pieces.specs.Pieces.{Piece, Stand};
+ghost use Rattle.extent_pages.specs.Pages.{most_pages, pages_of, is_one_of, Chain};
+ghost use Rattle.extent_pages.specs.Spelled.{spelled_leaf};
+ghost use Rattle.extent_pages.specs.Extent.{Leaf, Extent, pages_of_leaves};
+ghost use Rattle.extent_pages.specs.Laid.{IsChain, LeavesLie, IsLaid};
+ghost use Rattle.extent_plan.specs.Pieces.{pages_filled};
+ghost use Rattle.extent_plan.specs.Plan.{Around, IsPlanned};
+ghost use Rattle.extent_plan.specs.Drafts.{objects_in_all, Sharing};
+ghost use Rattle.extent_plan.specs.Shared.{KeepsHeld, AreStoredLeaves, Alike};
+
+/// In each file in which the pieces of a plan stand, and in which the old leaves lie in pages that are
+/// kept, the extent of the plan lies, with its root in the plan's page.
+pub fn plans_lie()
+    ensures { (file kept : List ℕ) (old : List Leaf) (page : ℕ) (around : Around)
+        (extent : Extent) (pieces : List Piece) (directory : List ℕ) →
+        IsPlanned kept old page around extent pieces → page < most_pages →
+        LeavesLie (pages_of file) directory old →
+        ((other : ℕ) → is_one_of other (pages_of_leaves old) ≡ true → is_one_of other kept ≡ true) →
+        ((other : ℕ) → is_one_of other directory ≡ true → is_one_of other kept ≡ true) →
+        Stand file pieces → IsLaid (pages_of file) page extent }
+{}
+
+/// An old leaf may stay in which no object was changed after the root's commit, where each name of
+/// the root's image is in the image, and each object that wasn't changed since stands in the root's
+/// image with the same class, segment and body.
+pub fn leaves_may_stay()
+    ensures { (image : Image) (since : ℕ) (old : List Leaf) →
+        KeepsHeld image (from_entries (objects_in_all old)) since → AreStoredLeaves old →
+        Sharing image since old }
+{}
+
+/// A chain that lies in a file has as many pages as its payload fills.
+pub fn pages_by_length()
+    ensures { (file taken : List ℕ) (chain : Chain) → IsChain (pages_of file) taken chain →
+        length chain.pages ≡ pages_filled (length chain.payload) }
+{}
+
+/// Objects at the same names, with the same class, segment and body, make the same bytes of a leaf.
+pub fn same_objects_same_bytes()
+    ensures { (objects others : List (ℕ × Object)) → Alike objects others →
+        spelled_leaf objects ≡ spelled_leaf others }
+{}
