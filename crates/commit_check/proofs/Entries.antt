@@ -20,7 +20,7 @@ use Rattle.gem_record.specs.declared.record.TxnRecord.{TxnRecord}
 use Rattle.lock_table.specs.Locks.{denied_for}
 use Rattle.lock_table.specs.declared.lock.LockKind.{LockKind}
 use Rattle.lock_table.specs.declared.lock.LockKind.TheVariants.{Read, Write}
-use Rattle.commit_check.specs.Conflicts.{Place, change_kind, later_change, on_change, lock_conflict, on_lock, is_written, is_touched, is_updated, refused, made_or_refused, merge_of, merge_at, conflict_in, object_in, conflicts_on, merged_on}
+use Rattle.commit_check.specs.Conflicts.{Place, change_kind, later_change, on_change, lock_conflict, on_lock, is_written, is_checked, is_updated, refused, made_or_refused, merge_of, merge_at, conflict_in, object_in, conflicts_on, merged_on}
 use Rattle.commit_check.specs.Table.{conflict_cmp}
 use Rattle.commit_check.specs.declared.merging.Outcome.{Outcome}
 use Rattle.commit_check.specs.declared.merging.Outcome.TheVariants.{Nothing, Made, Refused}
@@ -138,7 +138,7 @@ module _ (place : Place) (transaction : TxnRecord) (oid : ℕ) where
 
   of_changes : AllByRecursion (IsEntry oid 1 2) on_changes
   of_changes = change_entries transaction.view oid (is_written transaction oid)
-      (is_touched transaction oid) (get place.image oid)
+      (is_checked transaction oid) (get place.image oid)
 
   of_locks : AllByRecursion (IsEntry oid 3 4) on_locks
   of_locks = lock_entries oid (is_written transaction oid || is_updated transaction oid)

@@ -10,11 +10,11 @@ use Rattle.lock_table.specs.Locks.{IsLowestHolder}
 use Rattle.lock_table.specs.declared.lock.LockKind.{LockKind}
 use Rattle.lock_table.specs.declared.lock.LockKind.TheVariants.{Read, Write}
 use Rattle.lock_table.proofs.Denied.{lowest_is_value}
-use Rattle.commit_check.specs.Conflicts.{Place, changed_of, last_change, change_kind, on_change, lock_conflict, on_lock, is_written, is_touched, is_updated, merge_at, conflict_in, conflicts_on, conflicts_of, names_used}
+use Rattle.commit_check.specs.Conflicts.{Place, changed_of, last_change, change_kind, on_change, lock_conflict, on_lock, checks_reads, is_written, is_touched, is_checked, is_updated, merge_at, conflict_in, conflicts_on, conflicts_of, names_used}
 use Rattle.commit_check.specs.Table.{IsWritten, IsUpdated, IsChangedSince, IsRefused, Stands, write_write, read_write, write_read_lock, write_write_lock, merge_refused}
 use Rattle.commit_check.specs.declared.merging.Outcome.TheVariants.{Refused}
 use Rattle.commit_check.proofs.Members.{IsOneOf, one_of, contained, given_in, in_first, in_second}
-use Rattle.commit_check.proofs.Used.{to_any, first_true, second_true, touched_used, written_used, updated_used}
+use Rattle.commit_check.proofs.Used.{to_any, and_from, first_true, second_true, touched_used, written_used, updated_used}
 
 not_true : (b : Bool) → (b ≡ true → ⊥) → b ≡ false
 not_true true no_more = absurd (no_more refl)
@@ -29,7 +29,7 @@ refused_one image transaction oid c is = subst (λ m. IsOneOf c (conflict_in m))
 
 changed_is : (image : Image) (transaction : TxnRecord) (oid : ℕ) (kind : ConflictKind)
     → IsChangedSince image transaction.view oid
-    → change_kind (is_written transaction oid) (is_touched transaction oid) ≡ Some kind
+    → change_kind (is_written transaction oid) (is_checked transaction oid) ≡ Some kind
     → on_change image transaction oid
     ≡ Some (record { oid = oid; kind = kind; shown = last_change image oid })
 changed_is image transaction oid kind since is =
@@ -104,11 +104,12 @@ module _ (place : Place) (transaction : TxnRecord) where
       → Contains (conflicts_of place transaction) c
   stands_listed c (write_write oid written since) = change_listed oid c (written_used transaction oid written)
       (changed_is place.image transaction oid WriteWrite since
-      (ap (λ w. change_kind w (is_touched transaction oid)) written))
-  stands_listed c (read_write oid touched not_written since) = change_listed oid c (touched_used transaction oid touched)
+      (ap (λ w. change_kind w (is_checked transaction oid)) written))
+  stands_listed c (read_write oid full touched not_written since) = change_listed oid c (touched_used transaction oid touched)
       (changed_is place.image transaction oid ReadWrite since
-      (ap (λ w. change_kind w (is_touched transaction oid)) (not_true (is_written transaction oid) not_written)
-      ∙ ap (change_kind false) (to_any oid transaction.touched (one_of oid transaction.touched touched))))
+      (ap (λ w. change_kind w (is_checked transaction oid)) (not_true (is_written transaction oid) not_written)
+      ∙ ap (change_kind false) (and_from (checks_reads transaction.mode) (is_touched transaction oid)
+      (ap checks_reads full) (to_any oid transaction.touched (one_of oid transaction.touched touched)))))
   stands_listed c (write_read_lock oid holder changed lowest) = lock_listed oid c (changed_used oid changed)
       (lock_is place transaction oid holder Read (changed_test oid changed) lowest)
   stands_listed c (write_write_lock oid holder changed lowest) = lock_listed oid c (changed_used oid changed)

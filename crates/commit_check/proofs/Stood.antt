@@ -16,10 +16,10 @@ use Rattle.lock_table.specs.Locks.{denied_for}
 use Rattle.lock_table.specs.declared.lock.LockKind.{LockKind}
 use Rattle.lock_table.specs.declared.lock.LockKind.TheVariants.{Read, Write}
 use Rattle.lock_table.proofs.Denied.{lowest_is_value}
-use Rattle.commit_check.specs.Conflicts.{Place, changed_of, last_change, change_kind, later_change, on_change, lock_conflict, on_lock, is_written, is_touched, is_updated, refused, made_or_refused, merge_of, merge_at, conflict_in, conflicts_on, conflicts_of, names_used}
+use Rattle.commit_check.specs.Conflicts.{Place, changed_of, last_change, change_kind, later_change, on_change, lock_conflict, on_lock, checks_reads, is_written, is_touched, is_checked, is_updated, refused, made_or_refused, merge_of, merge_at, conflict_in, conflicts_on, conflicts_of, names_used}
 use Rattle.commit_check.specs.Table.{IsChangedSince, Stands, write_write, read_write, write_read_lock, write_write_lock, merge_refused}
 use Rattle.commit_check.proofs.Members.{IsOneOf, one_of, contained, given_by, in_either}
-use Rattle.commit_check.proofs.Used.{from_any, either}
+use Rattle.commit_check.proofs.Used.{from_any, either, and_parts, is_full}
 
 one_some : {X : Type 0} (o : Option X) (x : X) → IsOneOf x (option_to_list o) → o ≡ Some x
 one_some None x none = absurd none
@@ -32,9 +32,9 @@ module _ (place : Place) (transaction : TxnRecord) (oid : ℕ) (c : Conflict) wh
   later_found : (object : Object) → get place.image oid ≡ Some object
       → (later : Bool) → nat_lt transaction.view object.changed ≡ later
       → (written : Bool) → is_written transaction oid ≡ written
-      → (touched : Bool) → is_touched transaction oid ≡ touched
+      → (checked : Bool) → is_checked transaction oid ≡ checked
       → (if later
-      then option_map (λ k. record { oid = oid; kind = k; shown = object.changed }) (change_kind written touched)
+      then option_map (λ k. record { oid = oid; kind = k; shown = object.changed }) (change_kind written checked)
       else None) ≡ Some c
       → Stands place transaction c
   later_found object found false l written w touched t e = absurd (none-some c e)
@@ -49,6 +49,7 @@ module _ (place : Place) (transaction : TxnRecord) (oid : ℕ) (c : Conflict) wh
       (ap (λ k. record { oid = oid; kind = WriteWrite; shown = k }) (sym last) ∙ same_Some _ _ e)
       (write_write oid w since)
   later_found object found true l false w true t e =
+      let both = and_parts (checks_reads transaction.mode) (is_touched transaction oid) t in
       let last : object.changed ≡ last_change place.image oid = sym (ap changed_of found) in
       let since : IsChangedSince place.image transaction.view oid = record {
         object = object;
@@ -57,18 +58,19 @@ module _ (place : Place) (transaction : TxnRecord) (oid : ℕ) (c : Conflict) wh
       } in
       subst (Stands place transaction)
       (ap (λ k. record { oid = oid; kind = ReadWrite; shown = k }) (sym last) ∙ same_Some _ _ e)
-      (read_write oid (contained oid transaction.touched (from_any oid transaction.touched t))
+      (read_write oid (is_full transaction.mode both.0)
+      (contained oid transaction.touched (from_any oid transaction.touched both.1))
       (λ h. false≢true (sym w ∙ h)) since)
   later_found object found true l false w false t e = absurd (none-some c e)
 
   change_found : (o : Option Object) → get place.image oid ≡ o
       → option_and_then (later_change transaction.view oid
-      (change_kind (is_written transaction oid) (is_touched transaction oid))) o ≡ Some c
+      (change_kind (is_written transaction oid) (is_checked transaction oid))) o ≡ Some c
       → Stands place transaction c
   change_found None found e = absurd (none-some c e)
   change_found (Some object) found e = later_found object found
       (nat_lt transaction.view object.changed) refl (is_written transaction oid) refl
-      (is_touched transaction oid) refl e
+      (is_checked transaction oid) refl e
 
   -- ---- locks
 

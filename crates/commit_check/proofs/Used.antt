@@ -1,5 +1,5 @@
 -- The names that a transaction used, by what it did there.
-use Rattle.std.proofs.Common.{◌≡◌, ℕ, Bool, true, false, ◌||◌, ◌⊎◌, inl, inr, ⊎_elim, List, [], ◌∷◌, Some, IsTrue, IsSome, ◌↔◌, Contains, if◌then◌else◌, Ordering, Less, Equal, Greater, nat_cmp, refl, sym, ap, ◌∙◌}
+use Rattle.std.proofs.Common.{◌≡◌, ℕ, Bool, true, false, ◌&&◌, ◌||◌, ◌⊎◌, inl, inr, ⊎_elim, List, [], ◌∷◌, Some, IsTrue, IsSome, ◌↔◌, Contains, if◌then◌else◌, Ordering, Less, Equal, Greater, nat_cmp, refl, sym, ap, ◌∙◌}
 use Rattle.std.specs.Ordering.{eq_by_cmp, is_eq}
 use Rattle.std.specs.List.{list_any}
 use Rattle.std.specs.Cmp.{tied_itself}
@@ -9,7 +9,9 @@ use Rattle.std.proofs.lemmas.Map.Lookups.{exact_unsigned}
 use Rattle.gem_record.specs.Names.{under}
 use Rattle.gem_record.specs.declared.record.TxnRecord.{TxnRecord}
 use Rattle.commit_check.specs.Union.{union}
-use Rattle.commit_check.specs.Conflicts.{names_of, names_used, is_touched}
+use Rattle.gem_record.specs.declared.mode.Mode.{Mode}
+use Rattle.gem_record.specs.declared.mode.Mode.TheVariants.{Full, NoRw}
+use Rattle.commit_check.specs.Conflicts.{checks_reads, names_of, names_used, is_touched}
 use Rattle.commit_check.specs.Table.{IsTouched, IsWritten, IsUpdated}
 use Rattle.commit_check.proofs.Members.{IsOneOf, one_of, contained}
 use Rattle.commit_check.proofs.Unions.{in_left, in_right}
@@ -30,6 +32,18 @@ first_true false b e = absurd (false≢true e)
 pub second_true : (a b : Bool) → b ≡ true → (a || b) ≡ true
 second_true true b e = refl
 second_true false b e = e
+
+pub and_parts : (a b : Bool) → (a && b) ≡ true → (a ≡ true) × (b ≡ true)
+and_parts true b e = (refl, e)
+and_parts false b e = absurd (false≢true e)
+
+pub and_from : (a b : Bool) → a ≡ true → b ≡ true → (a && b) ≡ true
+and_from true b one both = both
+and_from false b one both = absurd (false≢true one)
+
+pub is_full : (mode : Mode) → checks_reads mode ≡ true → mode ≡ Full
+is_full Full e = refl
+is_full NoRw e = absurd (false≢true e)
 
 pub from_any : (oid : ℕ) (names : List ℕ) → list_any (eq_by_cmp nat_cmp oid) names ≡ true
     → IsOneOf oid names

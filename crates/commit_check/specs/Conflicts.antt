@@ -1,5 +1,5 @@
 -- Which conflicts stand against a commit, and what its merges make, as they are computed.
-use Rattle.std.specs.Prelude.{ℕ, Bool, true, false, ◌||◌, nat_lt, if◌then◌else◌, List, [], ◌∷◌, ◌++◌, map, Option, Some, None, is_some, option_map, option_and_then}
+use Rattle.std.specs.Prelude.{ℕ, Bool, true, false, ◌&&◌, ◌||◌, nat_lt, if◌then◌else◌, List, [], ◌∷◌, ◌++◌, map, Option, Some, None, is_some, option_map, option_and_then}
 use Rattle.std.specs.Option.{option_to_list}
 use Rattle.std.specs.Ordering.{nat_cmp, eq_by_cmp}
 use Rattle.std.specs.List.{flat_map, list_any}
@@ -14,6 +14,8 @@ use Rattle.gem_update.specs.Update.{merged, merge_kind}
 use Rattle.gem_update.specs.declared.update.Update.{Update}
 use Rattle.gem_record.specs.Names.{under}
 use Rattle.gem_record.specs.declared.record.TxnRecord.{TxnRecord}
+use Rattle.gem_record.specs.declared.mode.Mode.{Mode}
+use Rattle.gem_record.specs.declared.mode.Mode.TheVariants.{Full, NoRw}
 use Rattle.lock_table.specs.Locks.{LockSet, denied_for}
 use Rattle.lock_table.specs.declared.lock.LockKind.{LockKind}
 use Rattle.lock_table.specs.declared.lock.LockKind.TheVariants.{Read, Write}
@@ -40,6 +42,15 @@ last_change image oid = changed_of (get image oid)
 abbrev pub is_touched : TxnRecord → ℕ → Bool
 is_touched transaction oid = list_any (eq_by_cmp nat_cmp oid) transaction.touched
 
+-- whether a commit in this mode is checked for what its transaction only read
+abbrev pub checks_reads : Mode → Bool
+checks_reads Full = true
+checks_reads NoRw = false
+
+-- whether the commit is checked for having touched the object
+abbrev pub is_checked : TxnRecord → ℕ → Bool
+is_checked transaction oid = checks_reads transaction.mode && is_touched transaction oid
+
 abbrev pub is_written : TxnRecord → ℕ → Bool
 is_written transaction oid = is_some (under oid transaction.written)
 
@@ -58,9 +69,10 @@ names_used transaction = union (union transaction.touched (names_of transaction.
 
 -- ---- changes since the view
 
--- which conflict a change since the view is, by whether the object was written and touched
+-- which conflict a change since the view is, by whether the object was written, and whether the
+-- commit is checked for having touched it
 abbrev pub change_kind : Bool → Bool → Option ConflictKind
-change_kind true touched = Some WriteWrite
+change_kind true checked = Some WriteWrite
 change_kind false true = Some ReadWrite
 change_kind false false = None
 
@@ -72,7 +84,7 @@ later_change view oid kind object = if nat_lt view object.changed
 
 abbrev pub on_change : Image → TxnRecord → ℕ → Option Conflict
 on_change image transaction oid = option_and_then (later_change transaction.view oid
-    (change_kind (is_written transaction oid) (is_touched transaction oid))) (get image oid)
+    (change_kind (is_written transaction oid) (is_checked transaction oid))) (get image oid)
 
 -- ---- locks of other sessions
 

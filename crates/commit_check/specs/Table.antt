@@ -15,6 +15,7 @@ use Rattle.gem_update.specs.Update.{merged, merge_kind}
 use Rattle.gem_update.specs.declared.update.Update.{Update}
 use Rattle.gem_record.specs.Names.{Ascend, AscendByName, under}
 use Rattle.gem_record.specs.declared.record.TxnRecord.{TxnRecord}
+use Rattle.gem_record.specs.declared.mode.Mode.TheVariants.{Full}
 use Rattle.lock_table.specs.Locks.{IsLowestHolder}
 use Rattle.lock_table.specs.declared.lock.LockKind.TheVariants.{Read, Write}
 use Rattle.commit_check.specs.Conflicts.{Place, last_change}
@@ -60,7 +61,8 @@ pub data Stands (place : Place) (transaction : TxnRecord) : Conflict → Type 0 
       → IsChangedSince place.image transaction.view oid
       → Stands place transaction
       (record { oid = oid; kind = WriteWrite; shown = last_change place.image oid })
-  read_write : (oid : ℕ) → IsTouched transaction oid → ¬ IsWritten transaction oid
+  read_write : (oid : ℕ) → transaction.mode ≡ Full → IsTouched transaction oid
+      → ¬ IsWritten transaction oid
       → IsChangedSince place.image transaction.view oid
       → Stands place transaction
       (record { oid = oid; kind = ReadWrite; shown = last_change place.image oid })

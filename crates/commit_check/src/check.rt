@@ -3,13 +3,13 @@ ghost use Rattle.std.specs.Prelude.{◌≡◌, ◌++◌, IfOk, OnOk};
 ghost use Rattle.std.specs.List.{flat_map};
 ghost use Rattle.std.specs.Option.{option_to_list};
 ghost use Rattle.gem_record.specs.Names.{Ascend};
-ghost use Rattle.commit_check.specs.Conflicts.{is_touched, change_kind, lock_kind, on_change, on_lock, merge_at, conflict_in, object_in, conflicts_on, merged_on, conflicts_of, merged_objects};
+ghost use Rattle.commit_check.specs.Conflicts.{checks_reads, is_touched, is_checked, change_kind, lock_kind, on_change, on_lock, merge_at, conflict_in, object_in, conflicts_on, merged_on, conflicts_of, merged_objects};
 
 use crate::merging::{Outcome, merge};
 use crate::names::names_used;
 use gem_image::Image;
 use gem_object::{Conflict, ConflictKind, Conflicts, Object, Oid, Sequence};
-use gem_record::{ByName, TxnRecord};
+use gem_record::{ByName, Mode, TxnRecord};
 use lock_table::{LockKind, Locks};
 use std::alloc::{AllocError, Global};
 
@@ -118,7 +118,7 @@ fn change(image: &Image, transaction: &TxnRecord, oid: Oid) -> Option<Conflict>
     }
     match change_kind(
         transaction.written.contains(oid),
-        is_touched(transaction, oid),
+        is_checked(transaction, oid),
     ) {
         None => None,
         Some(kind) => Some(Conflict {
@@ -129,18 +129,33 @@ fn change(image: &Image, transaction: &TxnRecord, oid: Oid) -> Option<Conflict>
     }
 }
 
+fn is_checked(transaction: &TxnRecord, oid: Oid) -> bool
+    ensures { result ≡ is_checked transaction.now oid }
+{
+    checks_reads(transaction.mode) && is_touched(transaction, oid)
+}
+
+fn checks_reads(mode: Mode) -> bool
+    ensures { result ≡ checks_reads mode }
+{
+    match mode {
+        Mode::Full => true,
+        Mode::NoRw => false,
+    }
+}
+
 fn is_touched(transaction: &TxnRecord, oid: Oid) -> bool
     ensures { result ≡ is_touched transaction.now oid }
 {
     transaction.touched.contains(oid)
 }
 
-fn change_kind(written: bool, touched: bool) -> Option<ConflictKind>
-    ensures { result ≡ change_kind written touched }
+fn change_kind(written: bool, checked: bool) -> Option<ConflictKind>
+    ensures { result ≡ change_kind written checked }
 {
     if written {
         Some(ConflictKind::WriteWrite)
-    } else if touched {
+    } else if checked {
         Some(ConflictKind::ReadWrite)
     } else {
         None

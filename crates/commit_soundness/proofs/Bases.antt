@@ -6,10 +6,11 @@ use Rattle.std.specs.Ordering.{nat_cmp}
 use Rattle.std.proofs.lemmas.Bool.{false≢true, and_from}
 use Rattle.std.proofs.lemmas.Option.{same_Some}
 use Rattle.commit_check.specs.gem_object.Kinds.{is_shared}
-use Rattle.commit_check.specs.gem_image.Image.{Contents, objects_in}
+use Rattle.commit_check.specs.gem_image.Image.{Image, Contents, objects_in}
 use Rattle.commit_check.specs.gem_world.World.{Setting, World, untouched, as_of, before_changes, is_drawn, is_made}
 use Rattle.gem_meaning.specs.object_programs.Fixed.{fixed_of, fixed_by}
 use Rattle.gem_meaning.specs.object_programs.Laws.{Stays, KeepsParts, IsInReach}
+use Rattle.gem_meaning.proofs.object_programs_lemmas.Bases.{some_there}
 use Rattle.commit_soundness.proofs.Seen.{IsSeen}
 
 chosen_part : (shared : Bool) (viewed object : Contents) → fixed_of object ≡ fixed_of viewed
@@ -27,12 +28,23 @@ as_of_part (Some own) (Some viewed) object here stays =
     (same_Some (fixed_of own) (fixed_of viewed) (stays viewed refl)))
     ∙ ap (option_map fixed_of) here
 
-as_of_some : (here there : Option Contents) → is_some (as_of here there) ≡ true → is_some here ≡ true
+pub as_of_some : (here there : Option Contents) → is_some (as_of here there) ≡ true → is_some here ≡ true
 as_of_some None there some = some
 as_of_some (Some object) there some = refl
 
+pub some_as_of : (here there : Option Contents) → is_some here ≡ true → is_some (as_of here there) ≡ true
+some_as_of None there some = some
+some_as_of (Some object) None some = refl
+some_as_of (Some object) (Some viewed) some = refl
+
+-- objects stay from the first image to the last, where they stay in between
+pub stays_through : (first between last : Image) → Stays first between → Stays between last → Stays first last
+stays_through first between last before after name object here =
+    let found = some_there (objects_in between name) (fixed_of object) (before name object here) in
+    after name found.0 found.1 ∙ ap Some found.2
+
 module _ (setting : Setting) where
-  placed_first : Stays setting.view setting.place → (name : ℕ) (object : Contents)
+  pub placed_first : Stays setting.view setting.place → (name : ℕ) (object : Contents)
       → objects_in setting.place name ≡ Some object
       → fixed_by setting (untouched setting.first) name ≡ Some (fixed_of object)
   placed_first stays name object here =

@@ -6,9 +6,10 @@ mod Entries
 mod Seen
 mod Bases
 mod Updates
+mod Moved
 mod Records
 mod Effects
 mod Images
 mod Lines
 mod Sound
-mod Runs
+pub mod Runs

@@ -1,4 +1,4 @@
--- A transaction that runs at its place, and what its commit makes there.
+-- A transaction, and what its commit makes at its place.
 use Rattle.std.specs.Prelude.{◌≡◌, ◌≤◌, ◌<◌, ℕ, List}
 use Rattle.commit_check.specs.gem_value.Oid.{oid_number}
 use Rattle.commit_check.specs.gem_object.declared.object.Object.{Object}
@@ -13,10 +13,12 @@ use Rattle.gem_meaning.specs.gem_language.Transaction.{transaction}
 use Rattle.commit_check.specs.gem_record.Record.{record_of}
 use Rattle.gem_meaning.specs.Effect.{effect_at}
 
--- Commands that are run at a place, and the number of the commit there.
+-- Commands whose commit is placed, and the number of the commit there.
 pub record Placing : Type 0 where
-  -- the image at the place: ordinary objects are those of it
+  -- the image at the place
   pub place : Image
+  -- the image that ordinary objects are those of: that of the place, or one before it
+  pub ordinary : Image
   -- the image of the view: reduced-conflict objects are those of it
   pub view : Image
   -- the name of the user, the serial in the names that are drawn, and the counter of the first one
@@ -28,12 +30,17 @@ pub record Placing : Type 0 where
   pub entry : Entry
   pub number : ℕ
 
+-- what the commands run on
+abbrev pub run_setting : Placing → Setting
+run_setting p = begun_at p.ordinary p.view p.user p.serial p.first
+
+-- what they leave of the objects
+abbrev pub left_by : Placing → World
+left_by p = (transaction p.commands (run_setting p) (untouched p.first)).world
+
+-- what the commit finds
 abbrev pub setting_of : Placing → Setting
 setting_of p = begun_at p.place p.view p.user p.serial p.first
-
--- what the commands leave of the objects
-abbrev pub left_by : Placing → World
-left_by p = (transaction p.commands (setting_of p) (untouched p.first)).world
 
 abbrev pub record_placed : Placing → TxnRecord
 record_placed p = record_of p.entry (setting_of p) (left_by p)
@@ -45,13 +52,17 @@ effect_placed p = effect_at p.place p.number (record_placed p)
 abbrev pub image_made : Placing → Image
 image_made p = with_objects p.place (effect_placed p)
 
--- The transaction can run there: place and view are images that are sound for its user and its
--- names, and every object of the view is at the place, with its fixed part.
+-- The transaction can run there: all three are images that are sound for its user and its names,
+-- every object of the view is in the image that ordinary objects are those of, with its fixed part,
+-- and every object of this one is so at the place.
 pub record CanRun (p : Placing) : Type 0 where
   pub place : IsImage p.place
+  pub ordinary : IsImage p.ordinary
   pub view : IsImage p.view
-  pub stays : Stays p.view p.place
+  pub below : Stays p.view p.ordinary
+  pub above : Stays p.ordinary p.place
   pub sound : IsSoundFor (objects_in p.place) p.user p.serial p.first
+  pub sound_ordinary : IsSoundFor (objects_in p.ordinary) p.user p.serial p.first
   pub sound_view : IsSoundFor (objects_in p.view) p.user p.serial p.first
 
 -- the name is one that the commands drew

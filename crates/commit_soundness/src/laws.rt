@@ -12,9 +12,10 @@ ghost use Rattle.commit_soundness.specs.Placing.{Placing, left_by, record_placed
 use commit_check::laws::exactly_the_merged;
 use gem_update::laws::spelling_stays;
 
-/// A transaction runs at a place that is sound for it, and its commit is placed there. Where the
-/// merged objects can be stored, the image that the commit makes is sound again and can be stored,
-/// also for this user and the names that are still to be drawn. Whether or not they can, objects
+/// A transaction's commit is placed at a place that is sound for it, whether it ran there or where
+/// ordinary objects were as they had been before. Where the merged objects can be stored, the image
+/// that the commit makes is sound again and can be stored, also for this user and the names that are
+/// still to be drawn. Whether or not they can, objects
 /// stay with their fixed parts, each new object has a name that the commands drew, and each changed
 /// one has the number of the commit. It may be any number.
 ///

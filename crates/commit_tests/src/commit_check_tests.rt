@@ -10,7 +10,7 @@ use gem_object::{
     Bag, BagUpdate, Body, Conflict, ConflictKind, Counter, DictUpdate, KeyDict, LARGEST_INTEGER,
     Object, Oid, Queue, QueueUpdate, SMALLEST_INTEGER, Sequence, Value, Values,
 };
-use gem_record::{ByName, OidList, TxnRecord};
+use gem_record::{ByName, Mode, OidList, TxnRecord};
 use gem_update::Update;
 use lock_table::{LockKind, Locks};
 use radix_pages::Steps;
@@ -86,6 +86,7 @@ fn record(
         last_command: 2,
         first_name: 1,
         view: 1,
+        mode: Mode::Full,
         base,
         touched,
         written,

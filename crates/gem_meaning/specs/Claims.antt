@@ -3,18 +3,20 @@ use Rattle.std.specs.Prelude.{ℕ, ◌==◌, ◌+◌, not, nat_eq, List, [], ◌
 use Rattle.std.specs.List.{filter}
 use Rattle.lock_table.specs.declared.lock.LockKind.{LockKind}
 use Rattle.gem_replies.specs.declared.reply.Line.{Line}
-use Rattle.gem_replies.specs.declared.reply.Line.TheVariants.{Login, Unchanged, Committed, Aborted, Locked, Unlocked, Logout}
+use Rattle.gem_replies.specs.declared.reply.Line.TheVariants.{Login, Unchanged, Committed, Aborted, Locked, Unlocked, Checkpoint, DiskFault, Logout}
 use Rattle.gem_replies.specs.declared.reply.Reply.{Reply}
-use Rattle.gem_meaning.specs.declared.event.What.TheVariants.{Placed, Held, Dropped, Left}
+use Rattle.gem_meaning.specs.declared.event.What.TheVariants.{Placed, Held, Dropped, Left, Checked, Halted}
 use Rattle.gem_meaning.specs.Events.{Event}
 
--- What a reply claims of the session's events. Of a commit a reader knows neither the user's object
--- nor the names that were drawn.
+-- What a reply claims of the session's events. Of a commit it tells neither the user's object, nor the
+-- mode, nor the names that were drawn, and of a failure of the disk not what was being stored.
 pub data Claim : Type 0 where
   commits : (transaction first_command last_command view : ℕ) → Claim
   holds : (oid : ℕ) → LockKind → Claim
   drops : (oid : ℕ) → Claim
   leaves : Claim
+  checks : Claim
+  halts : Claim
 
 -- what an event of the session is to a reader
 abbrev pub claimed_by : Event → Claim
@@ -22,6 +24,8 @@ claimed_by (session, Placed e) = commits e.transaction e.first_command e.last_co
 claimed_by (session, Held oid kind) = holds oid kind
 claimed_by (session, Dropped oid) = drops oid
 claimed_by (session, Left) = leaves
+claimed_by (session, Checked) = checks
+claimed_by (session, Halted number entry) = halts
 
 -- What a reader knows of the session after some replies: its transaction, and the objects on which
 -- it holds locks.
@@ -63,6 +67,8 @@ claim_of r command (Committed number view) =
     commits r.transaction r.first_command command r.view ∷ []
 claim_of r command (Locked kind oid clean) = holds oid kind ∷ []
 claim_of r command (Unlocked oid) = drops oid ∷ []
+claim_of r command (Checkpoint number) = checks ∷ []
+claim_of r command DiskFault = halts ∷ []
 claim_of r command Logout = leaving_claim r.locked
 claim_of r command _ = []
 

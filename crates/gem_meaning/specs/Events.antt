@@ -10,13 +10,15 @@ use Rattle.gem_record.specs.gem_image.Image.{Image, with_objects}
 use Rattle.gem_object.specs.gem_value.declared.conflict.Conflict.{Conflict}
 use Rattle.gem_record.specs.declared.record.Entry.{Entry}
 use Rattle.gem_record.specs.declared.record.TxnRecord.{TxnRecord}
+use Rattle.gem_record.specs.declared.mode.Mode.{Mode}
+use Rattle.gem_record.specs.declared.mode.Mode.TheVariants.{Full, NoRw}
 use Rattle.lock_table.specs.Locks.{LockSet, after_held, after_dropped, after_left}
 use Rattle.commit_check.specs.Conflicts.{conflicts_of}
 use Rattle.gem_language.specs.object_programs.declared.limits.TheConstants.{COUNTER_LIMIT}
 use Rattle.gem_language.specs.Transaction.{Transaction}
 use Rattle.gem_record.specs.Record.{record_of}
 use Rattle.gem_meaning.specs.declared.event.What.{What}
-use Rattle.gem_meaning.specs.declared.event.What.TheVariants.{Placed, Held, Dropped, Left}
+use Rattle.gem_meaning.specs.declared.event.What.TheVariants.{Placed, Held, Dropped, Left, Checked, Halted}
 use Rattle.gem_meaning.specs.Opened.{Opened, session_serial, entry_setting, run_at, record_on}
 use Rattle.gem_meaning.specs.Effect.{effect_at}
 
@@ -62,10 +64,20 @@ NamesAreFree o s session = (counter : ℕ) → next_counter s session ≤ counte
     → counter < COUNTER_LIMIT
     → get s.image (oid_number (session_serial o session) counter) ≡ None
 
+-- Where a transaction in this mode reads ordinary objects, of its place and its view: at its place;
+-- without checks of what is only read, as of its view.
+abbrev pub ordinary_in : Mode → (place view : Image) → Image
+ordinary_in Full place view = place
+ordinary_in NoRw place view = view
+
+-- the same where all that stands is there
+abbrev pub ordinary_at : Standing → Entry → Image
+ordinary_at s e = ordinary_in e.mode s.image (image_at s e.view)
+
 -- the transaction run at its place, which is where all that stands is there, but that
--- reduced-conflict objects are read as of its view
+-- reduced-conflict objects are read as of its view, and so are all objects where its mode has it
 unfoldable pub run_at_place : Opened → Standing → Entry → Transaction
-run_at_place o s e = run_at o e s.image (image_at s e.view)
+run_at_place o s e = run_at o e (ordinary_at s e) (image_at s e.view)
 
 -- the transaction run where all stands as at its view
 unfoldable pub run_on_view : Opened → Standing → Entry → Transaction
@@ -84,7 +96,8 @@ record_on_view o s e = record_on o e (image_at s e.view)
 unfoldable pub effect_of : Opened → Standing → Entry → List (ℕ × Object)
 effect_of o s e = effect_at s.image (s.number + 1) (record_at_place o s e)
 
--- A commit sets what its effect says, and its names are drawn. The other events are about locks.
+-- A commit sets what its effect says, and its names are drawn. A checkpoint and a failure of the disk
+-- change nothing of this. The other events are about locks.
 abbrev pub after_event : Opened → Standing → Event → Standing
 after_event o s (session, Placed e) = record s {
   image = with_objects s.image (effect_of o s e);
@@ -96,6 +109,8 @@ after_event o s (session, Held oid kind) =
     record s { locks = after_held s.locks session oid kind }
 after_event o s (session, Dropped oid) = record s { locks = after_dropped s.locks session oid }
 after_event o s (session, Left) = record s { locks = after_left s.locks session }
+after_event o s (session, Checked) = s
+after_event o s (session, Halted number entry) = s
 
 abbrev pub before_events : Opened → Standing
 before_events o = record {
@@ -121,6 +136,29 @@ placed_entry (session, _) = None
 -- the history: the entries of the commits, in order
 abbrev pub entries_of : List Event → List Entry
 entries_of events = filter_map placed_entry events
+
+-- the entry of a commit, whether it was placed or was in flight when the disk failed
+abbrev pub entry_in : What → Option Entry
+entry_in (Placed e) = Some e
+entry_in (Halted number entry) = entry
+entry_in _ = None
+
+-- the number that was being stored when the disk failed
+abbrev pub halt_of : What → Option ℕ
+halt_of (Halted number entry) = Some number
+halt_of _ = None
+
+-- the numbers of all such events; there is one at most
+abbrev pub halts_in : List Event → List ℕ
+halts_in events = filter_map (λ (event : Event). halt_of event.1) events
+
+-- the disk hasn't failed
+abbrev pub IsRunning : List Event → Type 0
+IsRunning events = halts_in events ≡ []
+
+-- the disk failed when this number was being stored
+abbrev pub HasHaltedAt : List Event → (number : ℕ) → Type 0
+HasHaltedAt events number = halts_in events ≡ number ∷ []
 
 -- the events that a session made
 abbrev pub events_of : ℕ → List Event → List Event

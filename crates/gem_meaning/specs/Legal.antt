@@ -2,7 +2,7 @@
 use Rattle.std.specs.Prelude.{◌≡◌, ◌≢◌, ℕ, ◌+◌, ◌++◌, nat_lt, List, [], ◌∷◌, length}
 use Rattle.std.specs.List.{filter, AllByRecursion}
 use Rattle.shell_words.specs.Script.{SessionCommands}
-use Rattle.gem_replies.specs.declared.reply.Line.TheVariants.{NoMemory}
+use Rattle.gem_replies.specs.declared.reply.Line.TheVariants.{NoMemory, DiskFault}
 use Rattle.gem_replies.specs.declared.reply.Reply.{Reply}
 use Rattle.gem_replies.specs.declared.reply.RunBook.{RunBook}
 use Rattle.gem_replies.specs.declared.reply.Transcript.{Transcript}
@@ -36,14 +36,14 @@ pub record IsLegal (t : Told) (book : RunBook) : Type 0 where
   pub transcripts : AreTranscripts t 1 t.opened.script book.transcripts
   pub consistent : IsConsistent t
 
--- the reply isn't that there was no memory
-abbrev pub HadMemory : Reply → Type 0
-HadMemory reply = reply.line ≢ NoMemory
+-- the reply isn't that memory ran out, nor that the disk failed
+abbrev pub WasServed : Reply → Type 0
+WasServed reply = (reply.line ≢ NoMemory) × (reply.line ≢ DiskFault)
 
--- no session replied `no memory`
-abbrev pub NeverShort : RunBook → Type 0
-NeverShort book =
-    AllByRecursion (λ transcript. AllByRecursion HadMemory transcript.replies) book.transcripts
+-- no session replied `no memory` or `disk fault`
+abbrev pub AlwaysServed : RunBook → Type 0
+AlwaysServed book =
+    AllByRecursion (λ transcript. AllByRecursion WasServed transcript.replies) book.transcripts
 
 -- the events of the sessions before this one
 abbrev pub events_before : ℕ → List Event → List Event

@@ -30,11 +30,13 @@ pub mod Lines
 pub mod Opened
 pub mod Effect
 pub mod Events
+pub mod After
 pub mod Serial
 pub mod Names
 pub mod State
 pub mod Runs
 pub mod Commits
+pub mod Checkpoints
 pub mod Locks
 pub mod Session
 pub mod Claims

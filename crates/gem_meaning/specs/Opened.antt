@@ -1,25 +1,29 @@
 -- What a Stone was opened with, and the transactions of its script.
-use Rattle.std.specs.Prelude.{ℕ, ◌+◌, ◌-◌, max, List, [], take, drop, Option, Some, None}
+use Rattle.std.specs.Prelude.{ℕ, Bool, ◌+◌, ◌-◌, max, List, [], take, drop, Option, Some, None}
 use Rattle.std.specs.List.{fold, slice_get}
 use Rattle.std.specs.FinMap.{entries}
 use Rattle.gem_object.specs.gem_value.Oid.{serial_of}
 use Rattle.gem_record.specs.gem_image.Image.{Image}
 use Rattle.gem_record.specs.declared.record.Entry.{Entry}
 use Rattle.gem_record.specs.declared.record.TxnRecord.{TxnRecord}
+use Rattle.gem_record.specs.declared.mode.Mode.{Mode}
+use Rattle.gem_record.specs.Stored.{Stored}
 use Rattle.gem_record.specs.gem_world.World.{Setting, untouched}
 use Rattle.gem_language.specs.object_programs.Laws.{begun_at}
 use Rattle.gem_language.specs.Transaction.{Transaction, transaction}
 use Rattle.gem_record.specs.Record.{record_of}
 use Rattle.shell_words.specs.Script.{SessionCommands}
 use Rattle.shell_words.specs.declared.script.Command.{Command}
-use Rattle.gem_meaning.specs.Commands.{object_commands}
+use Rattle.gem_meaning.specs.Commands.{object_commands, mode_after}
 
--- What the Stone was opened with: an image, the number of commits in it, and the script that is
--- served.
+-- What the Stone was opened with: an image, the number of commits in it, the script that is served,
+-- what was stored, and whether pages are counted where it is stored.
 pub record Opened : Type 0 where
   pub image : Image
   pub number : ℕ
   pub script : List SessionCommands
+  pub stored : Stored
+  pub counts_pages : Bool
 
 -- the largest serial in the names of an image's objects, or 0 where there are none
 abbrev pub largest_serial : Image → ℕ
@@ -40,6 +44,10 @@ commands_or_none None = []
 -- the commands of the session with this number, which counts from 1
 abbrev pub commands_of : List SessionCommands → ℕ → List Command
 commands_of script session = commands_or_none (slice_get script (session - 1))
+
+-- the mode of the session before its command with this number
+abbrev pub mode_at : List SessionCommands → (session command : ℕ) → Mode
+mode_at script session command = mode_after (take (command - 1) (commands_of script session))
 
 -- the commands of a transaction: from its first to its last one, whose numbers count from 1
 abbrev pub entry_commands : List SessionCommands → Entry → List Command

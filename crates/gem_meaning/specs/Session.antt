@@ -1,19 +1,20 @@
 -- What a session says: its replies to each command, by the events that had come before them.
-use Rattle.std.specs.Prelude.{◌≡◌, ℕ, zero, suc, ◌+◌, ◌-◌, ◌≤◌, List, [], ◌∷◌, ◌++◌, length, map, take, drop, Option, Some, None, if◌then◌else◌}
+use Rattle.std.specs.Prelude.{◌≡◌, ℕ, Bool, zero, suc, ◌+◌, ◌-◌, ◌≤◌, List, [], ◌∷◌, ◌++◌, length, map, take, drop, Option, Some, None, if◌then◌else◌}
 use Rattle.std.specs.List.{slice_get}
 use Rattle.gem_replies.specs.declared.reply.Line.{Line}
-use Rattle.gem_replies.specs.declared.reply.Line.TheVariants.{NoUser, NotLoggedIn, Login, Logout as LoggedOut}
+use Rattle.gem_replies.specs.declared.reply.Line.TheVariants.{NoUser, NotLoggedIn, Login, Logout as LoggedOut, Mode}
 use Rattle.gem_replies.specs.declared.reply.Reply.{Reply}
 use Rattle.shell_words.specs.Script.{SessionCommands, is_logout}
 use Rattle.shell_words.specs.declared.script.Command.{Command}
-use Rattle.shell_words.specs.declared.script.Command.TheVariants.{Chunk, Method, Commit, Abort, Logout, Lock, Unlock}
-use Rattle.gem_meaning.specs.Commands.{object_command}
+use Rattle.shell_words.specs.declared.script.Command.TheVariants.{Chunk, Method, Commit, Abort, Logout, Lock, Unlock, Checkpoint, Mode as SetMode}
+use Rattle.gem_meaning.specs.Commands.{object_command, mode_of}
 use Rattle.gem_meaning.specs.Names.{user_in}
 use Rattle.gem_meaning.specs.Events.{Told, after_events, events_of}
 use Rattle.gem_meaning.specs.State.{SessionState, CommandPlace, first_transaction, place_between}
 use Rattle.gem_meaning.specs.Runs.{RunSays}
 use Rattle.gem_meaning.specs.Commits.{SeesNumber, CommitReply, AbortReply}
 use Rattle.gem_meaning.specs.Locks.{LockReply, UnlockReply, LogsOut}
+use Rattle.gem_meaning.specs.Checkpoints.{CheckReply}
 
 -- there is one reply
 abbrev pub OneReply : List Line → (Line → Type 0) → Type 0
@@ -22,6 +23,12 @@ OneReply lines IsIt = (line : Line) × (lines ≡ line ∷ []) × IsIt line
 -- the reply to a logout
 abbrev pub LogoutReply : CommandPlace → SessionState → Line → SessionState → Type 0
 LogoutReply at s line s' = (line ≡ LoggedOut) × LogsOut at s × (s' ≡ s)
+
+-- The reply to a line that sets the mode, which doesn't look at the Stone: the line's own words. The
+-- mode holds for the transaction that goes on.
+abbrev pub ModeReply : CommandPlace → SessionState → (full : Bool) → Line → SessionState → Type 0
+ModeReply at s full line s' = (line ≡ Mode full) × (at.after ≡ at.before)
+    × (s' ≡ record s { mode = mode_of full })
 
 -- The replies to a command, and what the session carries then.
 abbrev pub CommandSays : CommandPlace → SessionState → Command → List Line → SessionState → Type 0
@@ -35,6 +42,8 @@ CommandSays at s Logout lines s' = OneReply lines (λ line. LogoutReply at s lin
 CommandSays at s (Lock write name) lines s' =
     OneReply lines (λ line. LockReply at s write name line s')
 CommandSays at s (Unlock name) lines s' = OneReply lines (λ line. UnlockReply at s name line s')
+CommandSays at s Checkpoint lines s' = OneReply lines (λ line. CheckReply at s line s')
+CommandSays at s (SetMode full) lines s' = OneReply lines (λ line. ModeReply at s full line s')
 
 -- a reply, with the number of its command
 abbrev pub reply_with : ℕ → Line → Reply

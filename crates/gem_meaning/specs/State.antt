@@ -2,6 +2,8 @@
 use Rattle.std.specs.Prelude.{ℕ, ◌+◌, ◌-◌, Bool, false, List, take}
 use Rattle.gem_record.specs.declared.record.Entry.{Entry}
 use Rattle.gem_record.specs.declared.record.TxnRecord.{TxnRecord}
+use Rattle.gem_record.specs.declared.mode.Mode.{Mode}
+use Rattle.gem_record.specs.declared.mode.Mode.TheVariants.{Full}
 use Rattle.gem_language.specs.Transaction.{Transaction}
 use Rattle.gem_meaning.specs.Opened.{Opened}
 use Rattle.gem_meaning.specs.Events.{Event, Told, after_events, run_on_view, record_on_view}
@@ -14,6 +16,8 @@ pub record SessionState : Type 0 where
   pub user : ℕ
   -- the number of its view
   pub view : ℕ
+  -- its mode
+  pub mode : Mode
   -- the number of its transaction, from 1
   pub transaction : ℕ
   -- the number of the transaction's first command
@@ -24,12 +28,13 @@ pub record SessionState : Type 0 where
   -- whether one of the transaction's commands found no memory
   pub spoiled : Bool
 
--- a session with its first transaction, at this view
+-- a session with its first transaction, at this view, in the full mode
 abbrev pub first_transaction : (session user view : ℕ) → SessionState
 first_transaction session user view = record {
   session = session;
   user = user;
   view = view;
+  mode = Full;
   transaction = 1;
   first_command = 1;
   first_name = 1;
@@ -57,6 +62,7 @@ entry_to number s = record {
   last_command = number;
   first_name = s.first_name;
   view = s.view;
+  mode = s.mode;
 }
 
 -- What the transaction has said and done when it comes to this command, where all stands as at its

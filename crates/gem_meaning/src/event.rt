@@ -15,4 +15,10 @@ pub enum What {
     Dropped(Oid),
     /// The session ended, and all its locks are gone.
     Left,
+    /// The session's checkpoint was made: the image is stored, and the log begins anew.
+    Checked,
+    /// The disk failed while it was to store the image or the commit with this number, for the
+    /// session's checkpoint or for its commit, which has this entry. Nothing more is stored, and
+    /// whether this is on the disk isn't known.
+    Halted(u64, Option<Entry>),
 }

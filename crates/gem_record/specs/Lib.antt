@@ -15,3 +15,4 @@ pub mod RunNames
 pub mod Record
 pub mod History
 pub mod Effects
+pub mod Stored

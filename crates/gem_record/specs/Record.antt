@@ -21,9 +21,9 @@ uncommitted object = record {
 abbrev pub all_uncommitted : List (ℕ × Contents) → List (ℕ × Object)
 all_uncommitted objects = map (λ entry. (entry.0, uncommitted entry.1)) objects
 
--- The record of a run: who ran which commands, on which view, as its entry has it; the image of its
--- view; and what became of the objects. Its lists ascend by name. The number of the last commit of
--- an object that was written or made stands at 0, until a commit gives it its own.
+-- The record of a run: who ran which commands, on which view and in which mode, as its entry has
+-- it; the image of its view; and what became of the objects. Its lists ascend by name. The number of
+-- the last commit of an object that was written or made stands at 0, until a commit gives it its own.
 unfoldable pub record_of : Entry → Setting → World → TxnRecord
 record_of entry setting world = record {
   session = entry.session;
@@ -33,6 +33,7 @@ record_of entry setting world = record {
   last_command = entry.last_command;
   first_name = entry.first_name;
   view = entry.view;
+  mode = entry.mode;
   base = setting.view;
   touched = touched_names world;
   written = all_uncommitted (written_objects setting world);

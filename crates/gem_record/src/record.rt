@@ -3,6 +3,7 @@ ghost use Rattle.std.specs.Prelude.{◌≡◌};
 ghost use Rattle.gem_record.specs.History.{entry_of};
 
 use crate::by_name::ByName;
+use crate::mode::Mode;
 use crate::oid_list::OidList;
 use gem_image::Image;
 use gem_object::{Object, Oid, Sequence};
@@ -26,6 +27,8 @@ pub struct TxnRecord {
     pub first_name: u32,
     /// The number of commits in the image that it ran on.
     pub view: u64,
+    /// What it is checked for.
+    pub mode: Mode,
     /// The image that it ran on.
     pub base: Image,
     /// The objects that it read or wrote. Reduced-conflict objects and those that it made aren't
@@ -53,6 +56,7 @@ impl TxnRecord {
             last_command: self.last_command,
             first_name: self.first_name,
             view: self.view,
+            mode: self.mode,
         }
     }
 }
@@ -75,4 +79,6 @@ pub struct Entry {
     pub first_name: u32,
     /// The number of commits in the image that it ran on.
     pub view: u64,
+    /// What it is checked for.
+    pub mode: Mode,
 }

@@ -70,6 +70,9 @@ six_pieces a b c d e f = search (rules, append_assoc)
 pub eight_pieces : (a b c d e f g h : Bytes) → a ++ (b ++ (c ++ (d ++ (e ++ (f ++ (g ++ h)))))) ≡ a ++ b ++ c ++ d ++ e ++ f ++ g ++ h
 eight_pieces a b c d e f g h = search (rules, append_assoc)
 
--- the same, the last of them the line's end
-pub eight_with_end : (a b c d e f g h : Bytes) → a ++ (b ++ (c ++ (d ++ (e ++ (f ++ (g ++ h)))))) ≡ (a ++ b ++ c ++ d ++ e ++ f ++ g) ++ h ++ []
-eight_with_end a b c d e f g h = eight_pieces a b c d e f g h ∙ sym (append-nil (a ++ b ++ c ++ d ++ e ++ f ++ g ++ h))
+-- the same of nine pieces, the last of them the line's end
+pub nine_with_end : (a b c d e f g h i : Bytes)
+    → a ++ (b ++ (c ++ (d ++ (e ++ (f ++ (g ++ (h ++ i))))))) ≡ (a ++ b ++ c ++ d ++ e ++ f ++ g ++ h) ++ i ++ []
+nine_with_end a b c d e f g h i =
+    eight_pieces a b c d e f g (h ++ i) ∙ sym (append_assoc (a ++ b ++ c ++ d ++ e ++ f ++ g) h i)
+    ∙ sym (append-nil (a ++ b ++ c ++ d ++ e ++ f ++ g ++ h ++ i))

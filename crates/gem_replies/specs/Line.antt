@@ -8,7 +8,7 @@ use Rattle.lock_table.specs.declared.lock.LockKind.{LockKind}
 use Rattle.lock_table.specs.declared.lock.LockKind.TheVariants.{Read, Write}
 use Rattle.gem_replies.specs.Escapes.{escaped}
 use Rattle.gem_replies.specs.declared.reply.Line.{Line}
-use Rattle.gem_replies.specs.declared.reply.Line.TheVariants.{NoUser, NotLoggedIn, Login, NoMemory, Parse, Show, Error, Ran, Printed, Method, Spoiled, Unchanged, Refused, Committed, Aborted, Logout, NoName, NotObject, NotCommitted, NoRight, Denied, Locked, NotHeld, Unlocked}
+use Rattle.gem_replies.specs.declared.reply.Line.TheVariants.{NoUser, NotLoggedIn, Login, NoMemory, Parse, Show, Error, Ran, Printed, Method, Spoiled, Unchanged, Refused, Committed, Aborted, Logout, NoName, NotObject, NotCommitted, NoRight, Denied, Locked, NotHeld, Unlocked, LogFull, DiskFault, Halted, Checkpoint, ExtentFull, Mode}
 
 -- how a lock's kind is named
 abbrev pub kind_name : LockKind → Bytes
@@ -19,6 +19,11 @@ kind_name Write = codes "write"
 abbrev pub state_name : Bool → Bytes
 state_name true = codes "clean"
 state_name false = codes "dirty"
+
+-- how the check of a session's commits is named: of what they read, too, or not
+abbrev pub mode_words : (full : Bool) → Bytes
+mode_words true = codes "mode full_checks"
+mode_words false = codes "mode no_rw_checks"
 
 -- its words, which end before the text at its end if it has one
 abbrev pub reply_words : Line → Bytes
@@ -52,6 +57,13 @@ reply_words (Locked kind oid clean) =
     ++ codes " " ++ state_name clean
 reply_words (NotHeld oid) = codes "not held " ++ oid_text oid
 reply_words (Unlocked oid) = codes "unlocked " ++ oid_text oid
+reply_words (LogFull length size) =
+    codes "log full at " ++ decimal length ++ codes " by " ++ decimal size
+reply_words DiskFault = codes "disk fault"
+reply_words (Halted number) = codes "halted at " ++ decimal number
+reply_words (Checkpoint number) = codes "checkpoint " ++ decimal number
+reply_words (ExtentFull pages) = codes "extent full at " ++ decimal pages
+reply_words (Mode full) = mode_words full
 
 -- the text at its end, or nothing: from the image, or the name that the script gave
 abbrev pub reply_ending : Line → Bytes

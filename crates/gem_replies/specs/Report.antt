@@ -10,6 +10,8 @@ use Rattle.gem_object.specs.gem_value.declared.conflict.Conflict.{Conflict}
 use Rattle.gem_object.specs.gem_value.declared.conflict.ConflictKind.{ConflictKind}
 use Rattle.gem_object.specs.gem_value.declared.conflict.ConflictKind.TheVariants.{WriteReadLock, WriteWriteLock}
 use Rattle.gem_record.specs.declared.record.Entry.{Entry}
+use Rattle.gem_record.specs.declared.mode.Mode.{Mode}
+use Rattle.gem_record.specs.declared.mode.Mode.TheVariants.{Full, NoRw}
 use Rattle.gem_replies.specs.Line.{reply_text, conflicts_of}
 use Rattle.gem_replies.specs.declared.reply.Reply.{Reply}
 use Rattle.gem_replies.specs.declared.reply.Transcript.{Transcript}
@@ -38,10 +40,16 @@ transcript_lines transcript =
     (codes "session " ++ decimal transcript.session ++ codes " " ++ transcript.user)
     ∷ flat_map reply_lines transcript.replies
 
+-- what is noted of a commit in this mode: that it wasn't checked for what was only read
+abbrev pub mode_note : Mode → Bytes
+mode_note Full = []
+mode_note NoRw = codes " no_rw_checks"
+
 -- the line of the commit with this number
 abbrev pub entry_text : ℕ → Entry → Bytes
 entry_text number entry = decimal number ++ codes " session " ++ decimal entry.session
     ++ codes " transaction " ++ decimal entry.transaction ++ codes " view " ++ decimal entry.view
+    ++ mode_note entry.mode
 
 -- the lines of commits that are numbered from here on
 abbrev pub history_lines : ℕ → List Entry → List Bytes

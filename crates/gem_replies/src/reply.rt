@@ -45,6 +45,17 @@ pub enum Line {
     },
     /// `refused K`, and a line for each of the K conflicts.
     Refused(Conflicts),
+    /// `log full at LENGTH by SIZE`: the log has so many bytes, and the commit's record as many as
+    /// SIZE, which is too much.
+    LogFull {
+        length: u64,
+        size: u64,
+    },
+    /// `disk fault`: the disk failed, so nothing more is committed. Whether the commit or the
+    /// checkpoint is on the disk isn't known.
+    DiskFault,
+    /// `halted at N`: the disk had failed when it was to store number N.
+    Halted(u64),
     /// `committed N view V`: it is commit `number`, and the view `view` begins.
     Committed {
         number: u64,
@@ -82,6 +93,15 @@ pub enum Line {
     NotHeld(Oid),
     /// `unlocked OID`: the session's lock on the object is gone.
     Unlocked(Oid),
+    /// `checkpoint N`: the image with this number is stored, and the log begins anew.
+    Checkpoint(u64),
+    /// `extent full at PAGES`: the checkpoint would take so many pages, which is too many.
+    ExtentFull(u64),
+    /// `mode full_checks`, or `mode no_rw_checks` where `full` is false: the session's transactions
+    /// are so checked from now on.
+    Mode {
+        full: bool,
+    },
 }
 
 /// A reply with the number of its command within the session. Login is 0. Replies to one command

@@ -2,14 +2,14 @@
 ghost use Rattle.std.specs.Prelude.{◌≡◌, ◌<◌, ◌++◌, false, [], ◌∷◌, map, flat_map, string_bytes, IfOk, OnOk};
 ghost use Rattle.std.specs.Fmt.{digit_glyph};
 ghost use Rattle.gem_replies.specs.Escapes.{escape, escaped};
-ghost use Rattle.gem_replies.specs.Line.{kind_name, state_name, reply_words, reply_ending, conflicts_of};
+ghost use Rattle.gem_replies.specs.Line.{kind_name, state_name, mode_words, reply_words, reply_ending, conflicts_of};
 ghost use Rattle.gem_replies.specs.declared.reply.Line as Line;
 ghost use Rattle.gem_object.specs.texts.Lines.{text_of_lines};
-ghost use Rattle.gem_replies.specs.Report.{shown_name, conflict_text, reply_lines, transcript_lines, entry_text, history_lines, commit_lines, report_of};
+ghost use Rattle.gem_replies.specs.Report.{shown_name, mode_note, conflict_text, reply_lines, transcript_lines, entry_text, history_lines, commit_lines, report_of};
 
 use crate::reply::{Line, Reply, RunBook, Transcript};
 use gem_object::{Conflict, ConflictKind, Oid};
-use gem_record::Entry;
+use gem_record::{Entry, Mode};
 use lock_table::LockKind;
 use std::alloc::{AllocError, Global};
 
@@ -111,6 +111,12 @@ fn words(alloc: Global, line: &Line) -> Result<String, AllocError>
         Line::Locked { kind, oid, clean } => locked_words(alloc, *kind, *oid, *clean),
         Line::NotHeld(oid) => format!(in alloc; "not held {oid}"),
         Line::Unlocked(oid) => format!(in alloc; "unlocked {oid}"),
+        Line::LogFull { length, size } => format!(in alloc; "log full at {length} by {size}"),
+        Line::DiskFault => format!(in alloc; "disk fault"),
+        Line::Halted(number) => format!(in alloc; "halted at {number}"),
+        Line::Checkpoint(number) => format!(in alloc; "checkpoint {number}"),
+        Line::ExtentFull(pages) => format!(in alloc; "extent full at {pages}"),
+        Line::Mode { full } => mode_words(alloc, *full),
     }
 }
 
@@ -133,6 +139,16 @@ fn locked_words(alloc: Global, kind: LockKind, oid: Oid, clean: bool) -> Result<
 {
     let (kind, state) = (kind_name(kind), state_name(clean));
     format!(in alloc; "locked {kind} {oid} {state}")
+}
+
+fn mode_words(alloc: Global, full: bool) -> Result<String, AllocError>
+    ensures { IfOk result (λ words. string_bytes words ≡ mode_words full) }
+{
+    if full {
+        format!(in alloc; "mode full_checks")
+    } else {
+        format!(in alloc; "mode no_rw_checks")
+    }
 }
 
 // How a lock's kind is named.
@@ -243,12 +259,24 @@ fn push_entry(
         session,
         transaction,
         view,
+        mode,
         ..
     } = *entry;
+    let note = mode_note(mode);
     let line = format!(in alloc;
-        "{number} session {session} transaction {transaction} view {view}\n"
+        "{number} session {session} transaction {transaction} view {view}{note}\n"
     )?;
     push_text(report, &line)
+}
+
+// What is noted of a commit in this mode.
+fn mode_note(mode: Mode) -> &'static str
+    ensures { result.now ≡ mode_note mode }
+{
+    match mode {
+        Mode::Full => "",
+        Mode::NoRw => " no_rw_checks",
+    }
 }
 
 fn push_text(report: &mut Vec<u8>, text: &str) -> Result<(), AllocError>

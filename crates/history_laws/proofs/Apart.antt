@@ -8,7 +8,7 @@ use Rattle.gem_meaning.specs.gem_sound.Parts.{user_at}
 use Rattle.gem_meaning.specs.gem_record.History.{entry_of}
 use Rattle.gem_meaning.specs.gem_record.declared.record.TxnRecord.{TxnRecord}
 use Rattle.gem_meaning.specs.gem_record.declared.record.Entry.{Entry}
-use Rattle.gem_meaning.specs.declared.event.What.TheVariants.{Placed, Held, Dropped, Left}
+use Rattle.gem_meaning.specs.declared.event.What.TheVariants.{Placed, Held, Dropped, Left, Checked, Halted}
 use Rattle.gem_meaning.specs.Opened.{Opened, run_at, record_on}
 use Rattle.gem_meaning.specs.Events.{Event, Told, Standing, told_more, next_counter, run_at_place, run_on_view, record_on_view, after_event, after_events, events_of}
 use Rattle.gem_meaning.specs.Serial.{EndedBefore, MayBeginAt, IsRecorded}
@@ -40,6 +40,16 @@ apart_of_others session first ((author, Left) ∷ es) none = (
   apart_of_others session first es
       (not_taken (author == session) (author, Left) (events_of session es) none).1,
 )
+apart_of_others session first ((author, Checked) ∷ es) none = (
+  tt,
+  apart_of_others session first es
+      (not_taken (author == session) (author, Checked) (events_of session es) none).1,
+)
+apart_of_others session first ((author, Halted number entry) ∷ es) none = (
+  tt,
+  apart_of_others session first es
+      (not_taken (author == session) (author, Halted number entry) (events_of session es) none).1,
+)
 
 pub apart_both : (session first : ℕ) (es fs : List Event)
     → AllByRecursion (EndedBefore session first) es → AllByRecursion (EndedBefore session first) fs
@@ -59,6 +69,10 @@ apart_later session first later ((author, Held oid kind) ∷ es) le apart =
 apart_later session first later ((author, Dropped oid) ∷ es) le apart =
     (tt, apart_later session first later es le apart.1)
 apart_later session first later ((author, Left) ∷ es) le apart =
+    (tt, apart_later session first later es le apart.1)
+apart_later session first later ((author, Checked) ∷ es) le apart =
+    (tt, apart_later session first later es le apart.1)
+apart_later session first later ((author, Halted number entry) ∷ es) le apart =
     (tt, apart_later session first later es le apart.1)
 
 -- ---- the names that a session has drawn
@@ -80,6 +94,8 @@ counter_stays o s (author, Placed e) session apart =
 counter_stays o s (author, Held oid kind) session apart = refl
 counter_stays o s (author, Dropped oid) session apart = refl
 counter_stays o s (author, Left) session apart = refl
+counter_stays o s (author, Checked) session apart = refl
+counter_stays o s (author, Halted number entry) session apart = refl
 
 counter_from : (o : Opened) (s : Standing) (es : List Event) (session : ℕ) → events_of session es ≡ []
     → next_counter (fold (after_event o) s es) session ≡ next_counter s session

@@ -18,7 +18,7 @@ use Rattle.gem_meaning.specs.lock_table.declared.lock.LockKind.TheVariants.{Read
 use Rattle.gem_meaning.specs.commit_check.Conflicts.{Place, changed_of, last_change}
 use Rattle.gem_meaning.specs.commit_check.Table.{IsTouched, IsWritten, IsUpdated, Stands, write_write, read_write, write_read_lock, write_write_lock, merge_refused}
 use Rattle.gem_meaning.proofs.commit_check_lemmas.Stood.{listed_stands}
-use Rattle.gem_meaning.specs.declared.event.What.TheVariants.{Placed, Held, Dropped, Left}
+use Rattle.gem_meaning.specs.declared.event.What.TheVariants.{Placed, Held, Dropped, Left, Checked, Halted}
 use Rattle.gem_meaning.specs.Opened.{Opened}
 use Rattle.gem_meaning.specs.Events.{Event, Told, Standing, after_event, after_events, standing, conflicts_at}
 use Rattle.gem_meaning.specs.Serial.{IsPlaced, IsSerialEvent, IsSerialFrom, IsSerial, CanServe}
@@ -70,6 +70,8 @@ clean_event o before (author, Placed e) session view oid serves all serial there
 clean_event o before (author, Held object kind) session view oid serves all serial there held own clean = clean
 clean_event o before (author, Dropped object) session view oid serves all serial there held own clean = clean
 clean_event o before (author, Left) session view oid serves all serial there held own clean = clean
+clean_event o before (author, Checked) session view oid serves all serial there held own clean = clean
+clean_event o before (author, Halted number entry) session view oid serves all serial there held own clean = clean
 
 -- the object is held where the events begin
 held_first : (o : Opened) (s : Standing) (events : List Event) (session oid : ℕ)
@@ -153,7 +155,7 @@ module _ (place : Place) (done : TxnRecord) (exclusive : IsExclusive place.locks
   pub of_merges : (c : Conflict) → Stands place done c → 5 ≤ kind_number c.kind
   of_merges c (write_write oid written since) =
       let old = clean oid (inr written) in let later = since.later in absurd (omega (arith, old, later))
-  of_merges c (read_write oid touched not_written since) =
+  of_merges c (read_write oid full touched not_written since) =
       let old = clean oid (inl touched) in let later = since.later in absurd (omega (arith, old, later))
   of_merges c (write_read_lock oid holder changed lowest) =
       absurd (no_holder oid holder Read changed lowest)

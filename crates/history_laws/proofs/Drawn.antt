@@ -16,13 +16,6 @@ use Rattle.gem_meaning.specs.gem_record.Record.{all_uncommitted, record_of}
 use Rattle.gem_meaning.proofs.commit_check_lemmas.Members.{IsOneOf}
 use Rattle.history_laws.proofs.Effects.{IsChangedBy, by_write, by_make, by_update, filtered_one}
 
--- a transaction that has done nothing has changed only what is in reach
-pub reach_first : (setting : Setting) → IsInReach setting (untouched setting.first)
-reach_first setting = record {
-  begun = omega arith;
-  own = λ name some. absurd (false≢true (sym (ap is_some (get-empty nat_cmp name)) ∙ some));
-}
-
 -- the counter of a name that was drawn
 pub drawn_counter : (name : ℕ) (setting : Setting) (world : World) → is_drawn name setting world ≡ true
     → (counter : ℕ) × (name ≡ oid_number setting.serial counter) × (setting.first ≤ counter)

@@ -10,7 +10,7 @@ use Rattle.gem_meaning.specs.gem_image.Image.{IsImage}
 use Rattle.gem_meaning.specs.gem_record.declared.record.Entry.{Entry}
 use Rattle.gem_meaning.specs.gem_sound.Sound.{IsSoundImage}
 use Rattle.gem_meaning.specs.object_programs.Laws.{Stays}
-use Rattle.gem_meaning.specs.declared.event.What.TheVariants.{Placed, Held, Dropped, Left}
+use Rattle.gem_meaning.specs.declared.event.What.TheVariants.{Placed, Held, Dropped, Left, Checked, Halted}
 use Rattle.gem_meaning.specs.Opened.{Opened, base_serial, session_serial}
 use Rattle.gem_meaning.specs.Events.{Event, Told, Standing, image_at, next_counter, NamesAreFree, run_at_place, after_event, before_events, after_events, standing}
 use Rattle.gem_meaning.specs.Serial.{IsPlaced, IsSerialEvent, IsSerialFrom, IsSerial, IsConsistent, CanServe}
@@ -167,6 +167,8 @@ sound_event o before (session, Left) serves law held all = record {
   free = all.free;
   some_name = all.some_name;
 }
+sound_event o before (session, Checked) serves law running all = all
+sound_event o before (session, Halted number entry) serves law serial all = all
 
 sound_first : (o : Opened) → CanServe o → AllSound o (before_events o)
 sound_first o serves = record {

@@ -11,6 +11,7 @@ pub mod Touched
 pub mod Placed
 pub mod Turns
 pub mod OneMore
+pub mod Halts
 pub mod Apart
 pub mod Locked
 pub mod Clean

@@ -14,7 +14,7 @@ use Rattle.gem_meaning.proofs.lock_table_lemmas.Denied.{free_from_none, lowest_i
 use Rattle.gem_meaning.specs.commit_check.Conflicts.{Place, conflicts_of}
 use Rattle.gem_meaning.specs.commit_check.Table.{IsWritten, IsUpdated, write_read_lock, write_write_lock}
 use Rattle.gem_meaning.specs.gem_record.Record.{record_of}
-use Rattle.gem_meaning.specs.declared.event.What.TheVariants.{Placed, Held, Dropped, Left}
+use Rattle.gem_meaning.specs.declared.event.What.TheVariants.{Placed, Held, Dropped, Left, Checked, Halted}
 use Rattle.gem_meaning.specs.Opened.{Opened}
 use Rattle.gem_meaning.specs.Events.{Event, Standing, record_at_place, effect_of, after_event, before_events, after_events}
 use Rattle.gem_meaning.specs.Serial.{IsPlaced, IsSerialEvent, IsSerialFrom, CanServe}
@@ -88,6 +88,8 @@ there_event o before (author, Dropped object) serial there session oid held =
     there session oid (dropped_before (after_events o before).locks author object session oid held)
 there_event o before (author, Left) serial there session oid held =
     there session oid (left_before (after_events o before).locks author session oid held)
+there_event o before (author, Checked) serial there session oid held = there session oid held
+there_event o before (author, Halted number entry) serial there session oid held = there session oid held
 
 there_from : (o : Opened) (before events : List Event) → IsSerialFrom o before events
     → LockedAreThere (after_events o before) → LockedAreThere (after_events o (before ++ events))

@@ -1,5 +1,5 @@
 -- Events stay consistent when one more comes.
-use Rattle.std.proofs.Common.{◌≡◌, ℕ, List, [], ◌∷◌, ◌++◌, Option, Some, None, IsSome, refl, sym, ap, subst, ◌∙◌, append_assoc, append-nil}
+use Rattle.std.proofs.Common.{◌≡◌, ℕ, ◌+◌, List, [], ◌∷◌, ◌++◌, Option, Some, None, IsSome, refl, sym, ap, subst, ◌∙◌, append_assoc, append-nil}
 use Rattle.std.specs.List.{AllByRecursion}
 use Rattle.std.specs.FinMap.{get, get-empty}
 use Rattle.std.proofs.lemmas.Bool.{false≢true}
@@ -16,10 +16,10 @@ use Rattle.gem_meaning.specs.lock_table.declared.lock.LockKind.{LockKind}
 use Rattle.gem_meaning.specs.lock_table.declared.lock.LockKind.TheVariants.{Read, Write}
 use Rattle.gem_meaning.proofs.lock_table_lemmas.Denied.{free_from_none, none_from_free}
 use Rattle.gem_meaning.proofs.lock_table_lemmas.Exclusive.{exclusive_event}
-use Rattle.gem_meaning.specs.declared.event.What.TheVariants.{Placed, Held, Dropped, Left}
+use Rattle.gem_meaning.specs.declared.event.What.TheVariants.{Placed, Held, Dropped, Left, Checked, Halted}
 use Rattle.gem_meaning.specs.Opened.{Opened}
 use Rattle.gem_meaning.specs.Effect.{MergesFit}
-use Rattle.gem_meaning.specs.Events.{Event, Told, told_more, after_event, before_events, after_events, standing, conflicts_at, placed_entry, entries_of}
+use Rattle.gem_meaning.specs.Events.{Event, Told, told_more, after_event, before_events, after_events, standing, conflicts_at, placed_entry, entries_of, IsRunning}
 use Rattle.gem_meaning.specs.Serial.{IsSerialEvent, IsSerialFrom, IsSerial, IsOfScript, IsConsistent, IsRecorded, HoldsSome, CanServe}
 use Rattle.history_laws.proofs.Views.{after_one_more}
 use Rattle.history_laws.proofs.Commits.{CommitsKeep}
@@ -104,6 +104,8 @@ exclusive_more o before (session, Dropped oid) serial exclusive =
     exclusive_event (after_events o before).locks (locks.Dropped session oid) tt exclusive
 exclusive_more o before (session, Left) serial exclusive =
     exclusive_event (after_events o before).locks (locks.Left session) tt exclusive
+exclusive_more o before (session, Checked) serial exclusive = exclusive
+exclusive_more o before (session, Halted number entry) serial exclusive = exclusive
 
 exclusive_from : (o : Opened) (before events : List Event) → IsSerialFrom o before events
     → IsExclusive (after_events o before).locks → IsExclusive (after_events o (before ++ events)).locks
@@ -147,13 +149,39 @@ free_as_granted t session oid asked serial free = free_by (standing t).locks ses
 
 -- ---- one event more
 
--- a commit without conflicts is placed
+-- a commit without conflicts is placed, while the disk hasn't failed
 pub placed_more : (t : Told) (done : TxnRecord) → CommitsKeep → CanServe t.opened → IsConsistent t
-    → IsRecorded t done → conflicts_at (standing t) done ≡ [] → MergesFit (standing t).image done
+    → IsRunning t.events → IsRecorded t done → conflicts_at (standing t) done ≡ []
+    → MergesFit (standing t).image done
     → IsConsistent (told_more t ((done.session, Placed (entry_of done)) ∷ []))
-placed_more t done law serves consistent recorded none fit =
+placed_more t done law serves consistent running recorded none fit =
     consistent_more t (done.session, Placed (entry_of done)) consistent recorded.of_script.session
-    (placed_as_recorded t done law serves consistent.serial recorded none fit)
+    (placed_as_recorded t done law serves consistent.serial running recorded none fit)
+
+-- or the disk fails at it
+pub halted_more : (t : Told) (done : TxnRecord) → CommitsKeep → CanServe t.opened → IsConsistent t
+    → IsRunning t.events → IsRecorded t done → conflicts_at (standing t) done ≡ []
+    → MergesFit (standing t).image done
+    → IsConsistent (told_more t
+    ((done.session, Halted ((standing t).number + 1) (Some (entry_of done))) ∷ []))
+halted_more t done law serves consistent running recorded none fit =
+    consistent_more t (done.session, Halted ((standing t).number + 1) (Some (entry_of done))) consistent
+    recorded.of_script.session
+    (refl, placed_as_recorded t done law serves consistent.serial running recorded none fit)
+
+-- a checkpoint is made, while the disk hasn't failed
+pub checked_more : (t : Told) (session : ℕ) → IsConsistent t
+    → IsOfScript t.opened.script (session, Checked) → IsRunning t.events
+    → IsConsistent (told_more t ((session, Checked) ∷ []))
+checked_more t session consistent of_script running =
+    consistent_more t (session, Checked) consistent of_script running
+
+-- or the disk fails at it
+pub check_halted_more : (t : Told) (session : ℕ) → IsConsistent t
+    → IsOfScript t.opened.script (session, Halted (standing t).number None) → IsRunning t.events
+    → IsConsistent (told_more t ((session, Halted (standing t).number None) ∷ []))
+check_halted_more t session consistent of_script running =
+    consistent_more t (session, Halted (standing t).number None) consistent of_script (refl, running)
 
 -- a lock that is denied for nobody, on an object that is there, is granted
 pub held_more : (t : Told) (session oid : ℕ) (asked kind : LockKind) → IsConsistent t

@@ -188,7 +188,7 @@ module _ (o : Opened) (s : Standing) (done : TxnRecord) (serves : CanServe o) (g
   pub shown_later : (c : Conflict) → Stands (record { image = s.image; locks = s.locks }) done c
       → c.kind ≢ WriteReadLock → c.kind ≢ WriteWriteLock → done.view < c.shown
   shown_later c (write_write oid written since) no_read no_write = since.later
-  shown_later c (read_write oid touched not_written since) no_read no_write = since.later
+  shown_later c (read_write oid full touched not_written since) no_read no_write = since.later
   shown_later c (write_read_lock oid holder changed lowest) no_read no_write = absurd (no_read refl)
   shown_later c (write_write_lock oid holder changed lowest) no_read no_write = absurd (no_write refl)
   shown_later c (merge_refused oid kind refused) no_read no_write = refused_later oid kind refused
@@ -210,7 +210,7 @@ stands_shown : (s : Standing) (done : TxnRecord) → AreNumbered s → (c : Conf
     → Stands (record { image = s.image; locks = s.locks }) done c
     → c.kind ≢ WriteReadLock → c.kind ≢ WriteWriteLock → c.shown ≤ s.number
 stands_shown s done numbered c (write_write oid written since) no_read no_write = numbered oid
-stands_shown s done numbered c (read_write oid touched not_written since) no_read no_write = numbered oid
+stands_shown s done numbered c (read_write oid full touched not_written since) no_read no_write = numbered oid
 stands_shown s done numbered c (write_read_lock oid holder changed lowest) no_read no_write = absurd (no_read refl)
 stands_shown s done numbered c (write_write_lock oid holder changed lowest) no_read no_write = absurd (no_write refl)
 stands_shown s done numbered c (merge_refused oid kind refused) no_read no_write = numbered oid

@@ -6,26 +6,27 @@ use Rattle.gem_meaning.specs.gem_value.Oid.{oid_number}
 use Rattle.gem_meaning.specs.gem_object.declared.object.Object.{Object}
 use Rattle.gem_meaning.specs.gem_image.Image.{Image, IsImage, contents_of, objects_in, with_objects}
 use Rattle.gem_meaning.specs.gem_record.declared.record.Entry.{Entry}
+use Rattle.gem_meaning.specs.gem_record.declared.mode.Mode.{Mode}
+use Rattle.gem_meaning.specs.gem_record.declared.mode.Mode.TheVariants.{Full, NoRw}
 use Rattle.gem_meaning.specs.gem_world.World.{Setting, untouched}
 use Rattle.gem_meaning.specs.gem_sound.Sound.{IsSoundImage, IsSoundFor}
 use Rattle.gem_meaning.specs.object_programs.Laws.{begun_at, Stays, AreSound, IsInReach}
 use Rattle.gem_meaning.proofs.object_programs_lemmas.Objects.{StaysSound, soundness_stays}
-use Rattle.gem_meaning.proofs.object_programs_lemmas.Reach.{StaysInReach, reach_stays}
 use Rattle.gem_meaning.proofs.object_programs_lemmas.Admits.{admits_image}
-use Rattle.gem_meaning.proofs.object_programs_lemmas.AtPlace.{sound_at}
 use Rattle.gem_meaning.proofs.gem_language_lemmas.Lists.{listed, next_grows}
 use Rattle.gem_meaning.proofs.commit_check_lemmas.Members.{IsOneOf}
 use Rattle.gem_meaning.specs.Commands.{object_commands}
 use Rattle.gem_meaning.specs.Opened.{Opened, session_serial, entry_commands}
 use Rattle.gem_meaning.specs.Effect.{MergesFit}
-use Rattle.gem_meaning.specs.Events.{Standing, image_at, next_counter, NamesAreFree, run_at_place, run_on_view, record_at_place, effect_of}
+use Rattle.gem_meaning.specs.Events.{Standing, image_at, next_counter, NamesAreFree, ordinary_in, ordinary_at, run_at_place, run_on_view, record_at_place, effect_of}
 use Rattle.gem_meaning.specs.Serial.{IsTransaction, MayBeginAt, CanServe}
-use Rattle.commit_soundness.specs.Placing.{Placing, record_placed, CanRun}
+use Rattle.commit_soundness.specs.Placing.{Placing, run_setting, record_placed, CanRun}
+use Rattle.commit_soundness.proofs.Runs.{left_sound, reached}
 use Rattle.history_laws.proofs.Views.{IsGrown, image_now}
 use Rattle.history_laws.proofs.Effects.{IsChangedBy}
 use Rattle.history_laws.proofs.Unchanged.{IsPlacedAt, after_placed}
-use Rattle.history_laws.proofs.Stays.{absent_before, user_stays}
-use Rattle.history_laws.proofs.Drawn.{reach_first, drawn_counter, made_in_record, changed_there}
+use Rattle.history_laws.proofs.Stays.{stays_itself, absent_before, user_stays}
+use Rattle.history_laws.proofs.Drawn.{drawn_counter, made_in_record, changed_there}
 use Rattle.history_laws.proofs.Commits.{CommitsKeep}
 
 -- an image that was
@@ -39,6 +40,12 @@ pub record AllSound (o : Opened) (s : Standing) : Type 0 where
   pub images : (number : ℕ) → o.number ≤ number → number ≤ s.number → IsSoundAt s number
   pub free : (session : ℕ) → 1 ≤ session → NamesAreFree o s session
   pub some_name : (session : ℕ) → 1 ≤ next_counter s session
+
+-- what holds of the place and of the view holds of where ordinary objects are read
+ordinary_by : (P : Image → Type 0) (mode : Mode) (place view : Image) → P place → P view
+    → P (ordinary_in mode place view)
+ordinary_by P Full place view of_place of_view = of_place
+ordinary_by P NoRw place view of_place of_view = of_view
 
 -- ---- where a transaction begins
 
@@ -119,34 +126,15 @@ module _ (o : Opened) (s : Standing) (e : Entry) (serves : CanServe o) (grown : 
       (object_commands (entry_commands o.script e)) (untouched e.first_name)
       (admits_image view e.user serial e.first_name at_view.image sound_for_view)
 
+  -- ---- the run, and what it left over the place
+
   abbrev setting : Setting
   setting = begun_at s.image view e.user serial e.first_name
-
-  -- what the transaction sees at its place is sound, before it runs and after
-  pub sound_before : AreSound setting (untouched e.first_name)
-  sound_before = sound_at s.image view e.user serial e.first_name at_view.stays
-      (admits_image s.image e.user serial e.first_name place_is_image sound_for_place)
-      (admits_image view e.user serial e.first_name at_view.image sound_for_view)
-
-  pub sound_after : AreSound setting (run_at_place o s e).world
-  unfolding run_at_place
-  sound_after = listed setting (StaysSound setting) (soundness_stays setting)
-      (object_commands (entry_commands o.script e)) (untouched e.first_name) sound_before
-
-  pub reach_after : IsInReach setting (run_at_place o s e).world
-  unfolding run_at_place
-  reach_after = listed setting (StaysInReach setting) (reach_stays setting)
-      (object_commands (entry_commands o.script e)) (untouched e.first_name) (reach_first setting)
-
-  pub names_grow : e.first_name ≤ (run_at_place o s e).world.next
-  unfolding run_at_place
-  names_grow = next_grows (object_commands (entry_commands o.script e)) setting (untouched e.first_name)
-
-  -- ---- what the commit changes
 
   abbrev placing : Placing
   placing = record {
     place = s.image;
+    ordinary = ordinary_at s e;
     view = view;
     user = e.user;
     serial = serial;
@@ -159,11 +147,31 @@ module _ (o : Opened) (s : Standing) (e : Entry) (serves : CanServe o) (grown : 
   can_run : CanRun placing
   can_run = record {
     place = place_is_image;
+    ordinary = ordinary_by IsImage e.mode s.image view place_is_image at_view.image;
     view = at_view.image;
-    stays = at_view.stays;
+    below = ordinary_by (λ image. Stays view image) e.mode s.image view at_view.stays (stays_itself view);
+    above = ordinary_by (λ image. Stays image s.image) e.mode s.image view (stays_itself s.image) at_view.stays;
     sound = sound_for_place;
+    sound_ordinary = ordinary_by (λ image. IsSoundFor (objects_in image) e.user serial e.first_name) e.mode
+        s.image view sound_for_place sound_for_view;
     sound_view = sound_for_view;
   }
+
+  -- what the transaction left is sound, as it is seen at its place
+  pub sound_after : AreSound setting (run_at_place o s e).world
+  unfolding run_at_place
+  sound_after = left_sound placing can_run
+
+  pub reach_after : IsInReach setting (run_at_place o s e).world
+  unfolding run_at_place
+  reach_after = reached placing can_run
+
+  pub names_grow : e.first_name ≤ (run_at_place o s e).world.next
+  unfolding run_at_place
+  names_grow = next_grows (object_commands (entry_commands o.script e)) (run_setting placing)
+      (untouched e.first_name)
+
+  -- ---- what the commit changes
 
   fit_there : MergesFit s.image (record_at_place o s e) → MergesFit s.image (record_placed placing)
   unfolding record_at_place run_at_place

@@ -8,13 +8,14 @@ use Rattle.std.specs.FinMap.Entries.{is_some-find}
 use Rattle.std.proofs.lemmas.Bool.{false≢true, cases_lt}
 use Rattle.gem_meaning.specs.gem_object.declared.object.Object.{Object}
 use Rattle.gem_meaning.specs.gem_record.declared.record.TxnRecord.{TxnRecord}
+use Rattle.gem_meaning.specs.gem_record.declared.mode.Mode.TheVariants.{Full}
 use Rattle.gem_meaning.specs.gem_record.declared.record.Entry.{Entry}
 use Rattle.gem_meaning.specs.gem_value.declared.conflict.Conflict.{Conflict}
 use Rattle.gem_meaning.specs.gem_world.World.{Setting, World, is_among}
 use Rattle.gem_meaning.specs.gem_record.RunNames.{marked, ascending}
 use Rattle.gem_meaning.specs.gem_record.Record.{record_of}
 use Rattle.gem_meaning.specs.commit_check.Conflicts.{Place, changed_of, last_change, conflicts_of, is_touched, is_written}
-use Rattle.gem_meaning.specs.commit_check.Table.{IsTouched, IsChangedSince, Stands, write_write, read_write}
+use Rattle.gem_meaning.specs.commit_check.Table.{IsTouched, IsWritten, IsChangedSince, Stands, write_write, read_write}
 use Rattle.gem_meaning.proofs.commit_check_lemmas.Listed.{stands_listed}
 use Rattle.gem_meaning.proofs.commit_check_lemmas.Members.{contained}
 use Rattle.gem_meaning.proofs.commit_check_lemmas.Used.{from_any}
@@ -57,12 +58,12 @@ none_stands place done c none stands =
     omega (arith, below)
 
 module _ (place : Place) (done : TxnRecord) (none : conflicts_of place done ≡ []) where
-  not_changed_by : (name : ℕ) (written : Bool) → is_written done name ≡ written → IsTouched done name
-      → IsChangedSince place.image done.view name → ⊥
-  not_changed_by name true is touched since =
+  not_changed_by : done.mode ≡ Full → (name : ℕ) (written : Bool) → is_written done name ≡ written
+      → IsTouched done name → IsChangedSince place.image done.view name → ⊥
+  not_changed_by full name true is touched since =
       none_stands place done _ none (write_write name is since)
-  not_changed_by name false is touched since =
-      none_stands place done _ none (read_write name touched (λ some. false≢true (sym is ∙ some)) since)
+  not_changed_by full name false is touched since =
+      none_stands place done _ none (read_write name full touched (λ some. false≢true (sym is ∙ some)) since)
 
   changed_by : (name : ℕ) (found : Option Object) → get place.image name ≡ found
       → done.view < last_change place.image name → IsChangedSince place.image done.view name
@@ -71,10 +72,19 @@ module _ (place : Place) (done : TxnRecord) (none : conflicts_of place done ≡ 
   changed_by name (Some object) is later =
       record { object = object; stands = is; later = later }
 
-  -- no commit after the view has changed what was touched
-  pub touched_is_old : (name : ℕ) → IsTouched done name → last_change place.image name ≤ done.view
-  touched_is_old name touched = elim (cases_lt done.view (last_change place.image name)) [
-    | inl later ↦ absurd (not_changed_by name (is_written done name) refl touched
+  -- no commit after the view has changed what was touched, where the commit is checked for it
+  pub touched_is_old : done.mode ≡ Full → (name : ℕ) → IsTouched done name
+      → last_change place.image name ≤ done.view
+  touched_is_old full name touched = elim (cases_lt done.view (last_change place.image name)) [
+    | inl later ↦ absurd (not_changed_by full name (is_written done name) refl touched
         (changed_by name (get place.image name) refl later))
+    | inr old ↦ old
+  ]
+
+  -- nor what was written, in each mode
+  pub written_is_old : (name : ℕ) → IsWritten done name → last_change place.image name ≤ done.view
+  written_is_old name written = elim (cases_lt done.view (last_change place.image name)) [
+    | inl later ↦ absurd (none_stands place done _ none (write_write name written
+        (changed_by name (get place.image name) refl later)))
     | inr old ↦ old
   ]

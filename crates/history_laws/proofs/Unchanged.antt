@@ -7,7 +7,7 @@ use Rattle.gem_meaning.specs.gem_object.declared.object.Object.{Object}
 use Rattle.gem_meaning.specs.gem_image.Image.{with_objects}
 use Rattle.gem_meaning.specs.gem_record.declared.record.Entry.{Entry}
 use Rattle.gem_meaning.specs.commit_check.Conflicts.{changed_of, last_change}
-use Rattle.gem_meaning.specs.declared.event.What.TheVariants.{Placed, Held, Dropped, Left}
+use Rattle.gem_meaning.specs.declared.event.What.TheVariants.{Placed, Held, Dropped, Left, Checked, Halted}
 use Rattle.gem_meaning.specs.Opened.{Opened}
 use Rattle.gem_meaning.specs.Events.{Event, Standing, image_at, effect_of, record_at_place, after_event, before_events, after_events}
 use Rattle.history_laws.proofs.Views.{IsGrown, grown_by, image_stays, image_now}
@@ -61,6 +61,10 @@ since_event o s (session, Dropped oid) grown since view name from to old =
     since view name from to old
 since_event o s (session, Left) grown since view name from to old =
     since view name from to old
+since_event o s (session, Checked) grown since view name from to old =
+    since view name from to old
+since_event o s (session, Halted number entry) grown since view name from to old =
+    since view name from to old
 
 since_from : (o : Opened) (s : Standing) (events : List Event) → IsGrown o s → IsUnchangedSince o s
     → IsUnchangedSince o (fold (after_event o) s events)
@@ -97,6 +101,8 @@ numbered_event o s (session, Placed e) old oid = numbered_at o s e oid old (afte
 numbered_event o s (session, Held name kind) old oid = old oid
 numbered_event o s (session, Dropped name) old oid = old oid
 numbered_event o s (session, Left) old oid = old oid
+numbered_event o s (session, Checked) old oid = old oid
+numbered_event o s (session, Halted number entry) old oid = old oid
 
 numbered_from : (o : Opened) (s : Standing) (events : List Event) → AreNumbered s
     → AreNumbered (fold (after_event o) s events)

@@ -3,7 +3,7 @@ use Rattle.std.proofs.Common.{◌≡◌, ℕ, zero, suc, ◌+◌, ◌-◌, ◌�
 use Rattle.std.specs.List.{fold}
 use Rattle.std.proofs.lemmas.List.Sums.{fold_push, fold-append}
 use Rattle.gem_meaning.specs.gem_image.Image.{with_objects}
-use Rattle.gem_meaning.specs.declared.event.What.TheVariants.{Placed, Held, Dropped, Left}
+use Rattle.gem_meaning.specs.declared.event.What.TheVariants.{Placed, Held, Dropped, Left, Checked, Halted}
 use Rattle.gem_meaning.specs.Opened.{Opened}
 use Rattle.gem_meaning.specs.Events.{Event, Standing, image_at, effect_of, after_event, before_events, after_events}
 
@@ -29,6 +29,8 @@ grown_by o s (session, Placed e) grown = omega arith
 grown_by o s (session, Held oid kind) grown = grown
 grown_by o s (session, Dropped oid) grown = grown
 grown_by o s (session, Left) grown = grown
+grown_by o s (session, Checked) grown = grown
+grown_by o s (session, Halted number entry) grown = grown
 
 pub grown_from : (o : Opened) (s : Standing) (events : List Event) → IsGrown o s
     → IsGrown o (fold (after_event o) s events)
@@ -61,6 +63,8 @@ image_stays o s (session, Placed e) number grown from to =
 image_stays o s (session, Held oid kind) number grown from to = refl
 image_stays o s (session, Dropped oid) number grown from to = refl
 image_stays o s (session, Left) number grown from to = refl
+image_stays o s (session, Checked) number grown from to = refl
+image_stays o s (session, Halted halted entry) number grown from to = refl
 
 pub number_grows : (o : Opened) (s : Standing) (event : Event)
     → s.number ≤ (after_event o s event).number
@@ -68,6 +72,8 @@ number_grows o s (session, Placed e) = omega arith
 number_grows o s (session, Held oid kind) = omega arith
 number_grows o s (session, Dropped oid) = omega arith
 number_grows o s (session, Left) = omega arith
+number_grows o s (session, Checked) = omega arith
+number_grows o s (session, Halted number entry) = omega arith
 
 pub image_stays_from : (o : Opened) (s : Standing) (events : List Event) (number : ℕ) → IsGrown o s
     → o.number ≤ number → number ≤ s.number
@@ -112,6 +118,10 @@ numbers_from o s ((session, Dropped oid) ∷ es) =
     let rest = numbers_from o (after_event o s (session, Dropped oid)) es in omega arith
 numbers_from o s ((session, Left) ∷ es) =
     let rest = numbers_from o (after_event o s (session, Left)) es in omega arith
+numbers_from o s ((session, Checked) ∷ es) =
+    let rest = numbers_from o s es in omega arith
+numbers_from o s ((session, Halted number entry) ∷ es) =
+    let rest = numbers_from o s es in omega arith
 
 -- each event makes at most one commit
 pub number_at_most : (o : Opened) (events : List Event)

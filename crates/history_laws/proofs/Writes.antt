@@ -4,7 +4,7 @@ use Rattle.std.specs.FinMap.{get, get-empty}
 use Rattle.std.specs.Ordering.{nat_cmp}
 use Rattle.std.proofs.lemmas.Bool.{false≢true}
 use Rattle.gem_meaning.specs.gem_record.declared.record.Entry.{Entry}
-use Rattle.gem_meaning.specs.gem_world.World.{Setting, World, untouched}
+use Rattle.gem_meaning.specs.gem_world.World.{Setting, World, untouched, is_made}
 use Rattle.gem_meaning.specs.gem_world.Changes.{written_objects, updates_on}
 use Rattle.gem_meaning.specs.gem_record.RunNames.{ascending}
 use Rattle.gem_meaning.specs.gem_record.Record.{record_of}
@@ -14,7 +14,7 @@ use Rattle.gem_meaning.proofs.commit_check_lemmas.Members.{IsOneOf, contained}
 use Rattle.gem_meaning.proofs.commit_check_lemmas.Used.{named, to_any}
 use Rattle.gem_meaning.specs.Commands.{object_commands}
 use Rattle.gem_meaning.specs.Opened.{Opened, entry_commands, entry_setting}
-use Rattle.gem_meaning.specs.Events.{Standing, image_at, run_at_place, record_at_place}
+use Rattle.gem_meaning.specs.Events.{Standing, image_at, ordinary_at, run_at_place, record_at_place}
 use Rattle.history_laws.specs.Accesses.{command_moments, moments_at_place, MightWrite}
 use Rattle.history_laws.proofs.Touched.{ascending_has}
 use Rattle.history_laws.proofs.Drawn.{uncommitted_one, was_changed}
@@ -52,10 +52,10 @@ module _ (e : Entry) (setting : Setting) (world : World) where
 -- whoever wrote or updated an object might write it, by what was seen in a moment of the run
 pub might_write : (o : Opened) (s : Standing) (e : Entry) (name : ℕ)
     → IsWritten (record_at_place o s e) name ⊎ IsUpdated (record_at_place o s e) name
-    → MightWrite name (entry_setting o e s.image (image_at s e.view)) (moments_at_place o s e)
-unfolding record_at_place run_at_place
+    → MightWrite name (entry_setting o e (ordinary_at s e) (image_at s e.view)) (moments_at_place o s e)
+unfolding record_at_place run_at_place record_of is_made
 might_write o s e name changed =
-    let setting = entry_setting o e s.image (image_at s e.view) in
+    let setting = entry_setting o e (ordinary_at s e) (image_at s e.view) in
     let commands = object_commands (entry_commands o.script e) in
     let first = untouched e.first_name in
     let had = ⊎_elim

@@ -11,7 +11,7 @@ use Rattle.gem_meaning.specs.gem_language.Commands.{Command, command_reply}
 use Rattle.gem_meaning.specs.gem_language.Transaction.{begin_command, command_outcome}
 use Rattle.gem_meaning.specs.Commands.{object_commands}
 use Rattle.gem_meaning.specs.Opened.{Opened, entry_commands, entry_setting}
-use Rattle.gem_meaning.specs.Events.{Standing, image_at}
+use Rattle.gem_meaning.specs.Events.{Standing, image_at, ordinary_at}
 
 -- A moment of a run: what is there before one of its atoms, and its access, where it is one.
 pub record Moment : Type 0 where
@@ -66,10 +66,10 @@ command_moments (command ∷ rest) setting world =
     moments (command_reply command) setting (begin_command world)
     ++ command_moments rest setting (command_outcome command setting world).state.world
 
--- the moments of a transaction at its place
+-- the moments of a transaction at its place, where its mode has ordinary objects read
 abbrev pub moments_at_place : Opened → Standing → Entry → List Moment
 moments_at_place o s e = command_moments (object_commands (entry_commands o.script e))
-    (entry_setting o e s.image (image_at s e.view)) (untouched e.first_name)
+    (entry_setting o e (ordinary_at s e) (image_at s e.view)) (untouched e.first_name)
 
 -- The user has the right to an access, by what is seen when it comes, or it ends in E10 or E11.
 abbrev pub IsJudged : Setting → World → Budget → Option (Access × ℕ) → Type 0

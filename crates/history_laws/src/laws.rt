@@ -1,6 +1,6 @@
 //! What follows from the definitions alone. Each law is the contract of a function that does
 //! nothing.
-ghost use Rattle.std.specs.Prelude.{◌≡◌, ◌≢◌, ◌⊎◌, ◌≤◌, ◌<◌, ◌+◌, ◌∷◌, [], ℕ, List, length, None, Some, IsSome};
+ghost use Rattle.std.specs.Prelude.{◌≡◌, ◌≢◌, ◌⊎◌, ◌≤◌, ◌<◌, ◌+◌, ◌∷◌, ◌++◌, [], ℕ, List, length, Option, None, Some, IsSome};
 ghost use Rattle.std.specs.FinMap.{get};
 ghost use Rattle.std.specs.List.{AllByRecursion, Contains};
 ghost use Rattle.gem_meaning.specs.gem_image.Image.{IsImage};
@@ -10,6 +10,7 @@ ghost use Rattle.gem_meaning.specs.gem_value.declared.conflict.ConflictKind.TheV
 ghost use Rattle.gem_meaning.specs.gem_record.History.{entry_of};
 ghost use Rattle.gem_meaning.specs.gem_record.declared.record.TxnRecord.{TxnRecord};
 ghost use Rattle.gem_meaning.specs.gem_record.declared.record.Entry.{Entry};
+ghost use Rattle.gem_meaning.specs.gem_record.declared.mode.Mode.TheVariants.{Full, NoRw};
 ghost use Rattle.gem_meaning.specs.gem_sound.Sound.{IsSoundImage};
 ghost use Rattle.gem_meaning.specs.lock_table.LockKind.{kind_granted};
 ghost use Rattle.gem_meaning.specs.lock_table.Locks.{kind_held, denied_for};
@@ -17,13 +18,15 @@ ghost use Rattle.gem_meaning.specs.lock_table.declared.lock.LockKind.{LockKind};
 ghost use Rattle.gem_meaning.specs.commit_check.Conflicts.{last_change};
 ghost use Rattle.gem_meaning.specs.commit_check.Table.{IsTouched, IsWritten, IsUpdated};
 ghost use Rattle.gem_meaning.specs.object_programs.Laws.{Stays};
-ghost use Rattle.gem_meaning.specs.declared.event.What.TheVariants.{Placed, Held, Dropped, Left};
-ghost use Rattle.gem_meaning.specs.Opened.{Opened, entry_setting};
+ghost use Rattle.gem_meaning.specs.declared.event.What.TheVariants.{Placed, Held, Dropped, Left, Checked, Halted};
+ghost use Rattle.gem_meaning.specs.Opened.{Opened, entry_setting, run_at};
 ghost use Rattle.gem_meaning.specs.Effect.{MergesFit, effect_at};
-ghost use Rattle.gem_meaning.specs.Events.{Event, Told, Standing, told_more, image_at, next_counter, NamesAreFree, record_at_place, effect_of, after_events, standing, events_of, conflicts_at};
+ghost use Rattle.gem_meaning.specs.Events.{Event, Told, Standing, told_more, image_at, next_counter, NamesAreFree, ordinary_at, record_at_place, effect_of, after_events, standing, events_of, conflicts_at, IsRunning, HasHaltedAt, run_at_place};
+ghost use Rattle.gem_meaning.specs.After.{stored_with, stored_after};
 ghost use Rattle.gem_meaning.specs.Serial.{IsPlaced, IsOfScript, IsConsistent, IsSerial, IsRecorded, HoldsSome, CanServe};
 ghost use Rattle.history_laws.specs.Accesses.{IsAllowed, MightWrite, moments_at_place};
 ghost use Rattle.history_laws.specs.Clean.{IsHeldClean};
+ghost use Rattle.history_laws.specs.Halts.{IsOfLocks};
 
 use commit_soundness::laws::commits_keep_images_sound;
 
@@ -75,12 +78,12 @@ pub fn names_are_free()
     commits_keep_images_sound();
 }
 
-/// A record without conflicts is placed as it was recorded, if what its merges make can be stored:
-/// its transaction says and does at its place what it said and did on its view, so that what the
-/// commit changes is told by the record.
+/// A record without conflicts is placed as it was recorded, if what its merges make can be stored and
+/// the disk hasn't failed: its transaction says and does at its place what it said and did on its
+/// view, so that what the commit changes is told by the record.
 pub fn placed_as_recorded()
     ensures placed { (t : Told) (done : TxnRecord) → CanServe t.opened → IsSerial t
-        → IsRecorded t done → conflicts_at (standing t) done ≡ []
+        → IsRunning t.events → IsRecorded t done → conflicts_at (standing t) done ≡ []
         → MergesFit (standing t).image done
         → IsPlaced t.opened t.events done.session (entry_of done) }
     ensures recorded { (t : Told) (done : TxnRecord) → CanServe t.opened
@@ -94,6 +97,15 @@ pub fn placed_as_recorded()
     commits_keep_images_sound();
 }
 
+/// Where all is checked a transaction is run at its place, but that it reads reduced-conflict objects
+/// as of its view. Without checks of what is only read it is run where all stands as at its view.
+pub fn modes_tell_where()
+    ensures full { (o : Opened) (s : Standing) (e : Entry) → e.mode ≡ Full
+        → run_at_place o s e ≡ run_at o e s.image (image_at s e.view) }
+    ensures unchecked { (o : Opened) (s : Standing) (e : Entry) → e.mode ≡ NoRw
+        → run_at_place o s e ≡ run_at o e (image_at s e.view) (image_at s e.view) }
+{}
+
 /// What a session claims of a transaction holds whatever other sessions do, and so do the names
 /// that are next for it.
 pub fn records_stay()
@@ -105,15 +117,28 @@ pub fn records_stay()
         ≡ next_counter (standing t) session }
 {}
 
-/// Events stay consistent when one more comes: a commit that has no conflicts and whose merged
-/// objects can be stored, a lock that is denied for nobody, on an object that is there, a lock that
+/// Events stay consistent when one more comes: while the disk hasn't failed, a commit that has no
+/// conflicts and whose merged objects can be stored, or the disk's failure at it, a checkpoint, or
+/// the disk's failure at it; a lock that is denied for nobody, on an object that is there, a lock that
 /// is given back by a session that holds it, and the end of a session that holds one.
 pub fn one_event_more()
     ensures begins { (o : Opened) → IsConsistent (record { opened = o; events = [] }) }
     ensures placed { (t : Told) (done : TxnRecord) → CanServe t.opened
-        → IsConsistent t → IsRecorded t done → conflicts_at (standing t) done ≡ []
-        → MergesFit (standing t).image done
+        → IsConsistent t → IsRunning t.events → IsRecorded t done
+        → conflicts_at (standing t) done ≡ [] → MergesFit (standing t).image done
         → IsConsistent (told_more t ((done.session, Placed (entry_of done)) ∷ [])) }
+    ensures halted { (t : Told) (done : TxnRecord) → CanServe t.opened
+        → IsConsistent t → IsRunning t.events → IsRecorded t done
+        → conflicts_at (standing t) done ≡ [] → MergesFit (standing t).image done
+        → IsConsistent (told_more t
+        ((done.session, Halted ((standing t).number + 1) (Some (entry_of done))) ∷ [])) }
+    ensures checked { (t : Told) (session : ℕ) → IsConsistent t
+        → IsOfScript t.opened.script (session, Checked) → IsRunning t.events
+        → IsConsistent (told_more t ((session, Checked) ∷ [])) }
+    ensures check_halted { (t : Told) (session : ℕ) → IsConsistent t
+        → IsOfScript t.opened.script (session, Halted (standing t).number None)
+        → IsRunning t.events
+        → IsConsistent (told_more t ((session, Halted (standing t).number None) ∷ [])) }
     ensures held { (t : Told) (session oid : ℕ) (asked kind : LockKind) → IsConsistent t
         → IsOfScript t.opened.script (session, Held oid kind)
         → denied_for (standing t).locks session oid asked ≡ None
@@ -130,6 +155,55 @@ pub fn one_event_more()
 {
     commits_keep_images_sound();
 }
+
+/// Where the disk fails at a commit, the image with this commit is sound and can be stored, as if it
+/// had been placed: so whether it is on the disk or not, what is there can be opened again. The
+/// number is the one that the commit would have had.
+pub fn flight_is_sound()
+    ensures image { (t : Told) (before more : List Event) (session number : ℕ) (e : Entry)
+        → CanServe t.opened → IsSerial t
+        → t.events ≡ before ++ (session, Halted number (Some e)) ∷ more
+        → IsImage (after_events t.opened (before ++ (session, Placed e) ∷ [])).image }
+    ensures sound { (t : Told) (before more : List Event) (session number : ℕ) (e : Entry)
+        → CanServe t.opened → IsSerial t
+        → t.events ≡ before ++ (session, Halted number (Some e)) ∷ more
+        → IsSoundImage (after_events t.opened (before ++ (session, Placed e) ∷ [])).image }
+    ensures number { (t : Told) (before more : List Event) (session number : ℕ) (e : Entry)
+        → IsSerial t → t.events ≡ before ++ (session, Halted number (Some e)) ∷ more
+        → number ≡ (after_events t.opened (before ++ (session, Placed e) ∷ [])).number }
+{
+    commits_keep_images_sound();
+}
+
+/// After the disk has failed nothing happens to the Stone but about locks: it fails once, and the
+/// image and the number are those that stood then.
+pub fn nothing_after_halt()
+    ensures locks { (t : Told) (before more : List Event) (session number : ℕ)
+        (entry : Option Entry) → IsSerial t
+        → t.events ≡ before ++ (session, Halted number entry) ∷ more
+        → AllByRecursion IsOfLocks more }
+    ensures once { (t : Told) (before more : List Event) (session number : ℕ)
+        (entry : Option Entry) → IsSerial t
+        → t.events ≡ before ++ (session, Halted number entry) ∷ more
+        → HasHaltedAt t.events number }
+    ensures image { (t : Told) (before more : List Event) (session number : ℕ)
+        (entry : Option Entry) → IsSerial t
+        → t.events ≡ before ++ (session, Halted number entry) ∷ more
+        → (standing t).image ≡ (after_events t.opened before).image }
+    ensures number { (t : Told) (before more : List Event) (session number : ℕ)
+        (entry : Option Entry) → IsSerial t
+        → t.events ≡ before ++ (session, Halted number entry) ∷ more
+        → (standing t).number ≡ (after_events t.opened before).number }
+{}
+
+/// How long the log is, and what the current root is, follows from the events alone: a commit makes
+/// the log longer by its record, and a checkpoint begins it anew with a root of the image that stands.
+pub fn stored_by_events()
+    ensures begins { (o : Opened) → stored_after o [] ≡ o.stored }
+    ensures more { (o : Opened) (events : List Event) (event : Event)
+        → stored_after o (events ++ event ∷ [])
+        ≡ stored_with o (after_events o events) (stored_after o events) event }
+{}
 
 /// Where a session has held each object that it touched or wrote without a break since a point at
 /// which its view was up to date there, and holds each that it wrote or updated to write, and has
@@ -168,9 +242,9 @@ pub fn shown_after_view()
 /// no object that the user might not write in one of the moments of this run.
 pub fn accesses_are_allowed()
     ensures each { (o : Opened) (s : Standing) (e : Entry) → AllByRecursion
-        (IsAllowed (entry_setting o e s.image (image_at s e.view))) (moments_at_place o s e) }
+        (IsAllowed (entry_setting o e (ordinary_at s e) (image_at s e.view))) (moments_at_place o s e) }
     ensures changed { (o : Opened) (s : Standing) (e : Entry) (name : ℕ)
         → IsWritten (record_at_place o s e) name ⊎ IsUpdated (record_at_place o s e) name
-        → MightWrite name (entry_setting o e s.image (image_at s e.view))
+        → MightWrite name (entry_setting o e (ordinary_at s e) (image_at s e.view))
         (moments_at_place o s e) }
 {}

@@ -1,7 +1,7 @@
 // A record and its entry, look-ups by name, and the size of an effect.
 use gem_image::Image;
 use gem_object::{Body, Counter, Object, Oid, Sequence};
-use gem_record::{ByName, Effect, Entry, OidList, TxnRecord};
+use gem_record::{ByName, Effect, Entry, Mode, OidList, TxnRecord};
 use gem_update::Update;
 use sorted_pairs::ascend;
 use std::alloc::{AllocError, Global};
@@ -42,6 +42,7 @@ fn record(rt: &impl Abort, alloc: Global) -> Result<TxnRecord, Fail> {
         last_command: 5,
         first_name: 1,
         view: 7,
+        mode: Mode::NoRw,
         base: Image::empty(),
         touched: two_names(alloc)?,
         written: by_name(rt, Vec::new(alloc)),
@@ -63,6 +64,7 @@ fn entry_of_a_record(rt: HostRuntime) -> Result<(), Fail> {
             last_command: 5,
             first_name: 1,
             view: 7,
+            mode: Mode::NoRw,
         }
     );
     Ok(())

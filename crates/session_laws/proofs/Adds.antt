@@ -1,5 +1,6 @@
 -- What the replies to one command add to the session's events, and to what their reader knows.
-use Rattle.std.proofs.Common.{◌≡◌, ◌⊎◌, inl, inr, ◌∙◌, refl, sym, ap, subst, ℕ, ◌+◌, Bool, true, false, true≢false, cond, is_some, List, [], ◌∷◌, ◌++◌, map, append-nil}
+use Rattle.std.proofs.Common.{◌≡◌, ◌⊎◌, inl, inr, ◌∙◌, refl, sym, ap, subst, ℕ, ◌+◌, Bool, true, false, true≢false, cond, is_some, Some, None, List, [], ◌∷◌, ◌++◌, map, append-nil}
+use Rattle.std.proofs.lemmas.Option.{none-some, same_Some}
 use Rattle.gem_meaning.specs.texts.Bytes.{Bytes as Text}
 use Rattle.gem_meaning.specs.gem_object.declared.value.Value.TheVariants.{Ref}
 use Rattle.gem_meaning.specs.gem_world.World.{Setting, World, is_made}
@@ -10,25 +11,26 @@ use Rattle.gem_meaning.specs.lock_table.declared.lock.LockKind.{LockKind}
 use Rattle.gem_meaning.specs.gem_language.Commands.{Command as ObjectCommand, run_chunk, install_method, Reply as ObjectReply, not_read, failed, ran, printed, installed}
 use Rattle.gem_meaning.specs.gem_language.Transaction.{Said, said_of, command_outcome}
 use Rattle.gem_meaning.specs.gem_replies.declared.reply.Line.{Line}
-use Rattle.gem_meaning.specs.gem_replies.declared.reply.Line.TheVariants.{NoMemory, NotCommitted, NoRight, Spoiled, Unchanged, Refused, Committed, Aborted, Denied, Locked, NotHeld, Unlocked, Logout as LoggedOut}
+use Rattle.gem_meaning.specs.gem_replies.declared.reply.Line.TheVariants.{NoMemory, NotCommitted, NoRight, Spoiled, Unchanged, Refused, Committed, Aborted, Denied, Locked, NotHeld, Unlocked, Logout as LoggedOut, LogFull, DiskFault, Halted as HaltedLine, ExtentFull, Checkpoint}
 use Rattle.gem_meaning.specs.gem_replies.declared.reply.Reply.{Reply}
 use Rattle.gem_meaning.specs.shell_words.Script.{is_logout}
 use Rattle.gem_meaning.specs.shell_words.declared.script.Command.{Command}
-use Rattle.gem_meaning.specs.shell_words.declared.script.Command.TheVariants.{Chunk, Method, Commit, Abort, Logout, Lock, Unlock}
+use Rattle.gem_meaning.specs.shell_words.declared.script.Command.TheVariants.{Chunk, Method, Commit, Abort, Logout, Lock, Unlock, Checkpoint as Store, Mode as SetMode}
 use Rattle.gem_meaning.specs.declared.event.What.{What}
-use Rattle.gem_meaning.specs.declared.event.What.TheVariants.{Placed, Held, Dropped, Left}
+use Rattle.gem_meaning.specs.declared.event.What.TheVariants.{Placed, Held, Dropped, Left, Checked, Halted}
 use Rattle.gem_meaning.specs.Lines.{show_lines, reply_line, said_lines}
 use Rattle.gem_meaning.specs.Opened.{Opened}
 use Rattle.gem_meaning.specs.Names.{Found, no_name, found as found_value, find_name}
-use Rattle.gem_meaning.specs.Events.{Event, Standing, after_events, events_of, OthersCame}
+use Rattle.gem_meaning.specs.Events.{Event, Standing, after_event, after_events, entry_in, events_of, OthersCame}
 use Rattle.gem_meaning.specs.State.{SessionState, CommandPlace, entry_to, next_transaction}
 use Rattle.gem_meaning.specs.Runs.{setting_of, world_so_far, ObjectSays}
 use Rattle.gem_meaning.specs.Commits.{CommitPlaced, CommitReply, AbortReply}
+use Rattle.gem_meaning.specs.Checkpoints.{CheckReply}
 use Rattle.gem_meaning.specs.Locks.{Target, replies as by_itself, asks, target_of, access_of, lockable, unlock_target, lock_target, IsTarget, so_far, spoiled as of_spoiled, LockGranted, LockOutcome, LockDropped, UnlockOutcome, TargetReply, kind_asked, leaving, LogsOut}
-use Rattle.gem_meaning.specs.Session.{CommandSays, reply_with, replies_with}
+use Rattle.gem_meaning.specs.Session.{CommandSays, ModeReply, reply_with, replies_with}
 use Rattle.gem_meaning.specs.Claims.{Claim, commits, claimed_by, Reader, begins_next, leaving_claim, claims_from}
 use Rattle.history_laws.proofs.Views.{after_one_more}
-use Rattle.session_laws.proofs.Own.{came_others, came_one, held_apart, dropped_apart, left_apart}
+use Rattle.session_laws.proofs.Own.{came_others, came_one}
 use Rattle.session_laws.proofs.Held.{has, has_first, without, AreHeld, held_more, held_less, held_stays}
 
 -- ---- lines that claim nothing
@@ -153,11 +155,11 @@ knows_next o events s r view number knows = record {
 
 -- ---- what a command adds
 
--- The session's events at a command: none, or one. A commit is that of what isn't spoiled, with the
--- command's number.
+-- The session's events at a command: none, or one. One with an entry is that of what isn't spoiled,
+-- with the command's number.
 abbrev pub IsOwn : CommandPlace → SessionState → List Event → Type 0
 IsOwn at s own = (own ≡ []) ⊎ ((what : What) × (own ≡ (s.session, what) ∷ [])
-    × ((e : Entry) → what ≡ Placed e → (s.spoiled ≡ false) × (e ≡ entry_to at.number s)))
+    × ((e : Entry) → entry_in what ≡ Some e → (s.spoiled ≡ false) × (e ≡ entry_to at.number s)))
 
 -- What the replies to a command add: the session's events that came are those that they claim.
 -- The reader knows then what the session carries, unless that was its end.
@@ -257,8 +259,8 @@ said_adds command at s c lines s' r knows same (inr (inr meant)) =
 abbrev pub commit_of : SessionState → ℕ → Event
 commit_of s number = (s.session, Placed (entry_to number s))
 
-same_entry : (d e : Entry) → Placed d ≡ Placed e → e ≡ d
-same_entry d e is = cc
+same_entry : (d e : Entry) → Some d ≡ Some e → e ≡ d
+same_entry d e is = sym (same_Some d e is)
 
 placed_adds : (at : CommandPlace) (s : SessionState) (c : Command) (number view : ℕ)
     (s' : SessionState) (r : Reader) → Knows at.opened at.before s r → s.spoiled ≡ false
@@ -302,34 +304,9 @@ placed_adds at s c number view s' r knows unspoiled placed is =
           (knows_after o (place ++ event ∷ []) at.after s r placed.sees.0 then));
     }
 
-commit_adds : (at : CommandPlace) (s : SessionState) (c : Command) (line : Line)
-    (s' : SessionState) (r : Reader) → Knows at.opened at.before s r → CommitReply at s line s'
-    → Adds at s c (line ∷ []) s' r
-commit_adds at s c Spoiled s' r knows says =
-    adds_none at s c (Spoiled ∷ []) s' r knows (same_state s s' says.2)
-    (none_came s.session at.before at.after says.1) (λ r number more. refl)
-commit_adds at s c NoMemory s' r knows says =
-    adds_none at s c (NoMemory ∷ []) s' r knows (same_state s s' says.2) says.1
-    (λ r number more. refl)
-commit_adds at s c (Unchanged number view) s' r knows says =
-    adds_next at s c (Unchanged number view) view s' r knows says.2.0 says.4 (λ more. refl)
-commit_adds at s c (Refused found) s' r knows says =
-    adds_none at s c (Refused found ∷ []) s' r knows (same_state s s' says.5) says.1
-    (λ r number more. refl)
-commit_adds at s c (Committed number view) s' r knows says =
-    placed_adds at s c number view s' r knows says.0 says.1 says.2
-commit_adds at s c _ s' r knows says = absurd says
+-- ---- locks, and what else the session does to the Stone
 
-abort_adds : (at : CommandPlace) (s : SessionState) (c : Command) (line : Line)
-    (s' : SessionState) (r : Reader) → Knows at.opened at.before s r → AbortReply at s line s'
-    → Adds at s c (line ∷ []) s' r
-abort_adds at s c (Aborted view) s' r knows says =
-    adds_next at s c (Aborted view) view s' r knows says.0.0 says.1 (λ more. refl)
-abort_adds at s c _ s' r knows says = absurd says
-
--- ---- locks
-
--- the session's own event about a lock, after events of others
+-- the session's own event, after events of others, which goes on with what it carried
 module _ (at : CommandPlace) (s : SessionState) (c : Command) (s' : SessionState) (r : Reader)
     (knows : Knows at.opened at.before s r) (is : s' ≡ s) where
   -- the locks at the end are those that the event leaves
@@ -344,6 +321,35 @@ module _ (at : CommandPlace) (s : SessionState) (c : Command) (s' : SessionState
       (same_state s s' is)
       (after_it (knows_after at.opened at.before (at.before ++ others) s r (others, none, refl) knows)))
 
+  -- an event that isn't about locks
+  own_adds : (others : List Event) (what : What) (line : Line) → events_of s.session others ≡ []
+      → at.after ≡ (at.before ++ others) ++ (s.session, what) ∷ []
+      → ((st : Standing) → (after_event at.opened st (s.session, what)).locks ≡ st.locks)
+      → ((e : Entry) → entry_in what ≡ Some e → (s.spoiled ≡ false) × (e ≡ entry_to at.number s))
+      → ((more : List Reply) → claims_from r (replies_with at.number (line ∷ []) ++ more)
+      ≡ claimed_by (s.session, what) ∷ claims_from r more)
+      → Adds at s c (line ∷ []) s' r
+  own_adds others what line none after unlocked entry claimed =
+      let place = at.before ++ others in
+      let same : (after_events at.opened (place ++ (s.session, what) ∷ [])).locks
+      ≡ (after_events at.opened place).locks =
+      ap (λ (st : Standing). st.locks) (after_one_more at.opened place (s.session, what))
+      ∙ unlocked (after_events at.opened place) in
+      record {
+        own = (s.session, what) ∷ [];
+        next = r;
+        of_session = ap (λ (n : SessionState). n.session) is;
+        came = came_one s.session at.before others at.after what none after;
+        is_own = inr (what, refl, entry);
+        claimed = claimed;
+        knows = λ _. told others what r none after (λ there. record {
+          transaction = there.transaction;
+          first_command = there.first_command;
+          view = there.view;
+          locked = subst (λ (locks : LockSet). AreHeld locks s.session r.locked) (sym same) there.locked;
+        });
+      }
+
   granted_adds : (asked : LockKind) (oid : ℕ) (kind : LockKind) (clean : Bool)
       → LockGranted at s asked oid kind clean → Adds at s c (Locked kind oid clean ∷ []) s' r
   granted_adds asked oid kind clean granted =
@@ -356,7 +362,7 @@ module _ (at : CommandPlace) (s : SessionState) (c : Command) (s' : SessionState
         of_session = ap (λ (n : SessionState). n.session) is;
         came = came_one s.session at.before granted.others at.after (Held oid kind)
             granted.are_others granted.after;
-        is_own = inr (Held oid kind, refl, λ e what. absurd (held_apart oid kind e what));
+        is_own = inr (Held oid kind, refl, λ e some. absurd (none-some e some));
         claimed = λ more. refl;
         knows = λ _. told granted.others (Held oid kind) next granted.are_others granted.after
             (λ there. record {
@@ -394,7 +400,7 @@ module _ (at : CommandPlace) (s : SessionState) (c : Command) (s' : SessionState
         of_session = ap (λ (n : SessionState). n.session) is;
         came = came_one s.session at.before dropped.others at.after (Dropped oid)
             dropped.are_others dropped.after;
-        is_own = inr (Dropped oid, refl, λ e what. absurd (dropped_apart oid e what));
+        is_own = inr (Dropped oid, refl, λ e some. absurd (none-some e some));
         claimed = λ more. refl;
         knows = λ _. told dropped.others (Dropped oid) next dropped.are_others dropped.after
             (λ there. record {
@@ -428,6 +434,82 @@ module _ (at : CommandPlace) (s : SessionState) (c : Command) (s' : SessionState
       (subst (λ (l : Line). AreQuiet (l ∷ [])) (sym says.0) quiet)
   target_adds Answer answered (asks oid) line quiet says = answered oid line says
 
+-- ---- what may end with an own event
+
+commit_adds : (at : CommandPlace) (s : SessionState) (c : Command) (line : Line)
+    (s' : SessionState) (r : Reader) → Knows at.opened at.before s r → CommitReply at s line s'
+    → Adds at s c (line ∷ []) s' r
+commit_adds at s c Spoiled s' r knows says =
+    adds_none at s c (Spoiled ∷ []) s' r knows (same_state s s' says.2)
+    (none_came s.session at.before at.after says.1) (λ r number more. refl)
+commit_adds at s c NoMemory s' r knows says =
+    adds_none at s c (NoMemory ∷ []) s' r knows (same_state s s' says.2) says.1
+    (λ r number more. refl)
+commit_adds at s c (HaltedLine number) s' r knows says =
+    adds_none at s c (HaltedLine number ∷ []) s' r knows (same_state s s' says.3) says.1
+    (λ r number more. refl)
+commit_adds at s c (LogFull length size) s' r knows says =
+    adds_none at s c (LogFull length size ∷ []) s' r knows (same_state s s' says.2) says.1.came
+    (λ r number more. refl)
+commit_adds at s c DiskFault s' r knows says =
+    let halted = says.1 in
+    own_adds at s c s' r knows says.2 halted.others
+    (Halted ((after_events at.opened (at.before ++ halted.others)).number + 1)
+    (Some (entry_to at.number s))) DiskFault halted.are_others halted.after (λ st. refl)
+    (λ e some. (says.0, same_entry (entry_to at.number s) e some)) (λ more. refl)
+commit_adds at s c (Unchanged number view) s' r knows says =
+    adds_next at s c (Unchanged number view) view s' r knows says.2.0 says.4 (λ more. refl)
+commit_adds at s c (Refused found) s' r knows says =
+    adds_none at s c (Refused found ∷ []) s' r knows (same_state s s' says.5) says.1
+    (λ r number more. refl)
+commit_adds at s c (Committed number view) s' r knows says =
+    placed_adds at s c number view s' r knows says.0 says.1 says.2
+commit_adds at s c _ s' r knows says = absurd says
+
+abort_adds : (at : CommandPlace) (s : SessionState) (c : Command) (line : Line)
+    (s' : SessionState) (r : Reader) → Knows at.opened at.before s r → AbortReply at s line s'
+    → Adds at s c (line ∷ []) s' r
+abort_adds at s c (Aborted view) s' r knows says =
+    adds_next at s c (Aborted view) view s' r knows says.0.0 says.1 (λ more. refl)
+abort_adds at s c _ s' r knows says = absurd says
+
+check_adds : (at : CommandPlace) (s : SessionState) (c : Command) (line : Line)
+    (s' : SessionState) (r : Reader) → Knows at.opened at.before s r → CheckReply at s line s'
+    → Adds at s c (line ∷ []) s' r
+check_adds at s c NoMemory s' r knows says =
+    adds_none at s c (NoMemory ∷ []) s' r knows (same_state s s' says.1) says.0
+    (λ r number more. refl)
+check_adds at s c (HaltedLine number) s' r knows says =
+    adds_none at s c (HaltedLine number ∷ []) s' r knows (same_state s s' says.2) says.0
+    (λ r number more. refl)
+check_adds at s c (ExtentFull pages) s' r knows says =
+    adds_none at s c (ExtentFull pages ∷ []) s' r knows (same_state s s' says.1) says.0.came
+    (λ r number more. refl)
+check_adds at s c DiskFault s' r knows says =
+    let ended = says.0.1 in
+    own_adds at s c s' r knows says.1 ended.others (Halted says.0.0 None) DiskFault ended.are_others
+    ended.after (λ st. refl) (λ e some. absurd (none-some e some)) (λ more. refl)
+check_adds at s c (Checkpoint number) s' r knows says =
+    let ended = says.0 in
+    own_adds at s c s' r knows says.1 ended.others Checked (Checkpoint number) ended.are_others
+    ended.after (λ st. refl) (λ e some. absurd (none-some e some)) (λ more. refl)
+check_adds at s c _ s' r knows says = absurd says
+
+-- a line that sets the mode
+mode_adds : (at : CommandPlace) (s : SessionState) (c : Command) (full : Bool) (line : Line)
+    (s' : SessionState) (r : Reader) → Knows at.opened at.before s r → ModeReply at s full line s'
+    → Adds at s c (line ∷ []) s' r
+mode_adds at s c full line s' r knows says =
+    adds_none at s c (line ∷ []) s' r knows
+    (record {
+      session = ap (λ (n : SessionState). n.session) says.2;
+      transaction = ap (λ (n : SessionState). n.transaction) says.2;
+      first_command = ap (λ (n : SessionState). n.first_command) says.2;
+      view = ap (λ (n : SessionState). n.view) says.2;
+    })
+    (none_came s.session at.before at.after says.1)
+    (subst (λ (l : Line). AreQuiet (l ∷ [])) (sym says.0) (λ r number more. refl))
+
 -- ---- the end of a session
 
 -- a session leaves where its reader knows of a lock
@@ -451,7 +533,7 @@ left_came session before others after false none is =
 
 left_own : (at : CommandPlace) (s : SessionState) (holds : Bool)
     → IsOwn at s (leaving holds s.session)
-left_own at s true = inr (Left, refl, λ e what. absurd (left_apart e what))
+left_own at s true = inr (Left, refl, λ e some. absurd (none-some e some))
 left_own at s false = inl refl
 
 logout_adds : (at : CommandPlace) (s : SessionState) (s' : SessionState) (r : Reader)
@@ -518,3 +600,9 @@ command_adds at s (Unlock name) lines s' r knows says =
     reply.target says.0
     (target_is_quiet (unlock_target name) at s reply.target (quiet_unlock name) reply.is_target)
     reply.reply)
+command_adds at s Store lines s' r knows says =
+    one_adds at s Store lines says.0 s' r says.1
+    (check_adds at s Store says.0 s' r knows says.2)
+command_adds at s (SetMode full) lines s' r knows says =
+    one_adds at s (SetMode full) lines says.0 s' r says.1
+    (mode_adds at s (SetMode full) full says.0 s' r knows says.2)

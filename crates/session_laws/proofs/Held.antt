@@ -7,7 +7,7 @@ use Rattle.std.proofs.lemmas.Bool.Decides.{eqb_tells}
 use Rattle.gem_meaning.specs.lock_table.Locks.{LockSet, holding_cmp, holding, kind_held, after_held, after_dropped}
 use Rattle.gem_meaning.specs.lock_table.declared.lock.LockKind.{LockKind}
 use Rattle.gem_meaning.proofs.lock_table_lemmas.Changes.{held_this, held_others, dropped_this, dropped_others, left_others}
-use Rattle.gem_meaning.specs.declared.event.What.TheVariants.{Placed, Held, Dropped, Left}
+use Rattle.gem_meaning.specs.declared.event.What.TheVariants.{Placed, Held, Dropped, Left, Checked, Halted}
 use Rattle.gem_meaning.specs.Opened.{Opened}
 use Rattle.gem_meaning.specs.Events.{Event, Standing, after_event, after_events, events_of, OthersCame}
 use Rattle.history_laws.proofs.Views.{after_more}
@@ -103,6 +103,8 @@ held_event o s (author, Dropped object) session oid apart =
     dropped_others s.locks author object session oid (λ same. absurd (apart (sym same)))
 held_event o s (author, Left) session oid apart =
     left_others s.locks author oid session oid (λ same. apart (sym same))
+held_event o s (author, Checked) session oid apart = refl
+held_event o s (author, Halted number entry) session oid apart = refl
 
 held_from : (o : Opened) (s : Standing) (others : List Event) (session oid : ℕ)
     → events_of session others ≡ []

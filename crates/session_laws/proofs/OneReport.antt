@@ -16,7 +16,7 @@ use Rattle.gem_meaning.specs.State.{SessionState, first_transaction}
 use Rattle.gem_meaning.specs.Session.{SaysOf, Says, until_logout, reply_with, not_logged_in}
 use Rattle.gem_meaning.specs.Serial.{IsOfScript}
 use Rattle.gem_meaning.specs.gem_replies.declared.reply.RunBook.{RunBook}
-use Rattle.gem_meaning.specs.Legal.{AreTranscripts, IsLegal, HadMemory, NeverShort, events_before, IsTurn, AreInTurn}
+use Rattle.gem_meaning.specs.Legal.{AreTranscripts, IsLegal, WasServed, AlwaysServed, events_before, IsTurn, AreInTurn}
 use Rattle.history_laws.proofs.Turns.{all_take, all_weaker, IsOf, AreOf, own_are_of, none_are_of, all_before, none_before}
 use Rattle.session_laws.proofs.Own.{of_both, came_others}
 use Rattle.session_laws.proofs.Replay.{number_after, Replay, replay_commands, replay_login, replay_session, transcript_of, ReplayOfAll, replay_sessions, replay, told_by, book_by}
@@ -39,14 +39,14 @@ all_taken session es n are none =
 of_user : (user : Option ℕ) (t : Told) (es : List Event) (session point view : ℕ)
     (cs : List Command) (rs : List Reply) → take point t.events ≡ es
     → AreOf session (drop point t.events) → view ≡ number_after t.opened es
-    → AllByRecursion HadMemory rs → SaysOf user t session point view cs rs
+    → AllByRecursion WasServed rs → SaysOf user t session point view cs rs
     → IsSessionReplay t.events rs (replay_login user t.opened es session cs)
 of_user (Some user) t es session point view cs rs front are view_is had says =
     let first : ℕ → SessionState = first_transaction session user in
     let said : IsCommandsReplay t point says.end says.replies
     (replay_commands t.opened 1 (take point t.events) (first view) cs) =
     commands_are t 1 point says.end (first view) cs says.replies are refl
-    (subst (AllByRecursion HadMemory) says.login had).1 says.says in
+    (subst (AllByRecursion WasServed) says.login had).1 says.says in
     let same : replay_commands t.opened 1 (take point t.events) (first view) cs
     ≡ replay_commands t.opened 1 es (first (number_after t.opened es)) cs =
     ap₂ (λ (seen : List Event) (v : ℕ). replay_commands t.opened 1 seen (first v) cs)
@@ -106,7 +106,7 @@ saw_the_first session es own point are saw came =
 -- A session says what its replay gives, where its login saw the events before it, and all later
 -- events are its own.
 session_is : (o : Opened) (es own : List Event) (session : ℕ) (script : SessionCommands)
-    (rs : List Reply) → AreOf session own → AllByRecursion HadMemory rs
+    (rs : List Reply) → AreOf session own → AllByRecursion WasServed rs
     → Says (record { opened = o; events = es ++ own }) session (length es) script rs
     → IsSessionReplay (es ++ own) rs (replay_session o es session script)
 session_is o es own session script rs are had says =
@@ -123,7 +123,7 @@ session_is o es own session script rs are had says =
 
 -- One session's turn.
 turn_is : (t : Told) (session : ℕ) (script : SessionCommands) (transcript : Transcript)
-    → IsTurn t session script transcript → AllByRecursion HadMemory transcript.replies
+    → IsTurn t session script transcript → AllByRecursion WasServed transcript.replies
     → IsSessionReplay (events_before (session + 1) t.events) transcript.replies
     (replay_session t.opened (events_before session t.events) session script)
 turn_is t session script transcript turn had =
@@ -155,7 +155,7 @@ record IsReplayOfAll (events : List Event) (ts : List Transcript) (r : ReplayOfA
 
 sessions_are : (t : Told) (session : ℕ) (scripts : List SessionCommands) (ts : List Transcript)
     → AreTranscripts t session scripts ts → AreInTurn t session scripts ts
-    → AllByRecursion (λ transcript. AllByRecursion HadMemory transcript.replies) ts
+    → AllByRecursion (λ transcript. AllByRecursion WasServed transcript.replies) ts
     → IsReplayOfAll (events_before (session + length scripts) t.events) ts
     (replay_sessions t.opened (events_before session t.events) session scripts)
 sessions_are t session [] [] are turns had = record {
@@ -209,7 +209,7 @@ book_is book o r first base transcripts history =
 
 -- A legal run is the replay of its script.
 is_replay : (t : Told) (book : RunBook) → IsLegal t book
-    → AreInTurn t 1 t.opened.script book.transcripts → NeverShort book
+    → AreInTurn t 1 t.opened.script book.transcripts → AlwaysServed book
     → (t ≡ told_by t.opened (replay t.opened)) × (book ≡ book_by t.opened (replay t.opened))
 is_replay t book legal turns had =
     let o : Opened = t.opened in
@@ -230,7 +230,7 @@ is_replay t book legal turns had =
 
 pub one_report : (t t' : Told) (book book' : RunBook) → t.opened ≡ t'.opened
     → IsLegal t book → IsLegal t' book' → AreInTurn t 1 t.opened.script book.transcripts
-    → AreInTurn t' 1 t'.opened.script book'.transcripts → NeverShort book → NeverShort book'
+    → AreInTurn t' 1 t'.opened.script book'.transcripts → AlwaysServed book → AlwaysServed book'
     → (t ≡ t') × (book ≡ book')
 one_report t t' book book' same legal legal' turns turns' had had' =
     let one = is_replay t book legal turns had in

@@ -2,10 +2,7 @@
 use Rattle.std.proofs.Common.{◌≡◌, ℕ, ◌==◌, List, [], ◌∷◌, ◌++◌, take, drop, refl, sym, ap, ◌∙◌, append-nil, append_assoc, eq-eqb, take-append-drop}
 use Rattle.std.proofs.lemmas.Bool.{cond-true}
 use Rattle.std.proofs.lemmas.List.Elements.{filter-append}
-use Rattle.gem_meaning.specs.gem_record.declared.record.Entry.{Entry}
-use Rattle.gem_meaning.specs.lock_table.declared.lock.LockKind.{LockKind}
 use Rattle.gem_meaning.specs.declared.event.What.{What}
-use Rattle.gem_meaning.specs.declared.event.What.TheVariants.{Placed, Held, Dropped, Left}
 use Rattle.gem_meaning.specs.Events.{Event, events_of, OthersCame}
 
 -- the session's events in two lists are those in both together
@@ -57,13 +54,3 @@ own_event session before more what =
     ∙ of_both session (before ++ event ∷ []) more
     ∙ ap (λ xs. xs ++ events_of session more) (of_own session before what)
     ∙ append_assoc (events_of session before) (event ∷ []) (events_of session more)
-
--- what is no commit
-pub held_apart : (oid : ℕ) (kind : LockKind) (e : Entry) → Held oid kind ≡ Placed e → ⊥
-held_apart oid kind e is = cc
-
-pub dropped_apart : (oid : ℕ) (e : Entry) → Dropped oid ≡ Placed e → ⊥
-dropped_apart oid e is = cc
-
-pub left_apart : (e : Entry) → Left ≡ Placed e → ⊥
-left_apart e is = cc

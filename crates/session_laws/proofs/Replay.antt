@@ -1,28 +1,30 @@
 -- What sessions reply and which events they make where each is alone in its turn, as a function of
 -- the image and the script. A legal run in which the sessions took turns, and none was short of
--- memory, is this one.
+-- memory or met a failure of the disk, is this one.
 use Rattle.std.specs.Prelude.{ℕ, ◌+◌, Bool, true, false, nat_lt, List, [], ◌∷◌, ◌++◌, length, Option, Some, None, is_some}
 use Rattle.std.specs.FinMap.{len}
 use Rattle.gem_meaning.specs.gem_value.declared.conflict.Conflict.{Conflict}
+use Rattle.gem_meaning.specs.gem_record.declared.limits.TheConstants.{LOG_LIMIT, PAGE_LIMIT}
 use Rattle.gem_meaning.specs.lock_table.LockKind.{kind_granted}
 use Rattle.gem_meaning.specs.lock_table.Locks.{kind_held, denied_for, after_left}
 use Rattle.gem_meaning.specs.lock_table.declared.lock.LockKind.{LockKind}
 use Rattle.gem_meaning.specs.gem_language.Commands.{Command as ObjectCommand}
 use Rattle.gem_meaning.specs.gem_replies.declared.reply.Line.{Line}
-use Rattle.gem_meaning.specs.gem_replies.declared.reply.Line.TheVariants.{NoUser, Login, Unchanged, Refused, Committed, Aborted, Denied, Locked, NotHeld, Unlocked, Logout as LoggedOut}
+use Rattle.gem_meaning.specs.gem_replies.declared.reply.Line.TheVariants.{NoUser, Login, Unchanged, Refused, Committed, Aborted, Denied, Locked, NotHeld, Unlocked, Logout as LoggedOut, Halted, LogFull, ExtentFull, Checkpoint as CheckpointLine, Mode as ModeLine}
 use Rattle.gem_meaning.specs.gem_replies.declared.reply.Reply.{Reply}
 use Rattle.gem_meaning.specs.gem_replies.declared.reply.Transcript.{Transcript}
 use Rattle.gem_meaning.specs.shell_words.Script.{SessionCommands}
 use Rattle.gem_meaning.specs.shell_words.declared.script.Command.{Command}
-use Rattle.gem_meaning.specs.shell_words.declared.script.Command.TheVariants.{Chunk, Method, Commit, Abort, Logout, Lock, Unlock}
-use Rattle.gem_meaning.specs.declared.event.What.TheVariants.{Placed, Held, Dropped}
-use Rattle.gem_meaning.specs.Commands.{object_command}
+use Rattle.gem_meaning.specs.shell_words.declared.script.Command.TheVariants.{Chunk, Method, Commit, Abort, Logout, Lock, Unlock, Checkpoint, Mode}
+use Rattle.gem_meaning.specs.declared.event.What.TheVariants.{Placed, Held, Dropped, Checked}
+use Rattle.gem_meaning.specs.Commands.{object_command, mode_of}
 use Rattle.gem_meaning.specs.Opened.{Opened, base_serial}
 use Rattle.gem_meaning.specs.Names.{user_in}
-use Rattle.gem_meaning.specs.Events.{Event, Told, Standing, after_events, entries_of}
+use Rattle.gem_meaning.specs.Events.{Event, Told, Standing, after_events, entries_of, halts_in}
+use Rattle.gem_meaning.specs.After.{log_after, pages_after}
 use Rattle.gem_meaning.specs.State.{SessionState, first_transaction, next_transaction, entry_to, run_so_far, record_to}
 use Rattle.gem_meaning.specs.Runs.{setting_of, lines_in, next_in}
-use Rattle.gem_meaning.specs.Commits.{conflicts_found}
+use Rattle.gem_meaning.specs.Commits.{conflicts_found, size_found}
 use Rattle.gem_meaning.specs.Locks.{Target, replies as by_itself, asks, unlock_target, lock_target, kind_asked, is_clean, leaving}
 use Rattle.gem_meaning.specs.Session.{reply_with, replies_with, until_logout, not_logged_in}
 use Rattle.gem_meaning.specs.gem_replies.declared.reply.RunBook.{RunBook}
@@ -58,6 +60,27 @@ nothing_in [] [] = true
 nothing_in [] (y ∷ ys) = false
 nothing_in (x ∷ xs) ys = false
 
+-- where the disk had failed that is replied, or else this comes
+abbrev pub unless_halted : List ℕ → List Event → SessionState → CommandReplay → CommandReplay
+unless_halted [] es s r = r
+unless_halted (number ∷ more) es s r = replay_plain (Halted number) es s
+
+-- whether the log is too full for the transaction to this command
+abbrev pub is_too_long : Opened → ℕ → List Event → SessionState → Bool
+is_too_long o number es s = nat_lt LOG_LIMIT (log_after o es + size_found o es number s)
+
+-- a commit without conflicts, by whether the log is too full for it
+abbrev pub replay_placed : Bool → Opened → ℕ → List Event → SessionState → CommandReplay
+replay_placed true o number es s =
+    replay_plain (LogFull (log_after o es) (size_found o es number s)) es s
+replay_placed false o number es s =
+    let after : List Event = es ++ (s.session, Placed (entry_to number s)) ∷ [] in
+    record {
+      lines = Committed (number_after o es + 1) (number_after o after) ∷ [];
+      next = next_transaction s (number_after o after) number;
+      events = after;
+    }
+
 -- a commit, by whether nothing has changed, and by the conflicts
 abbrev pub replay_by : Bool → List Conflict → Opened → ℕ → List Event → SessionState
     → CommandReplay
@@ -67,13 +90,7 @@ replay_by true found o number es s = record {
   events = es;
 }
 replay_by false (conflict ∷ more) o number es s = replay_plain (Refused (conflict ∷ more)) es s
-replay_by false [] o number es s =
-    let after : List Event = es ++ (s.session, Placed (entry_to number s)) ∷ [] in
-    record {
-      lines = Committed (number_after o es + 1) (number_after o after) ∷ [];
-      next = next_transaction s (number_after o after) number;
-      events = after;
-    }
+replay_by false [] o number es s = replay_placed (is_too_long o number es s) o number es s
 
 -- whether the record of the transaction to this command has no change
 abbrev pub nothing_done : Opened → ℕ → List Event → SessionState → Bool
@@ -81,13 +98,38 @@ nothing_done o number es s =
     nothing_in (record_to o es number s).written (record_to o es number s).updates
 
 abbrev pub replay_commit : Opened → ℕ → List Event → SessionState → CommandReplay
-replay_commit o number es s =
-    replay_by (nothing_done o number es s) (conflicts_found o es number s) o number es s
+replay_commit o number es s = unless_halted (halts_in es) es s
+    (replay_by (nothing_done o number es s) (conflicts_found o es number s) o number es s)
 
 abbrev pub replay_abort : Opened → ℕ → List Event → SessionState → CommandReplay
 replay_abort o number es s = record {
   lines = Aborted (number_after o es) ∷ [];
   next = next_transaction s (number_after o es) number;
+  events = es;
+}
+
+-- whether a checkpoint takes too many pages
+abbrev pub is_too_large : Opened → List Event → Bool
+is_too_large o es = nat_lt PAGE_LIMIT (pages_after o es)
+
+-- a checkpoint, by whether it takes too many pages
+abbrev pub replay_checked : Bool → Opened → List Event → SessionState → CommandReplay
+replay_checked true o es s = replay_plain (ExtentFull (pages_after o es)) es s
+replay_checked false o es s = record {
+  lines = CheckpointLine (number_after o es) ∷ [];
+  next = s;
+  events = es ++ (s.session, Checked) ∷ [];
+}
+
+abbrev pub replay_check : Opened → List Event → SessionState → CommandReplay
+replay_check o es s =
+    unless_halted (halts_in es) es s (replay_checked (is_too_large o es) o es s)
+
+-- a line that sets the mode
+abbrev pub replay_mode : (full : Bool) → List Event → SessionState → CommandReplay
+replay_mode full es s = record {
+  lines = ModeLine full ∷ [];
+  next = record s { mode = mode_of full };
   events = es;
 }
 
@@ -161,6 +203,8 @@ replay_command o number es s (Lock write name) =
 replay_command o number es s (Unlock name) =
     replay_target (unlock_target name (setting_of o es s) (run_so_far o es number s).world)
     (replay_unlock o es s) es s
+replay_command o number es s Checkpoint = replay_check o es s
+replay_command o number es s (Mode full) = replay_mode full es s
 
 -- Replies, and the events then.
 pub record Replay : Type 0 where

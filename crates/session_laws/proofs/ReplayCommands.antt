@@ -1,30 +1,34 @@
--- A session whose events alone come, and which is never short of memory, says what the replay says.
-use Rattle.std.proofs.Common.{◌≡◌, ◌≢◌, ◌↔◌, inl, inr, ◌∙◌, refl, sym, ap, ap₂, subst, ℕ, ◌+◌, ◌-◌, ◌≤◌, Bool, true, false, true≢false, IsTrue, is_some, Option, Some, None, List, [], ◌∷◌, ◌++◌, take, drop, append-nil, arith, ltb-true, ltb-false, add-sub_of_le, drop-drop, take-add}
+-- A session whose events alone come, and which is never short of memory and meets no failure of the
+-- disk, says what the replay says.
+use Rattle.std.proofs.Common.{◌≡◌, ◌≢◌, ◌↔◌, inl, inr, ◌∙◌, refl, sym, ap, ap₂, subst, ℕ, ◌+◌, ◌-◌, ◌≤◌, ◌<◌, Bool, nat_lt, true, false, true≢false, IsTrue, is_some, Option, Some, None, List, [], ◌∷◌, ◌++◌, take, drop, append-nil, arith, ltb-true, ltb-false, add-sub_of_le, drop-drop, take-add}
 use Rattle.std.specs.List.{AllByRecursion}
 use Rattle.std.specs.FinMap.{len}
 use Rattle.gem_meaning.specs.gem_value.declared.conflict.Conflict.{Conflict}
+use Rattle.gem_meaning.specs.gem_record.declared.limits.TheConstants.{LOG_LIMIT, PAGE_LIMIT}
 use Rattle.gem_meaning.specs.gem_world.World.{Setting, World}
 use Rattle.gem_meaning.specs.gem_language.Commands.{Command as ObjectCommand, run_chunk, install_method}
 use Rattle.gem_meaning.specs.lock_table.Locks.{kind_held, denied_for, after_left}
 use Rattle.gem_meaning.specs.lock_table.declared.lock.LockKind.{LockKind}
 use Rattle.gem_meaning.proofs.lock_table_lemmas.Counts.{left_fewer, left_none}
 use Rattle.gem_meaning.specs.gem_replies.declared.reply.Line.{Line}
-use Rattle.gem_meaning.specs.gem_replies.declared.reply.Line.TheVariants.{NoMemory, Spoiled, Unchanged, Refused, Committed, Aborted, Denied, Locked, NotHeld, Unlocked, Logout as LoggedOut}
+use Rattle.gem_meaning.specs.gem_replies.declared.reply.Line.TheVariants.{NoMemory, Spoiled, Halted, Unchanged, Refused, LogFull, DiskFault, Committed, Aborted, Denied, Locked, NotHeld, Unlocked, ExtentFull, Checkpoint, Logout as LoggedOut}
 use Rattle.gem_meaning.specs.gem_replies.declared.reply.Reply.{Reply}
 use Rattle.gem_meaning.specs.shell_words.declared.script.Command.{Command}
-use Rattle.gem_meaning.specs.shell_words.declared.script.Command.TheVariants.{Chunk, Method, Commit, Abort, Logout, Lock, Unlock}
-use Rattle.gem_meaning.specs.declared.event.What.TheVariants.{Placed, Held, Dropped, Left}
+use Rattle.gem_meaning.specs.shell_words.declared.script.Command.TheVariants.{Chunk, Method, Commit, Abort, Logout, Lock, Unlock, Checkpoint as Store, Mode as SetMode}
+use Rattle.gem_meaning.specs.declared.event.What.TheVariants.{Placed, Held, Dropped, Left, Checked}
 use Rattle.gem_meaning.specs.Effect.{IsUnchanged}
-use Rattle.gem_meaning.specs.Events.{Event, Told, Standing, after_events, events_of}
+use Rattle.gem_meaning.specs.Events.{Event, Told, Standing, after_events, events_of, halts_in, IsRunning, HasHaltedAt}
+use Rattle.gem_meaning.specs.After.{log_after, pages_after}
 use Rattle.gem_meaning.specs.Serial.{HoldsSome}
 use Rattle.gem_meaning.specs.State.{SessionState, CommandPlace, place_between, next_transaction, entry_to, record_to}
 use Rattle.gem_meaning.specs.Runs.{setting_of, world_so_far, ObjectSays}
-use Rattle.gem_meaning.specs.Commits.{CommitReply, AbortReply, HasChanged, conflicts_found}
+use Rattle.gem_meaning.specs.Commits.{CommitReply, AbortReply, HasChanged, conflicts_found, IsClear, size_found, MayCommit}
+use Rattle.gem_meaning.specs.Checkpoints.{MayCheck, CheckReply}
 use Rattle.gem_meaning.specs.Locks.{Target, replies as by_itself, asks, lock_target, unlock_target, IsTarget, so_far, spoiled as of_spoiled, is_clean, LockGranted, LockOutcome, UnlockOutcome, TargetReply, kind_asked, leaving, LogsOut}
-use Rattle.gem_meaning.specs.Session.{CommandSays, CommandsSay, replies_with}
-use Rattle.gem_meaning.specs.Legal.{HadMemory}
+use Rattle.gem_meaning.specs.Session.{ModeReply, CommandSays, CommandsSay, replies_with}
+use Rattle.gem_meaning.specs.Legal.{WasServed}
 use Rattle.history_laws.proofs.Turns.{all_front, all_back, all_take, all_drop, IsOf, AreOf, OwnCame, nothing_came, one_came}
-use Rattle.session_laws.proofs.Replay.{number_after, CommandReplay, replay_plain, replay_run, nothing_in, replay_by, nothing_done, replay_commit, replay_abort, replay_target, kind_then, replay_asked, replay_lock, replay_given, replay_unlock, takes_locks, replay_logout, replay_command, Replay, with_replies, replay_commands}
+use Rattle.session_laws.proofs.Replay.{number_after, CommandReplay, replay_plain, replay_run, nothing_in, unless_halted, is_too_long, replay_placed, replay_by, nothing_done, replay_commit, replay_abort, is_too_large, replay_checked, replay_check, replay_mode, replay_target, kind_then, replay_asked, replay_lock, replay_given, replay_unlock, takes_locks, replay_logout, replay_command, Replay, with_replies, replay_commands}
 
 -- What came of a command is this, and the session has had memory.
 pub record IsCommandReplay (at : CommandPlace) (s : SessionState) (lines : List Line)
@@ -94,15 +98,45 @@ something_is [] [] some = absurd (some refl refl)
 something_is [] (y ∷ ys) some = refl
 something_is (x ∷ xs) ys some = refl
 
--- what the commit is replayed as
+-- where the disk hasn't failed what comes is what comes then
+running_is : (at : CommandPlace) (s : SessionState) (line : Line) (next : SessionState)
+    (r : CommandReplay) → IsRunning at.before → IsCommandReplay at s (line ∷ []) next r
+    → IsCommandReplay at s (line ∷ []) next (unless_halted (halts_in at.before) at.before s r)
+running_is at s line next r running is =
+    subst (λ (halts : List ℕ). IsCommandReplay at s (line ∷ []) next
+    (unless_halted halts at.before s r)) (sym running) is
+
+-- where it has, that is replied
+halted_is : (at : CommandPlace) (s : SessionState) (number : ℕ) (next : SessionState)
+    (r : CommandReplay) → s.spoiled ≡ false → at.after ≡ at.before → HasHaltedAt at.after number
+    → next ≡ s → IsCommandReplay at s (Halted number ∷ []) next
+    (unless_halted (halts_in at.before) at.before s r)
+halted_is at s number next r clean same halted stays =
+    subst (λ (halts : List ℕ). IsCommandReplay at s (Halted number ∷ []) next
+    (unless_halted halts at.before s r))
+    (sym (subst (λ (es : List Event). HasHaltedAt es number) same halted))
+    (plain_is at s (Halted number) (Halted number) next clean refl same stays)
+
+too_much : (limit sum : ℕ) (b : Bool) → nat_lt limit sum ≡ b → limit < sum → b ≡ true
+too_much limit sum true is over = refl
+too_much limit sum false is over = absurd (omega (arith, ltb-false limit sum is, over))
+
+not_too_much : (limit sum : ℕ) (b : Bool) → nat_lt limit sum ≡ b → sum ≤ limit → b ≡ false
+not_too_much limit sum true is fits = absurd (omega (arith, ltb-true limit sum is, fits))
+not_too_much limit sum false is fits = refl
+
+-- what the commit is replayed as, where the disk hasn't failed
 abbrev by_these : CommandPlace → SessionState → Bool → List Conflict → CommandReplay
 by_these at s nothing found = replay_by nothing found at.opened at.number at.before s
+
+abbrev IsCommitReplay : CommandPlace → SessionState → Line → SessionState → Type 0
+IsCommitReplay at s line next =
+    IsCommandReplay at s (line ∷ []) next (replay_commit at.opened at.number at.before s)
 
 -- nothing was changed
 unchanged_is : (at : CommandPlace) (s : SessionState) (number view : ℕ) (next : SessionState)
     → OwnCame s.session at.before at.after → CommitReply at s (Unchanged number view) next
-    → IsCommandReplay at s (Unchanged number view ∷ []) next
-    (replay_commit at.opened at.number at.before s)
+    → IsCommitReplay at s (Unchanged number view) next
 unchanged_is at s number view next own says =
     let same : at.after ≡ at.before =
     nothing_came s.session at.before at.after own says.2.0 in
@@ -110,7 +144,9 @@ unchanged_is at s number view next own says =
     says.2.1 ∙ ap (number_after at.opened) same in
     let here : IsUnchanged (record_to at.opened at.before at.number s) =
     subst (λ (es : List Event). IsUnchanged (record_to at.opened es at.number s)) same says.3 in
-    subst (λ (b : Bool). IsCommandReplay at s (Unchanged number view ∷ []) next
+    running_is at s (Unchanged number view) next (by_these at s (nothing_done at.opened at.number at.before s)
+    (conflicts_found at.opened at.before at.number s)) says.5
+    (subst (λ (b : Bool). IsCommandReplay at s (Unchanged number view ∷ []) next
     (by_these at s b (conflicts_found at.opened at.before at.number s)))
     (sym (nothing_is (record_to at.opened at.before at.number s).written
     (record_to at.opened at.before at.number s).updates here.unwritten here.not_updated))
@@ -120,7 +156,7 @@ unchanged_is at s number view next own says =
       events_are = same;
       session_is = ap (λ (n : SessionState). n.session) says.4;
       unspoiled = ap (λ (n : SessionState). n.spoiled) says.4;
-    })
+    }))
 
 -- something was changed
 changed_is : (at : CommandPlace) (s : SessionState) → HasChanged at.opened at.before at.number s
@@ -130,6 +166,19 @@ changed_is at s changed =
     (record_to at.opened at.before at.number s).updates
     (λ unwritten not_updated.
     changed (record { unwritten = unwritten; not_updated = not_updated }))
+
+-- what comes where something was changed, by the conflicts that were found
+by_found : (at : CommandPlace) (s : SessionState) (line : Line) (next : SessionState)
+    → IsRunning at.before → HasChanged at.opened at.before at.number s
+    → IsCommandReplay at s (line ∷ []) next
+    (by_these at s false (conflicts_found at.opened at.before at.number s))
+    → IsCommitReplay at s line next
+by_found at s line next running changed is =
+    running_is at s line next (by_these at s (nothing_done at.opened at.number at.before s)
+    (conflicts_found at.opened at.before at.number s)) running
+    (subst (λ (b : Bool). IsCommandReplay at s (line ∷ []) next
+    (by_these at s b (conflicts_found at.opened at.before at.number s)))
+    (sym (changed_is at s changed)) is)
 
 -- conflicts were found
 found_is : (at : CommandPlace) (s : SessionState) (found : List Conflict) (next : SessionState)
@@ -143,24 +192,51 @@ found_is at s found next clean same some stays (x ∷ xs) is =
 
 refused_is : (at : CommandPlace) (s : SessionState) (found : List Conflict) (next : SessionState)
     → OwnCame s.session at.before at.after → CommitReply at s (Refused found) next
-    → IsCommandReplay at s (Refused found ∷ []) next
-    (replay_commit at.opened at.number at.before s)
+    → IsCommitReplay at s (Refused found) next
 refused_is at s found next own says =
     let same : at.after ≡ at.before =
     nothing_came s.session at.before at.after own says.1 in
     let these : found ≡ conflicts_found at.opened at.before at.number s =
     says.4 ∙ ap (λ (es : List Event). conflicts_found at.opened es at.number s) same in
-    subst (λ (b : Bool). IsCommandReplay at s (Refused found ∷ []) next
-    (by_these at s b (conflicts_found at.opened at.before at.number s)))
-    (sym (changed_is at s
-    (subst (λ (es : List Event). HasChanged at.opened es at.number s) same says.2)))
+    by_found at s (Refused found) next (subst IsRunning same says.6)
+    (subst (λ (es : List Event). HasChanged at.opened es at.number s) same says.2)
     (found_is at s found next says.0 same says.3 says.5
     (conflicts_found at.opened at.before at.number s) these)
 
+-- what comes where there is no conflict, by whether the log is too full
+by_room : (at : CommandPlace) (s : SessionState) (line : Line) (next : SessionState) (full : Bool)
+    → IsClear at.opened at.before at.number s → is_too_long at.opened at.number at.before s ≡ full
+    → IsCommandReplay at s (line ∷ []) next (replay_placed full at.opened at.number at.before s)
+    → IsCommitReplay at s line next
+by_room at s line next full clear is comes =
+    by_found at s line next clear.running clear.changed
+    (subst (λ (found : List Conflict). IsCommandReplay at s (line ∷ []) next (by_these at s false found))
+    (sym clear.no_conflict)
+    (subst (λ (b : Bool). IsCommandReplay at s (line ∷ []) next
+    (replay_placed b at.opened at.number at.before s)) (sym is) comes))
+
+full_is : (at : CommandPlace) (s : SessionState) (length size : ℕ) (next : SessionState)
+    → OwnCame s.session at.before at.after → CommitReply at s (LogFull length size) next
+    → IsCommitReplay at s (LogFull length size) next
+full_is at s length size next own says =
+    let full = says.1 in
+    let same : at.after ≡ at.before =
+    nothing_came s.session at.before at.after own full.came in
+    let length_is : length ≡ log_after at.opened at.before =
+    full.length_is ∙ ap (log_after at.opened) same in
+    let size_is : size ≡ size_found at.opened at.before at.number s =
+    full.size_is ∙ ap (λ (es : List Event). size_found at.opened es at.number s) same in
+    let over = full.over in
+    by_room at s (LogFull length size) next true
+    (subst (λ (es : List Event). IsClear at.opened es at.number s) same full.clear)
+    (too_much LOG_LIMIT (log_after at.opened at.before + size_found at.opened at.before at.number s) _ refl
+    (omega (arith, length_is, size_is, over)))
+    (plain_is at s (LogFull (log_after at.opened at.before) (size_found at.opened at.before at.number s))
+    (LogFull length size) next says.0 (ap₂ (λ (l k : ℕ). LogFull l k) length_is size_is) same says.2)
+
 committed_is : (at : CommandPlace) (s : SessionState) (number view : ℕ) (next : SessionState)
     → OwnCame s.session at.before at.after → CommitReply at s (Committed number view) next
-    → IsCommandReplay at s (Committed number view ∷ []) next
-    (replay_commit at.opened at.number at.before s)
+    → IsCommitReplay at s (Committed number view) next
 committed_is at s number view next own says =
     let placed = says.1 in
     let sees = placed.sees in
@@ -171,16 +247,13 @@ committed_is at s number view next own says =
     sees.0.1 sees.0.2 in
     let here : at.before ++ placed.others ≡ at.before =
     ap (λ (others : List Event). at.before ++ others) came.0 ∙ append-nil at.before in
+    let may : MayCommit at.opened at.before at.number s =
+    subst (λ (es : List Event). MayCommit at.opened es at.number s) here placed.may in
     let view_is : view ≡ number_after at.opened after =
     sees.1 ∙ ap (number_after at.opened) came.1 in
-    subst (λ (b : Bool). IsCommandReplay at s (Committed number view ∷ []) next
-    (by_these at s b (conflicts_found at.opened at.before at.number s)))
-    (sym (changed_is at s
-    (subst (λ (es : List Event). HasChanged at.opened es at.number s) here placed.changed)))
-    (subst (λ (found : List Conflict). IsCommandReplay at s (Committed number view ∷ []) next
-    (by_these at s false found))
-    (sym (subst (λ (es : List Event). conflicts_found at.opened es at.number s ≡ []) here
-    placed.no_conflict))
+    by_room at s (Committed number view) next false may.clear
+    (not_too_much LOG_LIMIT (log_after at.opened at.before + size_found at.opened at.before at.number s) _ refl
+    may.fits)
     (record {
       lines_are = ap₂ (λ (n v : ℕ). Committed n v ∷ [])
           (placed.number_is ∙ ap (λ (es : List Event). number_after at.opened es + 1) here) view_is;
@@ -188,20 +261,27 @@ committed_is at s number view next own says =
       events_are = came.1;
       session_is = ap (λ (n : SessionState). n.session) says.2;
       unspoiled = ap (λ (n : SessionState). n.spoiled) says.2;
-    }))
+    })
 
 commit_is : (at : CommandPlace) (s : SessionState) (line : Line) (next : SessionState)
-    → OwnCame s.session at.before at.after → s.spoiled ≡ false → line ≢ NoMemory
-    → CommitReply at s line next
-    → IsCommandReplay at s (line ∷ []) next (replay_commit at.opened at.number at.before s)
-commit_is at s NoMemory next own clean had says = absurd (had refl)
-commit_is at s Spoiled next own clean had says = absurd (true≢false (sym says.0 ∙ clean))
-commit_is at s (Unchanged number view) next own clean had says =
+    → OwnCame s.session at.before at.after → s.spoiled ≡ false → line ≢ NoMemory → line ≢ DiskFault
+    → CommitReply at s line next → IsCommitReplay at s line next
+commit_is at s NoMemory next own clean had worked says = absurd (had refl)
+commit_is at s DiskFault next own clean had worked says = absurd (worked refl)
+commit_is at s Spoiled next own clean had worked says = absurd (true≢false (sym says.0 ∙ clean))
+commit_is at s (Halted number) next own clean had worked says =
+    halted_is at s number next (by_these at s (nothing_done at.opened at.number at.before s)
+    (conflicts_found at.opened at.before at.number s)) clean
+    (nothing_came s.session at.before at.after own says.1) says.2 says.3
+commit_is at s (Unchanged number view) next own clean had worked says =
     unchanged_is at s number view next own says
-commit_is at s (Refused found) next own clean had says = refused_is at s found next own says
-commit_is at s (Committed number view) next own clean had says =
+commit_is at s (Refused found) next own clean had worked says =
+    refused_is at s found next own says
+commit_is at s (LogFull length size) next own clean had worked says =
+    full_is at s length size next own says
+commit_is at s (Committed number view) next own clean had worked says =
     committed_is at s number view next own says
-commit_is at s _ next own clean had says = absurd says
+commit_is at s _ next own clean had worked says = absurd says
 
 -- ---- locks
 
@@ -321,6 +401,69 @@ module _ (at : CommandPlace) (s next : SessionState) (own : OwnCame s.session at
       plain_is at s reply line next clean says.0 says.1 stays
   asked_is Answer asked answered (asks oid) line had says = answered oid line had says
 
+-- ---- checkpoints and modes
+
+-- what comes of a checkpoint where the disk hasn't failed, by whether it takes too many pages
+by_pages : (at : CommandPlace) (s : SessionState) (line : Line) (next : SessionState) (full : Bool)
+    → IsRunning at.before → is_too_large at.opened at.before ≡ full
+    → IsCommandReplay at s (line ∷ []) next (replay_checked full at.opened at.before s)
+    → IsCommandReplay at s (line ∷ []) next (replay_check at.opened at.before s)
+by_pages at s line next full running is comes =
+    running_is at s line next (replay_checked (is_too_large at.opened at.before) at.opened at.before s)
+    running
+    (subst (λ (b : Bool). IsCommandReplay at s (line ∷ []) next
+    (replay_checked b at.opened at.before s)) (sym is) comes)
+
+check_is : (at : CommandPlace) (s : SessionState) (line : Line) (next : SessionState)
+    → OwnCame s.session at.before at.after → s.spoiled ≡ false → line ≢ NoMemory → line ≢ DiskFault
+    → CheckReply at s line next
+    → IsCommandReplay at s (line ∷ []) next (replay_check at.opened at.before s)
+check_is at s NoMemory next own clean had worked says = absurd (had refl)
+check_is at s DiskFault next own clean had worked says = absurd (worked refl)
+check_is at s (Halted number) next own clean had worked says =
+    halted_is at s number next
+    (replay_checked (is_too_large at.opened at.before) at.opened at.before s) clean
+    (nothing_came s.session at.before at.after own says.0) says.1 says.2
+check_is at s (ExtentFull pages) next own clean had worked says =
+    let full = says.0 in
+    let same : at.after ≡ at.before =
+    nothing_came s.session at.before at.after own full.came in
+    let pages_are : pages ≡ pages_after at.opened at.before =
+    full.pages_are ∙ ap (pages_after at.opened) same in
+    let over = full.over in
+    by_pages at s (ExtentFull pages) next true (subst IsRunning same full.running)
+    (too_much PAGE_LIMIT (pages_after at.opened at.before) _ refl (omega (arith, pages_are, over)))
+    (plain_is at s (ExtentFull (pages_after at.opened at.before)) (ExtentFull pages) next clean
+    (ap ExtentFull pages_are) same says.1)
+check_is at s (Checkpoint number) next own clean had worked says =
+    let ended = says.0 in
+    let came = own_event s.session at.before at.after ended.others (s.session, Checked) own
+    ended.are_others ended.after in
+    let may : MayCheck at.opened at.before =
+    subst (λ (es : List Event). MayCheck at.opened es) came.0 ended.may in
+    by_pages at s (Checkpoint number) next false may.running
+    (not_too_much PAGE_LIMIT (pages_after at.opened at.before) _ refl may.fits)
+    (record {
+      lines_are = ap (λ (n : ℕ). Checkpoint n ∷ [])
+          (ended.number_is ∙ ap (number_after at.opened) came.0);
+      next_is = says.1;
+      events_are = came.1;
+      session_is = ap (λ (n : SessionState). n.session) says.1;
+      unspoiled = ap (λ (n : SessionState). n.spoiled) says.1 ∙ clean;
+    })
+check_is at s _ next own clean had worked says = absurd says
+
+mode_is : (at : CommandPlace) (s : SessionState) (full : Bool) (line : Line) (next : SessionState)
+    → s.spoiled ≡ false → ModeReply at s full line next
+    → IsCommandReplay at s (line ∷ []) next (replay_mode full at.before s)
+mode_is at s full line next clean says = record {
+  lines_are = ap (λ (l : Line). l ∷ []) says.0;
+  next_is = says.2;
+  events_are = says.1;
+  session_is = ap (λ (n : SessionState). n.session) says.2;
+  unspoiled = ap (λ (n : SessionState). n.spoiled) says.2 ∙ clean;
+}
+
 -- ---- the end of a session
 
 -- a session that holds nothing holds no object
@@ -384,10 +527,14 @@ logout_is at s line next own clean is out stays =
 
 -- ---- any command
 
--- the one reply isn't that there was no memory
-one_had : (lines : List Line) (line : Line) → lines ≡ line ∷ [] → lines ≢ NoMemory ∷ []
-    → line ≢ NoMemory
-one_had lines line one had is = had (one ∙ ap (λ (l : Line). l ∷ []) is)
+-- the one reply isn't this one, where the replies aren't
+one_other : (this : Line) (lines : List Line) (line : Line) → lines ≡ line ∷ [] → lines ≢ this ∷ []
+    → line ≢ this
+one_other this lines line one other is = other (one ∙ ap (λ (l : Line). l ∷ []) is)
+
+-- the replies aren't that there was no memory, nor that the disk failed
+abbrev WereServed : List Line → Type 0
+WereServed lines = (lines ≢ NoMemory ∷ []) × (lines ≢ DiskFault ∷ [])
 
 -- what came of a command with one line, by the list of its lines
 by_line : (at : CommandPlace) (s : SessionState) (lines : List Line) (line : Line)
@@ -398,15 +545,16 @@ by_line at s lines line next r one is =
 
 command_is : (at : CommandPlace) (s : SessionState) (c : Command) (lines : List Line)
     (next : SessionState) → OwnCame s.session at.before at.after
-    → s.spoiled ≡ false → lines ≢ NoMemory ∷ [] → CommandSays at s c lines next
+    → s.spoiled ≡ false → WereServed lines → CommandSays at s c lines next
     → IsCommandReplay at s lines next (replay_command at.opened at.number at.before s c)
 command_is at s (Chunk prints text) lines next own clean had says =
-    run_is (run_chunk prints text) at s lines next clean had says.0 says.1
+    run_is (run_chunk prints text) at s lines next clean had.0 says.0 says.1
 command_is at s (Method class_side class text) lines next own clean had says =
-    run_is (install_method class_side class text) at s lines next clean had says.0 says.1
+    run_is (install_method class_side class text) at s lines next clean had.0 says.0 says.1
 command_is at s Commit lines next own clean had says =
     by_line at s lines says.0 next (replay_commit at.opened at.number at.before s) says.1
-    (commit_is at s says.0 next own clean (one_had lines says.0 says.1 had) says.2)
+    (commit_is at s says.0 next own clean (one_other NoMemory lines says.0 says.1 had.0)
+    (one_other DiskFault lines says.0 says.1 had.1) says.2)
 command_is at s Abort lines next own clean had says =
     by_line at s lines says.0 next (replay_abort at.opened at.number at.before s) says.1
     (abort_is at s says.0 next own says.2)
@@ -423,7 +571,7 @@ command_is at s (Lock write name) lines next own clean had says =
     (target_is (lock_target asked name) at s reply.target clean reply.is_target)
     (asked_is at s next own clean reply.stays (LockOutcome at s asked)
     (replay_lock at.opened at.before s asked) (lock_is at s next own clean reply.stays asked)
-    reply.target says.0 (one_had lines says.0 says.1 had) reply.reply))
+    reply.target says.0 (one_other NoMemory lines says.0 says.1 had.0) reply.reply))
 command_is at s (Unlock name) lines next own clean had says =
     let reply = says.2 in
     by_line at s lines says.0 next
@@ -433,7 +581,14 @@ command_is at s (Unlock name) lines next own clean had says =
     (target_is (unlock_target name) at s reply.target clean reply.is_target)
     (asked_is at s next own clean reply.stays (UnlockOutcome at s)
     (replay_unlock at.opened at.before s) (unlock_is at s next own clean reply.stays)
-    reply.target says.0 (one_had lines says.0 says.1 had) reply.reply))
+    reply.target says.0 (one_other NoMemory lines says.0 says.1 had.0) reply.reply))
+command_is at s Store lines next own clean had says =
+    by_line at s lines says.0 next (replay_check at.opened at.before s) says.1
+    (check_is at s says.0 next own clean (one_other NoMemory lines says.0 says.1 had.0)
+    (one_other DiskFault lines says.0 says.1 had.1) says.2)
+command_is at s (SetMode full) lines next own clean had says =
+    by_line at s lines says.0 next (replay_mode full at.before s) says.1
+    (mode_is at s full says.0 next clean says.2)
 
 -- What came of commands is what the replay of them gives, up to this point of all events.
 pub record IsCommandsReplay (t : Told) (p q : ℕ) (rs : List Reply) (r : Replay) : Type 0 where
@@ -459,11 +614,11 @@ own_later session es p q from are =
 
 -- the lines of one command's replies
 lines_had : (number : ℕ) (lines : List Line) (more : List Reply)
-    → AllByRecursion HadMemory (replies_with number lines ++ more) → lines ≢ NoMemory ∷ []
-lines_had number lines more had short =
-    let all : AllByRecursion HadMemory (replies_with number lines) =
-    all_front HadMemory (replies_with number lines) more had in
-    (rw short at all).0 refl
+    → AllByRecursion WasServed (replies_with number lines ++ more) → WereServed lines
+lines_had number lines more had =
+    let all : AllByRecursion WasServed (replies_with number lines) =
+    all_front WasServed (replies_with number lines) more had in
+    (λ short. (rw short at all).0.0 refl, λ fault. (rw fault at all).0.1 refl)
 
 -- one command, and then those after it
 one_more : (t : Told) (at : CommandPlace) (p q point : ℕ) (s : SessionState) (lines : List Line)
@@ -488,7 +643,7 @@ one_more t at p q point s lines rs more next cs r from are one rest =
 -- A session's commands, from a point on after which all events are its own.
 pub commands_are : (t : Told) (number p q : ℕ) (s : SessionState) (cs : List Command)
     (rs : List Reply) → AreOf s.session (drop p t.events)
-    → s.spoiled ≡ false → AllByRecursion HadMemory rs
+    → s.spoiled ≡ false → AllByRecursion WasServed rs
     → CommandsSay t number p q s cs rs
     → IsCommandsReplay t p q rs (replay_commands t.opened number (take p t.events) s cs)
 commands_are t number p q s [] rs are clean had says = record {
@@ -498,8 +653,8 @@ commands_are t number p q s [] rs are clean had says = record {
 }
 commands_are t number p q s (c ∷ cs) rs are clean had says =
     let at : CommandPlace = place_between t number p says.point in
-    let had_here : AllByRecursion HadMemory (replies_with number says.lines ++ says.more) =
-    subst (AllByRecursion HadMemory) says.replies had in
+    let had_here : AllByRecursion WasServed (replies_with number says.lines ++ says.more) =
+    subst (AllByRecursion WasServed) says.replies had in
     let one : IsCommandReplay at s says.lines says.next
     (replay_command t.opened number (take p t.events) s c) =
     command_is at s c says.lines says.next
@@ -511,4 +666,4 @@ commands_are t number p q s (c ∷ cs) rs are clean had says =
     one_more t at p q says.point s says.lines rs says.more says.next cs
     (replay_command t.opened number (take p t.events) s c) says.from says.replies one
     (commands_are t (number + 1) says.point q says.next cs says.more later one.unspoiled
-    (all_back HadMemory (replies_with number says.lines) says.more had_here) says.rest)
+    (all_back WasServed (replies_with number says.lines) says.more had_here) says.rest)

@@ -1,5 +1,5 @@
 -- What a session has said so far, by what its transaction does on its view.
-use Rattle.std.proofs.Common.{◌≡◌, ◌≢◌, ◌⊎◌, inl, inr, ◌∙◌, refl, sym, ap, subst, ℕ, ◌+◌, ◌-◌, ◌≤◌, ◌<◌, zero, suc, true, false, true≢false, Option, Some, None, List, [], ◌∷◌, ◌++◌, length, take, drop, arith}
+use Rattle.std.proofs.Common.{◌≡◌, ◌≢◌, ◌⊎◌, inl, inr, ◌∙◌, refl, sym, ap, subst, ℕ, ◌+◌, ◌-◌, ◌≤◌, ◌<◌, zero, suc, Bool, true, false, true≢false, Option, Some, None, List, [], ◌∷◌, ◌++◌, length, take, drop, arith}
 use Rattle.std.specs.List.{slice_get, cons_option}
 use Rattle.std.proofs.lemmas.Bool.{cases_lt}
 use Rattle.std.proofs.lemmas.Option.{none-some, same_Some, slice_get_within, get_or_from_slice_get}
@@ -7,23 +7,25 @@ use Rattle.std.proofs.lemmas.List.{take-append-drop, take-take, take_more, drop-
 use Rattle.std.proofs.lemmas.List.Elements.{filter_map-append}
 use Rattle.gem_meaning.specs.gem_image.Image.{Image}
 use Rattle.gem_meaning.specs.gem_record.declared.record.Entry.{Entry}
+use Rattle.gem_meaning.specs.gem_record.declared.mode.Mode.{Mode}
 use Rattle.gem_meaning.specs.gem_world.World.{Setting, World, untouched}
 use Rattle.gem_meaning.specs.gem_language.Commands.{Command as ObjectCommand, run_chunk, install_method}
 use Rattle.gem_meaning.specs.gem_language.Transaction.{Said, Transaction, transaction, said_of, command_outcome, after_both}
 use Rattle.gem_meaning.proofs.gem_language_lemmas.Lists.{goes_on as run_goes_on}
 use Rattle.gem_meaning.specs.gem_replies.declared.reply.Line.{Line}
-use Rattle.gem_meaning.specs.gem_replies.declared.reply.Line.TheVariants.{NoMemory, Login, Spoiled, Unchanged, Refused, Committed, Aborted}
+use Rattle.gem_meaning.specs.gem_replies.declared.reply.Line.TheVariants.{NoMemory, Login, Spoiled, Halted, Unchanged, Refused, LogFull, DiskFault, Committed, Aborted, ExtentFull, Checkpoint}
 use Rattle.gem_meaning.specs.gem_replies.declared.reply.Reply.{Reply}
 use Rattle.gem_meaning.specs.shell_words.declared.script.Command.{Command}
-use Rattle.gem_meaning.specs.shell_words.declared.script.Command.TheVariants.{Chunk, Method, Commit, Abort, Logout, Lock, Unlock}
-use Rattle.gem_meaning.specs.Commands.{object_command, object_commands}
+use Rattle.gem_meaning.specs.shell_words.declared.script.Command.TheVariants.{Chunk, Method, Commit, Abort, Logout, Lock, Unlock, Checkpoint as Store, Mode as SetMode}
+use Rattle.gem_meaning.specs.Commands.{object_command, object_commands, mode_of}
 use Rattle.gem_meaning.specs.Lines.{said_lines}
 use Rattle.gem_meaning.specs.Opened.{commands_of, entry_commands, entry_setting, run_at}
 use Rattle.gem_meaning.specs.Events.{Event, Told, image_at, run_on_view, after_events, standing}
 use Rattle.gem_meaning.specs.State.{SessionState, CommandPlace, place_between, entry_to, first_transaction, next_transaction, run_so_far}
 use Rattle.gem_meaning.specs.Runs.{setting_of, world_so_far, ObjectSays, lines_in, next_in}
 use Rattle.gem_meaning.specs.Commits.{CommitReply, AbortReply}
-use Rattle.gem_meaning.specs.Session.{CommandSays, reply_with, replies_with}
+use Rattle.gem_meaning.specs.Checkpoints.{CheckReply}
+use Rattle.gem_meaning.specs.Session.{CommandSays, ModeReply, reply_with, replies_with}
 use Rattle.gem_meaning.specs.Claims.{lines_of}
 use Rattle.history_laws.proofs.Views.{views_stay, number_stays}
 use Rattle.session_laws.specs.Places.{runs_before}
@@ -113,10 +115,11 @@ AsMeant at s c lines = s.spoiled ≡ false → (command : ObjectCommand)
     → object_command c ≡ Some command
     → lines ≡ lines_in command (setting_of at.opened at.before s) (world_so_far at s)
 
--- the transaction goes on with what it carried, but for the name that is drawn next
+-- the transaction goes on with what it carried, but for the name that is drawn next, and the mode
 record Continues (s s' : SessionState) : Type 0 where
   next_name : ℕ
-  is : s' ≡ record s { next_name = next_name }
+  mode : Mode
+  is : s' ≡ record s { next_name = next_name; mode = mode }
 
 -- As it was, where the lines of a chunk or a method are what it means; or spoiled; or with the next
 -- transaction, at the view that stands.
@@ -138,25 +141,37 @@ said_goes command at s c lines s' is (inl short) = is_spoiled s'.next_name short
 said_goes command at s c lines s' is (inr (inl meant)) =
     as_meant (record {
       next_name = next_in command (setting_of at.opened at.before s) (world_so_far at s);
+      mode = s.mode;
       is = meant.state;
     }) (λ clean other other_is.
     meant.lines_are ∙ ap (λ (x : ObjectCommand). lines_in x (setting_of at.opened at.before s)
     (world_so_far at s)) (same_command command other (sym is ∙ other_is)))
 said_goes command at s c lines s' is (inr (inr meant)) =
-    as_meant (record { next_name = s'.next_name; is = meant.state })
+    as_meant (record { next_name = s'.next_name; mode = s.mode; is = meant.state })
     (λ clean. absurd (true≢false (sym meant.spoiled ∙ clean)))
 
 -- the same state
 stays_so : (at : CommandPlace) (s : SessionState) (c : Command) (lines : List Line)
     (s' : SessionState) → object_command c ≡ None → s' ≡ s → GoesOn at s c lines s'
 stays_so at s c lines s' none is =
-    as_meant (record { next_name = s.next_name; is = is }) (λ clean command some. absurd (none-some command (sym none ∙ some)))
+    as_meant (record { next_name = s.next_name; mode = s.mode; is = is })
+    (λ clean command some. absurd (none-some command (sym none ∙ some)))
+
+-- the same state, in another mode
+mode_goes : (at : CommandPlace) (s : SessionState) (full : Bool) (line : Line) (lines : List Line)
+    (s' : SessionState) → ModeReply at s full line s' → GoesOn at s (SetMode full) lines s'
+mode_goes at s full line lines s' says =
+    as_meant (record { next_name = s.next_name; mode = mode_of full; is = says.2 })
+    (λ clean command some. absurd (none-some command some))
 
 commit_goes : (at : CommandPlace) (s : SessionState) (line : Line) (lines : List Line)
     (s' : SessionState) → CommitReply at s line s' → GoesOn at s Commit lines s'
 commit_goes at s Spoiled lines s' says = stays_so at s Commit lines s' refl says.2
 commit_goes at s NoMemory lines s' says = stays_so at s Commit lines s' refl says.2
 commit_goes at s (Refused found) lines s' says = stays_so at s Commit lines s' refl says.5
+commit_goes at s (Halted number) lines s' says = stays_so at s Commit lines s' refl says.3
+commit_goes at s (LogFull size most) lines s' says = stays_so at s Commit lines s' refl says.2
+commit_goes at s DiskFault lines s' says = stays_so at s Commit lines s' refl says.2
 commit_goes at s (Unchanged number view) lines s' says = begins view says.4 says.2.1
 commit_goes at s (Committed number view) lines s' says = begins view says.2 says.1.sees.1
 commit_goes at s _ lines s' says = absurd says
@@ -165,6 +180,15 @@ abort_goes : (at : CommandPlace) (s : SessionState) (line : Line) (lines : List 
     (s' : SessionState) → AbortReply at s line s' → GoesOn at s Abort lines s'
 abort_goes at s (Aborted view) lines s' says = begins view says.1 says.0.1
 abort_goes at s _ lines s' says = absurd says
+
+check_goes : (at : CommandPlace) (s : SessionState) (line : Line) (lines : List Line)
+    (s' : SessionState) → CheckReply at s line s' → GoesOn at s Store lines s'
+check_goes at s NoMemory lines s' says = stays_so at s Store lines s' refl says.1
+check_goes at s (Halted number) lines s' says = stays_so at s Store lines s' refl says.2
+check_goes at s (ExtentFull pages) lines s' says = stays_so at s Store lines s' refl says.1
+check_goes at s DiskFault lines s' says = stays_so at s Store lines s' refl says.1
+check_goes at s (Checkpoint number) lines s' says = stays_so at s Store lines s' refl says.1
+check_goes at s _ lines s' says = absurd says
 
 goes_on : (at : CommandPlace) (s : SessionState) (c : Command) (lines : List Line)
     (s' : SessionState) → CommandSays at s c lines s' → GoesOn at s c lines s'
@@ -179,6 +203,8 @@ goes_on at s Logout lines s' says = stays_so at s Logout lines s' refl says.2.2
 goes_on at s (Lock write name) lines s' says =
     stays_so at s (Lock write name) lines s' refl says.2.stays
 goes_on at s (Unlock name) lines s' says = stays_so at s (Unlock name) lines s' refl says.2.stays
+goes_on at s Store lines s' says = check_goes at s says.0 lines s' says.2
+goes_on at s (SetMode full) lines s' says = mode_goes at s full says.0 lines s' says.2
 
 -- ---- what was said
 
@@ -336,9 +362,9 @@ module _ (t : Told) (number p q : ℕ) (s : SessionState) (c : Command) (said : 
   abbrev said_then : List Reply
   said_then = said ++ replies_with number lines
 
-  more_as_meant : (next_name : ℕ) → AsMeant (place_between t number p q) s c lines
-      → SaidSoFar t (number + 1) q (record s { next_name = next_name }) said_then
-  more_as_meant next_name meant = record {
+  more_as_meant : (next_name : ℕ) (mode : Mode) → AsMeant (place_between t number p q) s c lines
+      → SaidSoFar t (number + 1) q (record s { next_name = next_name; mode = mode }) said_then
+  more_as_meant next_name mode meant = record {
     first_from = so.first_from;
     first_to = let to = so.first_to in omega (arith, to);
     view_from = so.view_from;
@@ -346,8 +372,10 @@ module _ (t : Told) (number p q : ℕ) (s : SessionState) (c : Command) (said : 
     earlier = earlier_more number said lines so.earlier;
     printed = λ clean.
         let one : number ≡ number + 1 - 1 = omega arith in
-        subst (λ (last : ℕ). ArePrinted t last (record s { next_name = next_name }) said_then) one
-        (printed_more t number p s c said so is lines clean meant);
+        subst (λ (last : ℕ). ArePrinted t last (record s { next_name = next_name; mode = mode }) said_then) one
+        (λ n d command from to here some.
+        let old = printed_more t number p s c said so is lines clean meant n d command from to here some in
+        record { here = old.here; is = old.is; lines = old.lines });
   }
 
   more_spoiled : (next_name : ℕ)
@@ -376,7 +404,7 @@ module _ (t : Told) (number p q : ℕ) (s : SessionState) (c : Command) (said : 
       → SaidSoFar t (number + 1) q s' said_then
   more_goes s' (as_meant continues meant) =
       subst (λ (next : SessionState). SaidSoFar t (number + 1) q next said_then) (sym continues.is)
-      (more_as_meant continues.next_name meant)
+      (more_as_meant continues.next_name continues.mode meant)
   more_goes s' (is_spoiled next_name state) =
       subst (λ (next : SessionState). SaidSoFar t (number + 1) q next said_then) (sym state)
       (more_spoiled next_name)

@@ -3,12 +3,14 @@ ghost use Rattle.std.specs.Prelude.{◌≡◌, ◌-◌, ◌^◌, pos, neg_ℤ};
 ghost use Rattle.gem_meaning.specs.texts.declared.integers.TheConstants.{INTEGER_LIMIT, SMALLEST_INTEGER, LARGEST_INTEGER};
 ghost use Rattle.gem_meaning.specs.texts.declared.limits.TheConstants.{SYMBOL_LIMIT, USER_LIMIT};
 ghost use Rattle.gem_meaning.specs.shell_words.declared.limits.TheConstants.{SCRIPT_LIMIT, SESSION_LIMIT, COMMAND_LIMIT, CHUNK_LIMIT};
+ghost use Rattle.gem_meaning.specs.gem_record.declared.limits.TheConstants.{LOG_LIMIT, PAGE_LIMIT};
 ghost use Rattle.gem_meaning.specs.st_grammar.declared.limits.TheConstants.{DEPTH_LIMIT};
 ghost use Rattle.gem_meaning.specs.object_programs.declared.limits.TheConstants.{UNIT_LIMIT, SPACE_LIMIT, SLOTS_LIMIT, BYTES_LIMIT, TRANSCRIPT_LIMIT, COUNTER_LIMIT, ACTIVATION_LIMIT, GROUPS_LIMIT, PRINT_LIMIT};
 ghost use Rattle.gem_meaning.specs.gem_sound.declared.limits.TheConstants.{NAMES_LIMIT};
 ghost use Rattle.gem_meaning.specs.gem_sound.declared.names.TheConstants.{KERNEL_SERIAL, OBJECT_CLASS, CLASS_CLASS, UNDEFINED_OBJECT_CLASS, BOOLEAN_CLASS, TRUE_CLASS, FALSE_CLASS, MAGNITUDE_CLASS, CHARACTER_CLASS, SMALL_INTEGER_CLASS, BLOCK_CLASS, COLLECTION_CLASS, SEQUENCEABLE_COLLECTION_CLASS, ARRAY_CLASS, ORDERED_COLLECTION_CLASS, STRING_CLASS, SYMBOL_CLASS, IDENTITY_DICTIONARY_CLASS, SYMBOL_DICTIONARY_CLASS, RC_COUNTER_CLASS, RC_IDENTITY_BAG_CLASS, RC_KEY_VALUE_DICTIONARY_CLASS, RC_QUEUE_CLASS, SEGMENT_CLASS, USER_PROFILE_CLASS, SYSTEM_CLASS, TRANSCRIPT_STREAM_CLASS, GLOBALS, ALL_USERS, SYSTEM_SEGMENT, DATA_CURATOR_SEGMENT, SYSTEM_USER, DATA_CURATOR, SYSTEM_USER_GLOBALS, DATA_CURATOR_GLOBALS, TRANSCRIPT};
 
-/// The limits of scripts, of texts, of what a chunk may use and of what an object may hold.
+/// The limits of scripts, of texts, of what a chunk may use, of what an object may hold and of what
+/// may be stored.
 pub fn limits_are()
     ensures smallest_integer { SMALLEST_INTEGER ≡ neg_ℤ (pos (2 ^ 60)) }
     ensures largest_integer { LARGEST_INTEGER ≡ pos (2 ^ 60 - 1) }
@@ -27,6 +29,8 @@ pub fn limits_are()
     ensures print_text { PRINT_LIMIT ≡ 65536 }
     ensures slots { SLOTS_LIMIT ≡ 65000 }
     ensures bytes { BYTES_LIMIT ≡ 1048576 }
+    ensures log { LOG_LIMIT ≡ 67108864 }
+    ensures pages { PAGE_LIMIT ≡ 262144 }
     ensures counters { COUNTER_LIMIT ≡ 2 ^ 24 }
     ensures names { NAMES_LIMIT ≡ 200 }
     ensures groups { GROUPS_LIMIT ≡ 100 }

@@ -8,14 +8,14 @@ ghost use Rattle.gem_meaning.specs.shell_words.declared.script.Command.{Command}
 ghost use Rattle.gem_meaning.specs.gem_record.declared.record.Entry.{Entry};
 ghost use Rattle.gem_meaning.specs.gem_replies.declared.reply.Reply.{Reply};
 ghost use Rattle.gem_meaning.specs.gem_replies.declared.reply.Transcript.{Transcript};
-ghost use Rattle.gem_meaning.specs.declared.event.What.TheVariants.{Placed};
+ghost use Rattle.gem_meaning.specs.declared.event.What.{What};
 ghost use Rattle.gem_meaning.specs.Commands.{is_run};
 ghost use Rattle.gem_meaning.specs.Lines.{said_lines};
 ghost use Rattle.gem_meaning.specs.Opened.{commands_of};
-ghost use Rattle.gem_meaning.specs.Events.{Event, Told, told_more, run_at_place, after_events, events_of};
+ghost use Rattle.gem_meaning.specs.Events.{Event, Told, told_more, run_at_place, after_events, entry_in, events_of};
 ghost use Rattle.gem_meaning.specs.Session.{Says};
 ghost use Rattle.gem_meaning.specs.gem_replies.declared.reply.RunBook.{RunBook};
-ghost use Rattle.gem_meaning.specs.Legal.{IsLegal, NeverShort, AreInTurn};
+ghost use Rattle.gem_meaning.specs.Legal.{IsLegal, AlwaysServed, AreInTurn};
 ghost use Rattle.gem_meaning.specs.Claims.{claimed_by, claims_of, lines_of};
 ghost use Rattle.session_laws.specs.Places.{runs_before};
 
@@ -36,11 +36,12 @@ pub fn claimed_once()
 {}
 
 /// What a transcript replies to a chunk or a method of a placed transaction is what that command
-/// says when the transaction is run at its place.
+/// says when the transaction is run at its place. The same holds of the transaction at whose commit
+/// the disk failed, as if it had been placed there.
 pub fn printed_at_place()
-    ensures { (t : Told) (book : RunBook) (before more : List Event) (session : ℕ) (e : Entry)
-        (transcript : Transcript) (n : ℕ) (c : Command) → IsLegal t book →
-        t.events ≡ before ++ (session, Placed e) ∷ more →
+    ensures { (t : Told) (book : RunBook) (before more : List Event) (session : ℕ) (what : What)
+        (e : Entry) (transcript : Transcript) (n : ℕ) (c : Command) → IsLegal t book →
+        t.events ≡ before ++ (session, what) ∷ more → entry_in what ≡ Some e →
         slice_get book.transcripts (session - 1) ≡ Some transcript →
         e.first_command ≤ n → n < e.last_command →
         slice_get (commands_of t.opened.script session) (n - 1) ≡ Some c → is_run c ≡ true →
@@ -50,11 +51,12 @@ pub fn printed_at_place()
 {}
 
 /// Two legal runs of one script over one opened image, in which the sessions took turns and none
-/// was short of memory, have the same events and the same book, and so the same report.
+/// was short of memory or met a failure of the disk, have the same events and the same book, and so
+/// the same report.
 pub fn one_report()
     ensures { (t t' : Told) (book book' : RunBook) → t.opened ≡ t'.opened →
         IsLegal t book → IsLegal t' book' →
         AreInTurn t 1 t.opened.script book.transcripts →
         AreInTurn t' 1 t'.opened.script book'.transcripts →
-        NeverShort book → NeverShort book' → (t ≡ t') × (book ≡ book') }
+        AlwaysServed book → AlwaysServed book' → (t ≡ t') × (book ≡ book') }
 {}

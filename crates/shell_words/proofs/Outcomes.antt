@@ -12,7 +12,7 @@ use Rattle.shell_words.specs.ScriptGrammar.{BeginsSession, SaysCommand, BeginsCh
 use Rattle.shell_words.specs.Reading.{command_of, LineSays, SaysNothing}
 use Rattle.shell_words.proofs.LineFronts.{one_part}
 use Rattle.shell_words.specs.declared.script.Command.{Command}
-use Rattle.shell_words.specs.declared.script.Command.TheVariants.{Chunk, Method, Commit, Abort, Logout, Lock, Unlock}
+use Rattle.shell_words.specs.declared.script.Command.TheVariants.{Chunk, Method, Commit, Abort, Logout, Lock, Unlock, Checkpoint, Mode}
 use Rattle.shell_words.specs.declared.table.Opening.{Opening}
 use Rattle.shell_words.specs.declared.table.Opening.TheVariants.{Chunk as OfChunk, Method as OfMethod}
 use Rattle.shell_words.specs.declared.table.ScriptLine.{ScriptLine}
@@ -33,14 +33,18 @@ line_with (w ∷ []) =
     (cond (same w (codes "run")) (Some (Opens (OfChunk false)))
     (cond (same w (codes "commit")) (Some (Orders Commit))
     (cond (same w (codes "abort")) (Some (Orders Abort))
-    (cond (same w (codes "logout")) (Some (Orders Logout)) None))))
+    (cond (same w (codes "logout")) (Some (Orders Logout))
+    (cond (same w (codes "checkpoint")) (Some (Orders Checkpoint)) None)))))
 line_with (w ∷ n ∷ []) =
     cond (same w (codes "session")) (cond (same n []) None (Some (Session n)))
+    (cond (same w (codes "mode"))
+    (cond (same n (codes "full_checks")) (Some (Orders (Mode true)))
+    (cond (same n (codes "no_rw_checks")) (Some (Orders (Mode false))) None))
     (cond (is_name n)
     (cond (same w (codes "classmethod:")) (Some (Opens (OfMethod true n)))
     (cond (same w (codes "method:")) (Some (Opens (OfMethod false n)))
     (cond (same w (codes "unlock")) (Some (Orders (Unlock n))) None)))
-    None)
+    None))
 line_with (w ∷ m ∷ n ∷ []) =
     cond (same w (codes "lock")) (cond (is_name n)
     (cond (same m (codes "write")) (Some (Orders (Lock true n)))
@@ -90,6 +94,9 @@ says_line line (Orders Logout) says = rw says refl
 says_line line (Orders (Lock true name)) says = rw (says.0, says.1) refl
 says_line line (Orders (Lock false name)) says = rw (says.0, says.1) refl
 says_line line (Orders (Unlock name)) says = rw (says.0, says.1) refl
+says_line line (Orders Checkpoint) says = rw says refl
+says_line line (Orders (Mode true)) says = rw says refl
+says_line line (Orders (Mode false)) says = rw says refl
 
 pub none_says : (line : Bytes) → line_with (line_words line) ≡ None → (x : ScriptLine) → LineSays line x → ⊥
 none_says line none x says = some_not_none x (sym (says_line line x says) ∙ none)
@@ -106,6 +113,8 @@ opening_of line text Abort says = absurd says
 opening_of line text Logout says = absurd says
 opening_of line text (Lock write name) says = absurd says
 opening_of line text (Unlock name) says = absurd says
+opening_of line text Checkpoint says = absurd says
+opening_of line text (Mode full) says = absurd says
 
 pub opening_in : (line : Bytes) → IsChunkLine line → (opening : Opening) × LineSays line (Opens opening)
 opening_in line is = let found = opening_of line is.0 is.1 is.2 in (found.0, found.1)
@@ -135,34 +144,52 @@ says_some (b ∷ bs) x says = refl
 unfoldable pub Decision : Bytes → Type 0
 Decision line = ((x : ScriptLine) × LineSays line x) ⊎ (line_with (line_words line) ≡ None)
 
-one_word : (line w : Bytes) → line_words line ≡ w ∷ [] → (a b c d e : Bool) → same w (codes "printit") ≡ a → same w (codes "run") ≡ b
-    → same w (codes "commit") ≡ c → same w (codes "abort") ≡ d → same w (codes "logout") ≡ e → Decision line
+one_word : (line w : Bytes) → line_words line ≡ w ∷ [] → (a b c d e f : Bool) → same w (codes "printit") ≡ a → same w (codes "run") ≡ b
+    → same w (codes "commit") ≡ c → same w (codes "abort") ≡ d → same w (codes "logout") ≡ e
+    → same w (codes "checkpoint") ≡ f → Decision line
 unfolding Decision
-one_word line w is true b c d e p q r s t = inl (Opens (OfChunk true), (is ∙ ap (λ v. v ∷ []) (same-true w (codes "printit") p), refl))
-one_word line w is false true c d e p q r s t = inl (Opens (OfChunk false), (is ∙ ap (λ v. v ∷ []) (same-true w (codes "run") q), refl))
-one_word line w is false false true d e p q r s t = inl (Orders Commit, is ∙ ap (λ v. v ∷ []) (same-true w (codes "commit") r))
-one_word line w is false false false true e p q r s t = inl (Orders Abort, is ∙ ap (λ v. v ∷ []) (same-true w (codes "abort") s))
-one_word line w is false false false false true p q r s t = inl (Orders Logout, is ∙ ap (λ v. v ∷ []) (same-true w (codes "logout") t))
-one_word line w is false false false false false p q r s t = inr ((ap line_with is ∙ rw (p, q, r, s, t) refl))
+one_word line w is true b c d e f p q r s t u = inl (Opens (OfChunk true), (is ∙ ap (λ v. v ∷ []) (same-true w (codes "printit") p), refl))
+one_word line w is false true c d e f p q r s t u = inl (Opens (OfChunk false), (is ∙ ap (λ v. v ∷ []) (same-true w (codes "run") q), refl))
+one_word line w is false false true d e f p q r s t u = inl (Orders Commit, is ∙ ap (λ v. v ∷ []) (same-true w (codes "commit") r))
+one_word line w is false false false true e f p q r s t u = inl (Orders Abort, is ∙ ap (λ v. v ∷ []) (same-true w (codes "abort") s))
+one_word line w is false false false false true f p q r s t u = inl (Orders Logout, is ∙ ap (λ v. v ∷ []) (same-true w (codes "logout") t))
+one_word line w is false false false false false true p q r s t u = inl (Orders Checkpoint, is ∙ ap (λ v. v ∷ []) (same-true w (codes "checkpoint") u))
+one_word line w is false false false false false false p q r s t u = inr ((ap line_with is ∙ rw (p, q, r, s, t, u) refl))
 
 session_words : (line w n : Bytes) → line_words line ≡ w ∷ n ∷ [] → same w (codes "session") ≡ true → (e : Bool) → same n [] ≡ e → Decision line
 unfolding Decision
 session_words line w n is s true e = inr ((ap line_with is ∙ rw (s, e) refl))
 session_words line w n is s false e = inl (Session n, (is ∙ ap (λ v. v ∷ n ∷ []) (same-true w (codes "session") s), not_empty n e))
 
-name_words : (line w n : Bytes) → line_words line ≡ w ∷ n ∷ [] → same w (codes "session") ≡ false → (i c m u : Bool) → is_name n ≡ i
+mode_words : (line w n : Bytes) → line_words line ≡ w ∷ n ∷ [] → same w (codes "session") ≡ false → same w (codes "mode") ≡ true
+    → (a b : Bool) → same n (codes "full_checks") ≡ a → same n (codes "no_rw_checks") ≡ b → Decision line
+unfolding Decision
+mode_words line w n is s o true b p q =
+    let first = same-true w (codes "mode") o in
+    let full = same-true n (codes "full_checks") p in
+    inl (Orders (Mode true), is ∙ rw (first, full) refl)
+mode_words line w n is s o false true p q =
+    let first = same-true w (codes "mode") o in
+    let other = same-true n (codes "no_rw_checks") q in
+    inl (Orders (Mode false), is ∙ rw (first, other) refl)
+mode_words line w n is s o false false p q = inr ((ap line_with is ∙ rw (s, o, p, q) refl))
+
+name_words : (line w n : Bytes) → line_words line ≡ w ∷ n ∷ [] → same w (codes "session") ≡ false → same w (codes "mode") ≡ false
+    → (i c m u : Bool) → is_name n ≡ i
     → same w (codes "classmethod:") ≡ c → same w (codes "method:") ≡ m → same w (codes "unlock") ≡ u → Decision line
 unfolding Decision
-name_words line w n is s false c m u i p q r = inr ((ap line_with is ∙ rw (s, i) refl))
-name_words line w n is s true true m u i p q r = inl (Opens (OfMethod true n), (is ∙ ap (λ v. v ∷ n ∷ []) (same-true w (codes "classmethod:") p), i, refl))
-name_words line w n is s true false true u i p q r = inl (Opens (OfMethod false n), (is ∙ ap (λ v. v ∷ n ∷ []) (same-true w (codes "method:") q), i, refl))
-name_words line w n is s true false false true i p q r = inl (Orders (Unlock n), (is ∙ ap (λ v. v ∷ n ∷ []) (same-true w (codes "unlock") r), i))
-name_words line w n is s true false false false i p q r = inr ((ap line_with is ∙ rw (s, i, p, q, r) refl))
+name_words line w n is s o false c m u i p q r = inr ((ap line_with is ∙ rw (s, o, i) refl))
+name_words line w n is s o true true m u i p q r = inl (Opens (OfMethod true n), (is ∙ ap (λ v. v ∷ n ∷ []) (same-true w (codes "classmethod:") p), i, refl))
+name_words line w n is s o true false true u i p q r = inl (Opens (OfMethod false n), (is ∙ ap (λ v. v ∷ n ∷ []) (same-true w (codes "method:") q), i, refl))
+name_words line w n is s o true false false true i p q r = inl (Orders (Unlock n), (is ∙ ap (λ v. v ∷ n ∷ []) (same-true w (codes "unlock") r), i))
+name_words line w n is s o true false false false i p q r = inr ((ap line_with is ∙ rw (s, o, i, p, q, r) refl))
 
-two_words : (line w n : Bytes) → line_words line ≡ w ∷ n ∷ [] → (s : Bool) → same w (codes "session") ≡ s → Decision line
-two_words line w n is true s = session_words line w n is s (same n []) refl
-two_words line w n is false s =
-    name_words line w n is s (is_name n) (same w (codes "classmethod:")) (same w (codes "method:")) (same w (codes "unlock")) refl refl refl refl
+two_words : (line w n : Bytes) → line_words line ≡ w ∷ n ∷ [] → (s o : Bool) → same w (codes "session") ≡ s → same w (codes "mode") ≡ o
+    → Decision line
+two_words line w n is true o s e = session_words line w n is s (same n []) refl
+two_words line w n is false true s e = mode_words line w n is s e (same n (codes "full_checks")) (same n (codes "no_rw_checks")) refl refl
+two_words line w n is false false s e =
+    name_words line w n is s e (is_name n) (same w (codes "classmethod:")) (same w (codes "method:")) (same w (codes "unlock")) refl refl refl refl
 
 three_words : (line w m n : Bytes) → line_words line ≡ w ∷ m ∷ n ∷ [] → (l i a b : Bool) → same w (codes "lock") ≡ l → is_name n ≡ i
     → same m (codes "write") ≡ a → same m (codes "read") ≡ b → Decision line
@@ -182,8 +209,8 @@ three_words line w m n is true true false false l p q r = inr ((ap line_with is 
 with_words : (line : Bytes) (words : List Bytes) → line_words line ≡ words → Decision line
 unfolding Decision
 with_words line [] is = inr ((ap line_with is))
-with_words line (w ∷ []) is = one_word line w is _ _ _ _ _ refl refl refl refl refl
-with_words line (w ∷ n ∷ []) is = two_words line w n is _ refl
+with_words line (w ∷ []) is = one_word line w is _ _ _ _ _ _ refl refl refl refl refl refl
+with_words line (w ∷ n ∷ []) is = two_words line w n is _ _ refl refl
 with_words line (w ∷ m ∷ n ∷ []) is = three_words line w m n is _ _ _ _ refl refl refl refl
 with_words line (w ∷ m ∷ n ∷ o ∷ ws) is = inr ((ap line_with is))
 

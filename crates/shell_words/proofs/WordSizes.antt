@@ -8,7 +8,7 @@ use Rattle.shell_words.specs.Script.{HasShortText}
 use Rattle.shell_words.specs.ScriptGrammar.{SaysCommand}
 use Rattle.shell_words.specs.Reading.{command_of, LineSays}
 use Rattle.shell_words.specs.declared.script.Command.{Command}
-use Rattle.shell_words.specs.declared.script.Command.TheVariants.{Chunk, Method, Commit, Abort, Logout, Lock, Unlock}
+use Rattle.shell_words.specs.declared.script.Command.TheVariants.{Chunk, Method, Commit, Abort, Logout, Lock, Unlock, Checkpoint, Mode}
 use Rattle.shell_words.specs.declared.table.Opening.{Opening}
 use Rattle.shell_words.specs.declared.table.Opening.TheVariants.{Chunk as OfChunk, Method as OfMethod}
 use Rattle.shell_words.specs.declared.table.ScriptLine.TheVariants.{Opening as Opens}
@@ -61,6 +61,8 @@ short_command line Logout says size = tt
 short_command line (Lock true name) says size = third line _ _ name says.0 size
 short_command line (Lock false name) says size = third line _ _ name says.0 size
 short_command line (Unlock name) says size = second line _ name says.0 size
+short_command line Checkpoint says size = tt
+short_command line (Mode full) says size = tt
 
 pub short_opening : (line : Bytes) (opening : Opening) → LineSays line (Opens opening) → length line ≤ SCRIPT_LIMIT → HasShortText (command_of opening [])
 short_opening line (OfChunk true) says size = omega arith

@@ -8,7 +8,7 @@ use Rattle.shell_words.specs.Lines.{lines_of, line_words, IsInner, IsBody}
 use Rattle.texts.specs.Names.{is_name, is_user_name}
 use Rattle.shell_words.specs.Script.{SessionCommands, takes_commands, with_next_command}
 use Rattle.shell_words.specs.declared.script.Command.{Command}
-use Rattle.shell_words.specs.declared.script.Command.TheVariants.{Chunk, Method, Commit, Abort, Logout, Lock, Unlock}
+use Rattle.shell_words.specs.declared.script.Command.TheVariants.{Chunk, Method, Commit, Abort, Logout, Lock, Unlock, Checkpoint, Mode}
 
 -- the line of a session, which has a name
 abbrev pub BeginsSession : Bytes → Bytes → Type 0
@@ -25,6 +25,9 @@ SaysCommand line (Lock false name) =
     (line_words line ≡ codes "lock" ∷ codes "read" ∷ name ∷ []) × (is_name name ≡ true)
 SaysCommand line (Unlock name) =
     (line_words line ≡ codes "unlock" ∷ name ∷ []) × (is_name name ≡ true)
+SaysCommand line Checkpoint = line_words line ≡ codes "checkpoint" ∷ []
+SaysCommand line (Mode true) = line_words line ≡ codes "mode" ∷ codes "full_checks" ∷ []
+SaysCommand line (Mode false) = line_words line ≡ codes "mode" ∷ codes "no_rw_checks" ∷ []
 SaysCommand line _ = ⊥
 
 -- The line begins a chunk or a method, and with this text that is this command. There is a case for

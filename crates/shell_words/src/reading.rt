@@ -1,8 +1,9 @@
 //! The reader of scripts, line by line.
-ghost use Rattle.std.specs.Prelude.{◌≡◌, ℕ, ◌+◌, ◌<◌, ◌≤◌, true, List, [], ◌∷◌, ◌++◌, length, IsSome, None, IfSome, IfOk, IfErr, OnOk, MatchOption, MatchResult};
+ghost use Rattle.std.specs.Prelude.{◌≡◌, ℕ, ◌+◌, ◌<◌, ◌≤◌, true, List, [], ◌∷◌, ◌++◌, length, IsSome, None, IfSome, IfOk, IfErr, OnOk, IsErrOf, MatchOption, MatchResult};
 ghost use Rattle.std.specs.List.{AllByRecursion, list_all};
 ghost use Rattle.texts.specs.Bytes.{Bytes};
-ghost use Rattle.shell_words.specs.declared.limits.TheConstants.{COMMAND_LIMIT};
+ghost use Rattle.shell_words.specs.declared.limits.TheConstants.{COMMAND_LIMIT, SCRIPT_LIMIT};
+ghost use Rattle.shell_words.specs.declared.fault.ScriptFault.TheVariants.{NoMemory};
 ghost use Rattle.shell_words.specs.Lines.{lines_of};
 ghost use Rattle.texts.specs.Names.{is_user_name};
 ghost use Rattle.shell_words.specs.Script.{HasShortText, is_logout, with_next_command};
@@ -38,9 +39,11 @@ struct Reading {
 ///
 /// # Errors
 /// `Rule` exactly where the text is no script: the line and the rule that it breaks first.
-/// `NoMemory` where memory ran out.
+/// `NoMemory` where memory ran out; a text that is too long or has another byte is told in any case.
 pub fn read_script(alloc: Global, text: &[u8]) -> Result<Script, ScriptFault>
-    ensures { MatchResult result (ReadsScript text.now) (IsScriptFault text.now) }
+    ensures read { MatchResult result (ReadsScript text.now) (IsScriptFault text.now) }
+    ensures memory { IsErrOf result NoMemory → (length text.now ≤ SCRIPT_LIMIT)
+        × AllByRecursion IsPlain (lines_of text.now) }
 {
     if text.len() > SCRIPT_LIMIT {
         return Err(ScriptFault::too_long());

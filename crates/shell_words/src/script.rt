@@ -38,6 +38,13 @@ pub enum Command {
     Unlock {
         name: Text,
     },
+    /// Asks the Stone to store its image, and to begin its log anew.
+    Checkpoint,
+    /// Commits are checked for what a transaction only read, where `full` is true; otherwise they
+    /// aren't, from this transaction of the session on.
+    Mode {
+        full: bool,
+    },
 }
 
 /// What a script asks of one session: a user and the commands in order.

@@ -63,6 +63,8 @@ fn word_line(word: &[u8]) -> Option<ScriptLine>
         Some(ScriptLine::Command(Command::Abort))
     } else if word == b"logout".as_slice() {
         Some(ScriptLine::Command(Command::Logout))
+    } else if word == b"checkpoint".as_slice() {
+        Some(ScriptLine::Command(Command::Checkpoint))
     } else {
         None
     }
@@ -74,6 +76,9 @@ fn name_line(alloc: Global, word: &[u8], name: &[u8]) -> Result<Option<ScriptLin
 {
     if word == b"session".as_slice() {
         return session_line(alloc, name);
+    }
+    if word == b"mode".as_slice() {
+        return Ok(mode_line(name));
     }
     if !is_name(name) {
         return Ok(None);
@@ -104,6 +109,19 @@ fn session_line(alloc: Global, name: &[u8]) -> Result<Option<ScriptLine>, AllocE
         return Ok(None);
     }
     Ok(Some(ScriptLine::Session(Text::copy_of(alloc, name)?)))
+}
+
+fn mode_line(name: &[u8]) -> Option<ScriptLine>
+    ensures { (line : Bytes) → line_words line ≡ codes "mode" ∷ name.now ∷ []
+        → MatchOption result (SaysNothing line) (LineSays line) }
+{
+    if name == b"full_checks".as_slice() {
+        Some(ScriptLine::Command(Command::Mode { full: true }))
+    } else if name == b"no_rw_checks".as_slice() {
+        Some(ScriptLine::Command(Command::Mode { full: false }))
+    } else {
+        None
+    }
 }
 
 fn lock_line(

@@ -17,6 +17,12 @@ returns-in-Unchanged c =
     (λ words is. is ∙ four_pieces (codes "committed unchanged at ") (decimal c.in-Unchanged.at) (codes " view ") (decimal c.in-Unchanged.view) ∙ ap reply_words (sym c.in-Unchanged.is))
     c.format-in-Unchanged.ensures.ok
 
+pub returns-in-LogFull : goal.returns-in-LogFull
+returns-in-LogFull c =
+    IfOk-weaker c.format-in-LogFull.result _ _
+    (λ words is. is ∙ four_pieces (codes "log full at ") (decimal c.in-LogFull.length) (codes " by ") (decimal c.in-LogFull.size) ∙ ap reply_words (sym c.in-LogFull.is))
+    c.format-in-LogFull.ensures.ok
+
 pub returns-in-Committed : goal.returns-in-Committed
 returns-in-Committed c =
     IfOk-weaker c.format-in-Committed.result _ _
