@@ -1,2 +1,2 @@
 session DataCurator
-checkpoint
+begin

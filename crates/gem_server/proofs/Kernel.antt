@@ -1,5 +1,6 @@
--- A Stone may be opened with the kernel's image.
-use Rattle.std.proofs.Common.{◌≡◌, ℕ, ◌≤◌, List, length, Option, Some, None, IfSome, is_some, sym, ap, subst, ◌∙◌, arith}
+-- A Stone may be opened with the kernel's image; and where the count of the disk's faults is 0 none has
+-- failed.
+use Rattle.std.proofs.Common.{◌≡◌, ℕ, ◌≤◌, List, [], ◌∷◌, length, refl, Option, Some, None, IfSome, is_some, sym, ap, subst, ◌∙◌, arith, Bool}
 use Rattle.std.specs.Ordering.{nat_cmp}
 use Rattle.std.specs.FinMap.{find, get, entries, get-entries}
 use Rattle.shell_words.specs.declared.limits.TheConstants.{SESSION_LIMIT}
@@ -14,6 +15,9 @@ use Rattle.kernel_image.proofs.Unchanged.{IsUnchanged, kernel_unchanged}
 use Rattle.gem_meaning.specs.commit_check.Conflicts.{changed_of, last_change}
 use Rattle.shell_words.specs.Script.{SessionCommands}
 use Rattle.gem_meaning.specs.Opened.{largest_serial, base_serial}
+use Rattle.gem_record.specs.Stored.{Stored}
+use Rattle.gem_io.specs.Faults.{HasRisen}
+use Rattle.gem_meaning.specs.Events.{Event, halts_in, IsRunning}
 use Rattle.gem_meaning.specs.Serial.{CanServe}
 use Rattle.stone_core.proofs.Largest.{at_most}
 
@@ -33,10 +37,11 @@ unchanged : (found : Option Object) → IfSome found IsUnchanged → changed_of 
 unchanged None none = omega arith
 unchanged (Some object) is = omega (arith, is)
 
-pub can_serve : (image : Image) (script : List SessionCommands) → image ≡ kernel_image → IsImage image
-    → length script ≤ SESSION_LIMIT → CanServe (record { image = image; number = 0; script = script })
+pub can_serve : (image : Image) (script : List SessionCommands) (stored : Stored) (counts_pages : Bool) → image ≡ kernel_image → IsImage image
+    → length script ≤ SESSION_LIMIT
+    → CanServe (record { image = image; number = 0; script = script; stored = stored; counts_pages = counts_pages })
 unfolding base_serial
-can_serve image script is is_image few = record {
+can_serve image script stored counts_pages is is_image few = record {
   image = is_image;
   sound = subst IsSoundImage (sym is) kernel_is_sound;
   number = omega arith;
@@ -46,3 +51,15 @@ can_serve image script is is_image few = record {
       let none : largest_serial image ≤ 0 = subst (λ (i : Image). largest_serial i ≤ 0) (sym is) kernel_serial in
       omega (arith, none, few);
 }
+
+none_risen : HasRisen 0 0 → ⊥
+none_risen risen = omega (arith, risen)
+
+no_member : (numbers : List ℕ) → ((numbers ≡ [] → ⊥) → ⊥) → numbers ≡ []
+no_member [] not_some = refl
+no_member (number ∷ numbers) not_some =
+    absurd (not_some (λ none. omega (arith, ap length none)))
+
+-- no disk, no failure
+pub never_halted : (events : List Event) → ((IsRunning events → ⊥) → HasRisen 0 0) → IsRunning events
+never_halted events cause = no_member (halts_in events) (λ halted. none_risen (cause halted))

@@ -1,5 +1,5 @@
 -- What the end of a call of the server says.
-use Rattle.std.specs.Prelude.{◌≡◌, ℕ, ◌<◌, ◌⊎◌, codes, List, [], ◌∷◌, length, Option}
+use Rattle.std.specs.Prelude.{◌≡◌, ℕ, ◌<◌, ◌⊎◌, codes, false, List, [], ◌∷◌, length, Option, None}
 use Rattle.std.specs.Io.KnownBytes.{Consumes, Appends, IsAtEnd}
 use Rattle.gem_object.specs.texts.Bytes.{Bytes}
 use Rattle.shell_words.specs.declared.limits.TheConstants.{SCRIPT_LIMIT}
@@ -12,7 +12,7 @@ use Rattle.kernel_image.specs.Objects.{kernel_image}
 use Rattle.gem_replies.specs.Report.{report_of}
 use Rattle.gem_replies.specs.declared.reply.RunBook.{RunBook}
 use Rattle.gem_meaning.specs.Opened.{Opened}
-use Rattle.gem_meaning.specs.Events.{Event, Told}
+use Rattle.gem_meaning.specs.Events.{Event, Told, IsRunning}
 use Rattle.gem_meaning.specs.Legal.{IsLegal, AreInTurn}
 use Rattle.gem_server.specs.declared.status.Status.{Status}
 use Rattle.gem_server.specs.declared.status.Status.TheVariants.{Done, Script, WriteFault, NoMemory}
@@ -43,21 +43,29 @@ HasRun _ = ⊥
 abbrev pub IsWhole : Option Bytes → Bytes → Type 0
 IsWhole left text = IsAtEnd left ⊎ (SCRIPT_LIMIT < length text)
 
--- what the Stone is opened with: the kernel's image, and no commit
+-- what the Stone is opened with: the kernel's image and no commit, an empty log and no root; no
+-- pages are counted
 abbrev pub kernel_opening : List SessionCommands → Opened
-kernel_opening script = record { image = kernel_image; number = 0; script = script }
+kernel_opening script = record {
+  image = kernel_image;
+  number = 0;
+  script = script;
+  stored = record { log_length = 1; root = None };
+  counts_pages = false;
+}
 
 -- these events of a Stone that was opened so
 abbrev pub told_from_kernel : List SessionCommands → List Event → Told
 told_from_kernel script events = record { opened = kernel_opening script; events = events }
 
 -- The text is a script, and the events and the book are those of a legal run of it, in which the
--- sessions took turns.
+-- sessions took turns. There is no disk, so none failed.
 pub record IsRunOf (text : Bytes) (events : List Event) (book : RunBook) : Type 0 where
   pub script : List SessionCommands
   pub reads : ReadsScript text script
   pub legal : IsLegal (told_from_kernel script events) book
   pub in_turn : AreInTurn (told_from_kernel script events) 1 script book.transcripts
+  pub running : IsRunning events
 
 -- The source gave a text to its end, and the events and the book are those of a run of it.
 pub record IsRun (left left' : Option Bytes) (events : List Event) (book : RunBook) : Type 0 where

@@ -3,12 +3,14 @@ ghost use Rattle.std.specs.Prelude.{◌≡◌, ◌≤◌, ◌<◌, ◌+◌, ◌^
 ghost use Rattle.shell_words.specs.declared.limits.TheConstants.{SESSION_LIMIT};
 ghost use Rattle.kernel_image.specs.Objects.{kernel_image};
 ghost use Rattle.gem_meaning.specs.Opened.{base_serial};
-ghost use Rattle.gem_meaning.specs.Serial.{CanServe};
+ghost use Rattle.gem_meaning.specs.Events.{IsRunning, entries_of};
+ghost use Rattle.gem_meaning.specs.Serial.{CanServe, IsConsistent};
 ghost use Rattle.gem_meaning.specs.Legal.{IsLegal, AreTranscripts, AreInTurn};
 ghost use Rattle.gem_server.specs.Server.{told_from_kernel};
 
 use crate::status::Events;
 use gem_image::Image;
+use gem_keeper::MemKeeper;
 use gem_replies::{History, RunBook, Transcript, Transcripts};
 use gem_session::run_session;
 use kernel_image::kernel;
@@ -20,7 +22,7 @@ use std::snapshot::Snapshot;
 use std::sync::Arc;
 use std::sync::ledger::{Blank, Ledger};
 use std::thread::{Builder, Promise, Threads};
-use stone_core::{Stone, largest_serial};
+use stone_core::{Closed, Stone, largest_serial};
 
 // The bytes of stack of the thread in which the sessions run, which takes memory only as they are
 // used. No script was found that takes more than 20 MB; which text takes most isn't known.
@@ -36,11 +38,13 @@ struct RunsScript(Snapshot<Script>);
 impl Promise<Result<Run, AllocError>> for RunsScript {
     ghost use Rattle.std.specs.Prelude.{IfOk};
     ghost use Rattle.gem_meaning.specs.Legal.{IsLegal, AreInTurn};
+    ghost use Rattle.gem_meaning.specs.Events.{IsRunning};
     ghost use Rattle.gem_server.specs.Server.{told_from_kernel};
 
     ghost kept_by = { λ promise result. IfOk result (λ run.
         IsLegal (told_from_kernel promise.0.value run.1) run.0
-        × AreInTurn (told_from_kernel promise.0.value run.1) 1 promise.0.value run.0.transcripts) };
+        × AreInTurn (told_from_kernel promise.0.value run.1) 1 promise.0.value run.0.transcripts
+        × IsRunning run.1) };
 }
 
 // Runs the script in a thread that has stack for the deepest chunks. Where none can be started,
@@ -49,6 +53,7 @@ pub(crate) fn run<R: Threads>(rt: &R, alloc: Global, script: Script) -> Result<R
     ensures legal { IfOk result (λ run. IsLegal (told_from_kernel script run.1) run.0) }
     ensures in_turn { IfOk result
         (λ run. AreInTurn (told_from_kernel script run.1) 1 script run.0.transcripts) }
+    ensures running { IfOk result (λ run. IsRunning run.1) }
 {
     let promise = RunsScript(Snapshot::of(&script));
     let thread = Builder::new().stack_size(STACK);
@@ -64,15 +69,19 @@ fn run_here(alloc: Global, script: Script) -> Result<Run, AllocError>
     ensures legal { IfOk result (λ run. IsLegal (told_from_kernel script run.1) run.0) }
     ensures in_turn { IfOk result
         (λ run. AreInTurn (told_from_kernel script run.1) 1 script run.0.transcripts) }
+    ensures running { IfOk result (λ run. IsRunning run.1) }
 {
     let script = Arc::new(alloc, script)?;
     let sessions = script.sessions();
     let image = first_image(alloc)?;
     let base = largest_serial(&image) + 1;
     image.invariant();
-    let mut stone = Stone::start(alloc, image, 0, script.clone()?)?;
+    let shared = script.clone()?;
+    let Ok(mut stone) = Stone::start(alloc, image, 0, shared, MemKeeper::new()) else {
+        return Err(AllocError);
+    };
     let transcripts = run_sessions(alloc, &mut stone, base, sessions)?;
-    let closed = stone.close();
+    let closed = closed(stone);
     let book = RunBook {
         first: 0,
         base,
@@ -80,6 +89,16 @@ fn run_here(alloc: Global, script: Script) -> Result<Run, AllocError>
         history: History::of(closed.history),
     };
     Ok((book, Events::of(closed.events)))
+}
+
+// What a Stone in memory leaves. No disk can have failed.
+fn closed(stone: Stone<MemKeeper>) -> Closed<MemKeeper>
+    ensures events { result.events.items ≡ stone.told.events }
+    ensures history { result.history.items ≡ entries_of stone.told.events }
+    ensures consistent { IsConsistent stone.told }
+    ensures running { IsRunning stone.told.events }
+{
+    stone.close()
 }
 
 // The kernel's image, with which a Stone may be opened.
@@ -103,21 +122,21 @@ fn built_image<L: Ledger>(alloc: Global, blank: Blank) -> Result<Image, AllocErr
 // What the sessions of the Stone's script reply, each after the one before it.
 fn run_sessions(
     alloc: Global,
-    stone: &mut Stone,
+    stone: &mut Stone<MemKeeper>,
     base: u32,
     sessions: &[SessionScript],
 ) -> Result<Vec<Transcript>, AllocError>
-    requires script { stone.old.opened.script ≡ sessions.now }
-    requires serves { CanServe stone.old.opened }
-    requires begun { stone.old.events ≡ [] }
-    requires base { base ≡ base_serial stone.old.opened }
+    requires script { stone.old.told.opened.script ≡ sessions.now }
+    requires serves { CanServe stone.old.told.opened }
+    requires begun { stone.old.told.events ≡ [] }
+    requires base { base ≡ base_serial stone.old.told.opened }
     requires bound { base ≤ 2 ^ 24 }
     requires count { length sessions.now ≤ SESSION_LIMIT }
     ensures transcripts { IfOk result
-        (λ transcripts. AreTranscripts stone.new 1 sessions.now transcripts.items) }
+        (λ transcripts. AreTranscripts stone.new.told 1 sessions.now transcripts.items) }
     ensures in_turn { IfOk result
-        (λ transcripts. AreInTurn stone.new 1 sessions.now transcripts.items) }
-    ensures opened { stone.new.opened ≡ stone.old.opened }
+        (λ transcripts. AreInTurn stone.new.told 1 sessions.now transcripts.items) }
+    ensures opened { stone.new.told.opened ≡ stone.old.told.opened }
 {
     let mut transcripts = Vec::new(alloc);
     for (index, session) in sessions.iter().enumerate() {

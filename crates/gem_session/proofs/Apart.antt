@@ -3,7 +3,7 @@ use Rattle.std.proofs.Common.{◌≡◌, ℕ, ◌≤◌, Bool, true, false, true
 use Rattle.std.specs.List.{AllByRecursion}
 use Rattle.std.proofs.lemmas.List.Elements.{filter-append}
 use Rattle.std.proofs.lemmas.Bool.{eq-eqb}
-use Rattle.gem_meaning.specs.declared.event.What.TheVariants.{Placed, Held, Dropped, Left}
+use Rattle.gem_meaning.specs.declared.event.What.TheVariants.{Placed, Held, Dropped, Left, Checked, Halted}
 use Rattle.gem_meaning.specs.Events.{Event, events_of}
 use Rattle.gem_meaning.specs.Serial.{EndedBefore}
 
@@ -29,6 +29,10 @@ apart_of_others session first ((author, Dropped oid) ∷ es) none =
     (tt, apart_of_others session first es (not_taken (author == session) (author, Dropped oid) (events_of session es) none).1)
 apart_of_others session first ((author, Left) ∷ es) none =
     (tt, apart_of_others session first es (not_taken (author == session) (author, Left) (events_of session es) none).1)
+apart_of_others session first ((author, Checked) ∷ es) none =
+    (tt, apart_of_others session first es (not_taken (author == session) (author, Checked) (events_of session es) none).1)
+apart_of_others session first ((author, Halted number entry) ∷ es) none =
+    (tt, apart_of_others session first es (not_taken (author == session) (author, Halted number entry) (events_of session es) none).1)
 
 pub apart_both : (session first : ℕ) (es fs : List Event) → AllByRecursion (EndedBefore session first) es
     → AllByRecursion (EndedBefore session first) fs → AllByRecursion (EndedBefore session first) (es ++ fs)
@@ -44,6 +48,8 @@ apart_later session first later ((author, Placed e) ∷ es) le apart =
 apart_later session first later ((author, Held oid kind) ∷ es) le apart = (tt, apart_later session first later es le apart.1)
 apart_later session first later ((author, Dropped oid) ∷ es) le apart = (tt, apart_later session first later es le apart.1)
 apart_later session first later ((author, Left) ∷ es) le apart = (tt, apart_later session first later es le apart.1)
+apart_later session first later ((author, Checked) ∷ es) le apart = (tt, apart_later session first later es le apart.1)
+apart_later session first later ((author, Halted number entry) ∷ es) le apart = (tt, apart_later session first later es le apart.1)
 
 pub all_one_more : {A : Type 0} (P : A → Type 0) (xs : List A) (x : A) → AllByRecursion P xs → P x → AllByRecursion P (xs ++ x ∷ [])
 all_one_more P [] x all one = (one, tt)

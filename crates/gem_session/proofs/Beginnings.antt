@@ -10,7 +10,8 @@ use Rattle.gem_sound.specs.Sound.{IsSoundFor}
 use Rattle.running_objects.specs.object_programs.Laws.{begun_at}
 use Rattle.plain_state.specs.State.{begun}
 use Rattle.running_objects.specs.Seen.{Seen, IsSoundState}
-use Rattle.gem_meaning.specs.Opened.{Opened, session_serial, commands_of}
+use Rattle.gem_record.specs.declared.mode.Mode.{Mode}
+use Rattle.gem_meaning.specs.Opened.{Opened, session_serial, commands_of, mode_at}
 use Rattle.gem_meaning.specs.Events.{Event, image_at, next_counter, after_events, Extends}
 use Rattle.gem_meaning.specs.Serial.{MayGoOn, EndedBefore, EndsTransaction, CanServe, IsConsistent}
 use Rattle.gem_meaning.specs.State.{SessionState, next_transaction, run_so_far}
@@ -61,8 +62,8 @@ pub stands_at_first : (o : Opened) (es es' : List Event) (image : Image) (number
     s.serial ≡ session_serial o s.session → IsSome (user_at (objects_in image) s.view.state.seen.setting.user) → IsSoundState s.view.state.seen →
     (1 ≤ s.session) × (s.session ≤ length o.script) → MayBegin o s.session first → 1 ≤ first → s.transaction ≤ first →
     AllByRecursion (EndedBefore s.session first) es → next_counter (after_events o es') s.session ≤ s.view.state.seen.setting.first →
-    StandsBefore (record { opened = o; events = es' }) first s
-stands_at_first o es es' image number first s says view held first_is fresh serial user sound range may low le apart names =
+    s.mode ≡ mode_at o.script s.session first → StandsBefore (record { opened = o; events = es' }) first s
+stands_at_first o es es' image number first s says view held first_is fresh serial user sound range may low le apart names mode =
     let here = image_at (after_events o es') s.number in
     let view_is : s.number ≡ (after_events o es').number = view ∙ says.number_is in
     let same : image ≡ here = says.image_is ∙ sym (image_now (after_events o es') s.number view_is) in
@@ -88,6 +89,7 @@ stands_at_first o es es' image number first s says view held first_is fresh seri
       names = names;
       drawn = omega (arith, ap (λ (w : World). w.next) world_is);
       sound = sound;
+      mode = mode;
       world = λ calm. world_is ∙ sym (world_none o es' (session_state s))
           ∙ ap (λ (n : ℕ). (run_so_far o es' n (session_state s)).world) first_is;
     }
@@ -107,11 +109,12 @@ sound_for_next stay p q number s image view ended goes says =
     (subst (λ n. n ≤ s.view.state.seen.world.next) (sym (counter_when o s.session es es' says.others_came)) ended.names)
 
 -- what a session carries whose transaction has just begun, by what is seen
-abbrev pub carries_next : (first_command transaction session view : ℕ) → Seen → SessionState
-carries_next first_command transaction session view seen = record {
+abbrev pub carries_next : (first_command transaction session view : ℕ) → Mode → Seen → SessionState
+carries_next first_command transaction session view mode seen = record {
   session = session;
   user = seen.setting.user;
   view = view;
+  mode = mode;
   transaction = transaction;
   first_command = first_command;
   first_name = seen.setting.first;
@@ -153,10 +156,11 @@ begins_next stay p q number s s' image view ended goes says sound seen held is =
     (subst (λ u. IsSome (user_at (objects_in image) u)) (sym user) ready.user_there) sound
     (subst (λ (n : ℕ). (1 ≤ n) × (n ≤ length o.script)) (sym session) ended.session)
     (subst (λ (n : ℕ). MayBegin o n (number + 1)) (sym session) may) (omega arith) (omega (arith, counted, le))
-    (subst (λ (n : ℕ). AllByRecursion (EndedBefore n (number + 1)) es) (sym session) ended.apart) names in
+    (subst (λ (n : ℕ). AllByRecursion (EndedBefore n (number + 1)) es) (sym session) ended.apart) names
+    (ap (λ (x : Session). x.mode) is ∙ (ended.mode ∙ ap (λ (n : ℕ). mode_at o.script n (number + 1)) (sym session))) in
     record {
       sees = (here.others_came, view_is ∙ here.number_is);
-      carries = ap session_state is ∙ ap (carries_next (number + 1) (s.transaction + 1) s.session view) seen
+      carries = ap session_state is ∙ ap (carries_next (number + 1) (s.transaction + 1) s.session view s.mode) seen
           ∙ ap (λ (v : ℕ). next_transaction (session_state s) v number) (sym view_is);
       stands = subst (λ (n : ℕ). StandsBefore (record { opened = o; events = es' }) n s') (sym first) stands;
     }

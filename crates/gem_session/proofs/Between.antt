@@ -3,14 +3,17 @@ use Rattle.std.proofs.Common.{◌≡◌, ◌∙◌, refl, sym, ap, subst, ℕ, �
 use Rattle.std.specs.List.{AllByRecursion, slice_get, cons_option}
 use Rattle.std.proofs.lemmas.List.{drop-append-le, drop_all, length-take, take_more}
 use Rattle.std.proofs.lemmas.List.Elements.{filter_map-append}
+use Rattle.std.proofs.lemmas.List.Sums.{fold_push}
 use Rattle.std.proofs.lemmas.Option.{get_or_from_slice_get, slice_get_within}
 use Rattle.gem_world.specs.World.{Setting, World, untouched}
 use Rattle.gem_meaning.specs.gem_language.Commands.{Command as ObjectCommand}
 use Rattle.gem_meaning.specs.gem_language.Transaction.{Transaction, command_outcome, transaction}
 use Rattle.gem_meaning.proofs.gem_language_lemmas.Lists.{goes_on}
 use Rattle.shell_words.specs.declared.script.Command.{Command}
-use Rattle.gem_meaning.specs.Commands.{object_command, object_commands}
-use Rattle.gem_meaning.specs.Opened.{Opened, commands_of, entry_commands}
+use Rattle.gem_record.specs.declared.mode.Mode.{Mode}
+use Rattle.gem_record.specs.declared.mode.Mode.TheVariants.{Full}
+use Rattle.gem_meaning.specs.Commands.{object_command, object_commands, mode_with, mode_after}
+use Rattle.gem_meaning.specs.Opened.{Opened, commands_of, entry_commands, mode_at}
 use Rattle.gem_meaning.specs.Events.{Event, run_on_view, after_events}
 use Rattle.gem_meaning.specs.Serial.{MayGoOn}
 use Rattle.gem_meaning.specs.State.{SessionState, entry_to, run_so_far}
@@ -58,6 +61,27 @@ pub whole_more : (o : Opened) (number : ℕ) (s : SessionState) (c : Command) �
     AllByRecursion MayGoOn (commands_before o (number + 1) s)
 whole_more o number s c is low le one whole =
     subst (AllByRecursion MayGoOn) (sym (next_before o number s)) (entry_whole o number s c is low le one whole)
+
+-- ---- the session's mode
+
+-- its mode with the command that has this number
+pub mode_next : (o : Opened) (session number : ℕ) (c : Command) → slice_get (commands_of o.script session) (number - 1) ≡ Some c → 1 ≤ number
+    → mode_at o.script session (number + 1) ≡ mode_with (mode_at o.script session number) c
+mode_next o session number c is low =
+    let xs = commands_of o.script session in
+    let within = slice_get_within xs (number - 1) c is in
+    let one : number + 1 - 1 ≡ number - 1 + 1 = omega (arith, low) in
+    ap (λ (n : ℕ). mode_after (take n xs)) one
+    ∙ ap mode_after (take_more xs (number - 1) c within ∙ ap (λ x. take (number - 1) xs ++ x ∷ []) (get_or_from_slice_get xs (number - 1) c c is))
+    ∙ fold_push mode_with Full (take (number - 1) xs) c
+
+-- a command that isn't such a line leaves it
+pub mode_still : (o : Opened) (session number : ℕ) (c : Command) → slice_get (commands_of o.script session) (number - 1) ≡ Some c → 1 ≤ number
+    → ((m : Mode) → mode_with m c ≡ m) → mode_at o.script session (number + 1) ≡ mode_at o.script session number
+mode_still o session number c is low still =
+    mode_next o session number c is low ∙ still (mode_at o.script session number)
+
+-- ---- what the transaction leaves
 
 -- what the transaction leaves with one command more
 abbrev pub world_after : Option ObjectCommand → Setting → World → World

@@ -6,34 +6,46 @@ use Rattle.gem_sound.specs.Parts.{user_at}
 use Rattle.gem_world.specs.World.{World}
 use Rattle.gem_object.specs.gem_value.declared.conflict.Conflict.{Conflict}
 use Rattle.gem_record.specs.declared.record.TxnRecord.{TxnRecord}
+use Rattle.gem_object.specs.declared.object.Object.{Object}
 use Rattle.gem_record.specs.History.{entry_of}
-use Rattle.gem_replies.specs.declared.reply.Line.TheVariants.{NoMemory, Spoiled, Unchanged, Refused, Committed, Aborted}
+use Rattle.gem_record.specs.Effects.{log_record_size}
+use Rattle.gem_record.specs.declared.limits.TheConstants.{LOG_LIMIT}
+use Rattle.gem_replies.specs.declared.reply.Line.TheVariants.{NoMemory, Spoiled, Halted as HaltedLine, Unchanged, Refused, LogFull as LogFullLine, DiskFault as DiskFaultLine, Committed, Aborted}
 use Rattle.gem_meaning.specs.gem_language.Transaction.{Transaction}
 use Rattle.gem_record.specs.Record.{record_of}
 use Rattle.shell_words.specs.declared.script.Command.TheVariants.{Commit, Abort}
-use Rattle.gem_meaning.specs.declared.event.What.TheVariants.{Placed}
-use Rattle.gem_meaning.specs.Effect.{IsUnchanged}
+use Rattle.gem_meaning.specs.declared.event.What.TheVariants.{Placed, Halted}
+use Rattle.gem_meaning.specs.Effect.{IsUnchanged, effect_at}
 use Rattle.gem_meaning.specs.Opened.{Opened, commands_of, record_on}
-use Rattle.gem_meaning.specs.Events.{Event, Told, next_counter, after_events, events_of, Extends, OthersCame, run_on_view, conflicts_at}
-use Rattle.gem_meaning.specs.Serial.{IsSerial, IsRecorded, EndedBefore, EndsTransaction, CanServe}
+use Rattle.gem_meaning.specs.Events.{Event, Told, next_counter, after_events, events_of, Extends, OthersCame, run_on_view, conflicts_at, effect_of, standing, IsRunning, HasHaltedAt}
+use Rattle.gem_meaning.specs.After.{record_size, log_after}
+use Rattle.gem_meaning.specs.Serial.{IsSerialFrom, IsSerial, IsRecorded, EndedBefore, EndsTransaction, CanServe}
 use Rattle.gem_meaning.specs.State.{SessionState, entry_to, next_transaction, record_to}
 use Rattle.gem_meaning.specs.Runs.{setting_of}
-use Rattle.gem_meaning.specs.Commits.{SeesNumber}
-use Rattle.stone_core.specs.Port.{PortState, CommitSays, GoesOn, event_of_answer}
+use Rattle.gem_meaning.specs.Commits.{SeesNumber, IsClear, size_found, MayCommit}
+use Rattle.stone_core.specs.Port.{PortState, CommitSays, GoesOn, event_of_answer, size_at, IsFree, MayPlace}
 use Rattle.stone_core.specs.declared.port.CommitAnswer.{CommitAnswer}
-use Rattle.stone_core.specs.declared.port.CommitAnswer.TheVariants.{ReadOnly, Conflicts, Placed as PlacedAt, NoMemory as ShortOfMemory}
+use Rattle.stone_core.specs.declared.port.CommitAnswer.TheVariants.{Halted as HaltedAt, ReadOnly, Conflicts, LogFull, DiskFault, Placed as PlacedAt, NoMemory as ShortOfMemory}
+use Rattle.history_laws.proofs.Apart.{records_stay}
+use Rattle.history_laws.proofs.Halts.{runs_front}
+use Rattle.history_laws.proofs.OneMore.{serial_front}
 use Rattle.gem_session.specs.declared.session.Session.{Session}
 use Rattle.gem_session.specs.Running.{ends_transaction, commit_line, session_state, IsCommandNumber, StandsBefore, ComesTo, HasEnded, Begins, Replied}
 use Rattle.gem_session.proofs.Others.{nobody_came, came_and_came, extends_by, number_on}
 use Rattle.gem_session.proofs.Apart.{apart_both, apart_later, apart_of_others}
 use Rattle.gem_session.proofs.Counters.{next_of_placed}
-use Rattle.gem_session.proofs.Passing.{apart_when, counter_when, pass_others, view_when}
-use Rattle.gem_session.proofs.Between.{entry_whole, world_to}
+use Rattle.gem_session.proofs.Passing.{Passes, apart_when, counter_when, pass_others, pass_twice, pass_halted, view_when}
+use Rattle.gem_session.proofs.Between.{entry_whole, mode_still, world_to}
 use Rattle.gem_session.proofs.Steps.{run_when, stands_kept}
 use Rattle.gem_session.proofs.Beginnings.{begins_session, begins_stands}
 
 abbrev At : Opened → List Event → Told
 At o es = record { opened = o; events = es }
+
+-- what the law on records says of a commit's effect
+abbrev pub EffectsAre : Type 0
+EffectsAre = (t : Told) (done : TxnRecord) → CanServe t.opened → IsSerial t → IsRecorded t done → conflicts_at (standing t) done ≡ []
+    → effect_of t.opened (standing t) (entry_of done) ≡ effect_at (standing t).image ((standing t).number + 1) done
 
 -- the record that the session hands over
 abbrev pub record_with : (number : ℕ) → Session → TxnRecord
@@ -85,6 +97,7 @@ module _ (o : Opened) (es : List Event) (number : ℕ) (s : Session) (stands : S
       order = stands.first.1;
       last = is;
       whole = entry_whole o number St Commit is stands.first.0 stands.first.1 tt stands.whole;
+      mode = stands.mode;
     };
     begins = record {
       from = stands.from;
@@ -101,7 +114,7 @@ module _ (o : Opened) (es : List Event) (number : ℕ) (s : Session) (stands : S
   commit_spoiled spoiled = record {
     of_session = refl;
     says = (Spoiled, refl, (spoiled, refl, refl));
-    stands = stands_kept o es es number s Commit is tt refl stands (pass_others o s.session es es (nobody_came s.session es));
+    stands = stands_kept o es es number s Commit is tt refl (λ m. refl) stands (pass_others o s.session es es (nobody_came s.session es));
   }
 
   -- memory ran out, here or at the Stone
@@ -109,21 +122,135 @@ module _ (o : Opened) (es : List Event) (number : ℕ) (s : Session) (stands : S
   commit_short es' calm came = record {
     of_session = refl;
     says = (NoMemory, refl, (calm, came, refl));
-    stands = stands_kept o es es' number s Commit is tt refl stands (pass_others o s.session es es' came);
+    stands = stands_kept o es es' number s Commit is tt refl (λ m. refl) stands (pass_others o s.session es es' came);
   }
 
+  own_others : (es' : List Event) (answer : CommitAnswer) (says : CommitSays o es es' (record_with number s) answer) → events_of s.session says.others ≡ []
+  own_others es' answer says = subst (λ (n : ℕ). events_of n says.others ≡ []) (session_is number s) says.are_others
+
   -- what others did before an answer that is no event
-  pub others_before : (es' : List Event) (answer : CommitAnswer) → event_of_answer (record_with number s) answer ≡ [] →
+  pub others_before : (es' : List Event) (answer : CommitAnswer) → ((stood : ℕ) → event_of_answer stood (record_with number s) answer ≡ []) →
       (says : CommitSays o es es' (record_with number s) answer) → OthersCame s.session es es' × (es' ≡ es ++ says.others)
   others_before es' answer none says =
-      let end : es' ≡ es ++ says.others = says.events ∙ ap (λ x. (es ++ says.others) ++ x) none ∙ append-nil (es ++ says.others) in
+      let end : es' ≡ es ++ says.others = says.events ∙ ap (λ x. (es ++ says.others) ++ x) (none (after_events o (es ++ says.others)).number) ∙ append-nil (es ++ says.others) in
       let own = subst (λ (n : ℕ). events_of n says.others ≡ []) (session_is number s) says.are_others in
       ((says.others, own, end), end)
+
+  -- ---- what holds of the record holds of the transaction
+
+  is_clear : (es' : List Event) → Extends es es' → s.spoiled ≡ false → IsFree o es' (record_with number s) → IsClear o es' number St
+  is_clear es' more calm free =
+      let done = record_when es' more calm in
+      record {
+        running = free.running;
+        changed = λ none. free.changed (subst IsUnchanged (sym done) none);
+        no_conflict = sym (ap (conflicts_at (after_events o es')) done) ∙ free.no_conflict;
+      }
+
+  module _ (effects : EffectsAre) (serves : CanServe o) (others : List Event) (are_others : events_of s.session others ≡ [])
+      (serial : IsSerial (At o (es ++ others))) (calm : s.spoiled ≡ false)
+      (free : IsFree o (es ++ others) (record_with number s)) where
+    -- the record is one, too, when others' events have come
+    recorded_then : IsRecorded (At o (es ++ others)) (record_with number s)
+    recorded_then = records_stay (At o es) others (record_with number s)
+        (subst (λ (n : ℕ). events_of n others ≡ []) (sym (session_is number s)) are_others) (recorded calm)
+
+    size_is : size_at (after_events o (es ++ others)) (record_with number s) ≡ size_found o (es ++ others) number St
+    unfolding record_size
+    size_is = ap (λ (objects : List (ℕ × Object)).
+        log_record_size (record { number = (after_events o (es ++ others)).number + 1; objects = objects }))
+        (sym (effects (At o (es ++ others)) (record_with number s) serves serial recorded_then free.no_conflict)
+        ∙ ap (effect_of o (after_events o (es ++ others))) (entry_is number s))
+
+    may_commit : MayPlace o (es ++ others) (record_with number s) → MayCommit o (es ++ others) number St
+    may_commit may = record {
+      clear = is_clear (es ++ others) (others, refl) calm may.free;
+      fits = subst (λ (n : ℕ). log_after o (es ++ others) + n ≤ LOG_LIMIT) size_is may.fits;
+    }
+
+  pub commit_halted : (es' : List Event) (at : ℕ) → s.spoiled ≡ false → CommitSays o es es' (record_with number s) (HaltedAt at) →
+      Replied o number es es' s Commit (HaltedLine at ∷ []) s
+  commit_halted es' at calm says =
+      let before = others_before es' (HaltedAt at) (λ stood. refl) says in
+      record {
+        of_session = refl;
+        says = (HaltedLine at, refl, (calm, before.0, subst (λ x. HasHaltedAt x at) (sym before.1) says.fits, refl));
+        stands = stands_kept o es es' number s Commit is tt refl (λ m. refl) stands (pass_others o s.session es es' before.0);
+      }
+
+  pub commit_full : (es' : List Event) (length size : ℕ) → EffectsAre → CanServe o → IsSerial (At o es') → s.spoiled ≡ false
+      → CommitSays o es es' (record_with number s) (LogFull length size) → Replied o number es es' s Commit (LogFullLine length size ∷ []) s
+  commit_full es' length size effects serves serial calm says =
+      let before = others_before es' (LogFull length size) (λ stood. refl) says in
+      let there = subst (λ x. IsSerial (At o x)) before.1 serial in
+      let sized = size_is effects serves says.others (own_others es' (LogFull length size) says) there calm says.fits.0 in
+      record {
+        of_session = refl;
+        says = (
+          LogFullLine length size,
+          refl,
+          (
+            calm,
+            record {
+              came = before.0;
+              clear = subst (λ x. IsClear o x number St) (sym before.1)
+                  (is_clear (es ++ says.others) (says.others, refl) calm says.fits.0);
+              length_is = says.fits.1 ∙ ap (log_after o) (sym before.1);
+              size_is = says.fits.2 ∙ sized ∙ ap (λ x. size_found o x number St) (sym before.1);
+              over = says.fits.3;
+            },
+            refl,
+          ),
+        );
+        stands = stands_kept o es es' number s Commit is tt refl (λ m. refl) stands (pass_others o s.session es es' before.0);
+      }
+
+  -- the events before the last one are serial, too
+  serial_before : (es' others : List Event) (event : Event) → es' ≡ (es ++ others) ++ event ∷ [] → IsSerial (At o es')
+      → IsSerial (At o (es ++ others))
+  unfolding IsSerial
+  serial_before es' others event end serial =
+      serial_front o [] (es ++ others) (event ∷ []) (subst (λ x. IsSerialFrom o [] x) end serial)
+
+  failed_events : (es' : List Event) → (says : CommitSays o es es' (record_with number s) DiskFault)
+      → es' ≡ (es ++ says.others) ++ (s.session, Halted ((after_events o (es ++ says.others)).number + 1) (Some (entry_to number St))) ∷ []
+  unfolding record_of
+  failed_events es' says = says.events
+
+  pub commit_failed : (es' : List Event) → EffectsAre → CanServe o → IsSerial (At o es') → s.spoiled ≡ false
+      → CommitSays o es es' (record_with number s) DiskFault → Replied o number es es' s Commit (DiskFaultLine ∷ []) s
+  commit_failed es' effects serves serial calm says =
+      let end = failed_events es' says in
+      let number_is = (after_events o (es ++ says.others)).number + 1 in
+      let own = own_others es' DiskFault says in
+      let there = serial_before es' says.others (s.session, Halted number_is (Some (entry_to number St))) end serial in
+      record {
+        of_session = refl;
+        says = (
+          DiskFaultLine,
+          refl,
+          (
+            calm,
+            record {
+              others = says.others;
+              are_others = own;
+              may = may_commit effects serves says.others own there calm says.fits.free says.fits;
+              after = end;
+            },
+            refl,
+          ),
+        );
+        stands = stands_kept o es es' number s Commit is tt refl (λ m. refl) stands
+            (subst (Passes o s.session es) (sym end)
+            (pass_twice o s.session es (es ++ says.others) ((es ++ says.others) ++ (s.session, Halted number_is (Some (entry_to number St))) ∷ [])
+            (pass_others o s.session es (es ++ says.others) (says.others, own, refl))
+            (pass_halted o s.session (es ++ says.others) s.session number_is (Some (entry_to number St)))));
+      }
 
   pub commit_refused : (es' : List Event) (found : List Conflict) → s.spoiled ≡ false → CommitSays o es es' (record_with number s) (Conflicts found) →
       Replied o number es es' s Commit (Refused found ∷ []) s
   commit_refused es' found calm says =
-      let before = others_before es' (Conflicts found) refl says in
+      let before = others_before es' (Conflicts found) (λ stood. refl) says in
       let came = before.0 in
       let done = record_when es' (extends_by s.session es es' came) calm in
       record {
@@ -140,16 +267,17 @@ module _ (o : Opened) (es : List Event) (number : ℕ) (s : Session) (stands : S
                 ∙ ap (λ x. conflicts_at (after_events o x) (record_with number s)) (sym before.1)
                 ∙ ap (conflicts_at (after_events o es')) done,
             refl,
+            subst IsRunning (sym before.1) says.fits.3,
           ),
         );
-        stands = stands_kept o es es' number s Commit is tt refl stands (pass_others o s.session es es' came);
+        stands = stands_kept o es es' number s Commit is tt refl (λ m. refl) stands (pass_others o s.session es es' came);
       }
 
   pub commit_unchanged : (es' es'' : List Event) (at : ℕ) (s' : Session) → s.spoiled ≡ false → CommitSays o es es' (record_with number s) (ReadOnly at) →
       Begins o es' es'' (λ view. next_transaction St view number) s' → Replied o number es es'' s Commit (Unchanged at s'.number ∷ []) s'
   commit_unchanged es' es'' at s' calm says begins =
       let same = begins_session o es' es'' number s s' begins in
-      let came = (others_before es' (ReadOnly at) refl says).0 in
+      let came = (others_before es' (ReadOnly at) (λ stood. refl) says).0 in
       let sees : SeesNumber o s.session es' es'' s'.number = subst (λ (n : ℕ). SeesNumber o n es' es'' s'.number) same begins.sees in
       let all : OthersCame s.session es es'' = came_and_came s.session es es' es'' came sees.0 in
       record {
@@ -163,6 +291,7 @@ module _ (o : Opened) (es : List Event) (number : ℕ) (s : Session) (stands : S
             (all, sees.1),
             subst IsUnchanged (record_when es'' (extends_by s.session es es'' all) calm) says.fits.0,
             begins.carries,
+            runs_front es says.others says.fits.2,
           ),
         );
         stands = begins_stands o es' es'' number s s' begins;
@@ -173,14 +302,12 @@ module _ (o : Opened) (es : List Event) (number : ℕ) (s : Session) (stands : S
   unfolding record_of
   placed_events es' at says = says.events
 
-  own_others : (es' : List Event) (answer : CommitAnswer) (says : CommitSays o es es' (record_with number s) answer) → events_of s.session says.others ≡ []
-  own_others es' answer says = subst (λ (n : ℕ). events_of n says.others ≡ []) (session_is number s) says.are_others
-
-  pub commit_placed : (es' es'' : List Event) (at : ℕ) (s' : Session) → s.spoiled ≡ false → CommitSays o es es' (record_with number s) (PlacedAt at) →
+  pub commit_placed : (es' es'' : List Event) (at : ℕ) (s' : Session) → EffectsAre → CanServe o → IsSerial (At o es') → s.spoiled ≡ false → CommitSays o es es' (record_with number s) (PlacedAt at) →
       Begins o es' es'' (λ view. next_transaction St view number) s' → Replied o number es es'' s Commit (Committed at s'.number ∷ []) s'
-  commit_placed es' es'' at s' calm says begins =
+  commit_placed es' es'' at s' effects serves serial calm says begins =
       let same = begins_session o es' es'' number s s' begins in
-      let done = record_when (es ++ says.others) (says.others, refl) calm in
+      let own = own_others es' (PlacedAt at) says in
+      let there = serial_before es' says.others (s.session, Placed (entry_to number St)) (placed_events es' at says) serial in
       record {
         of_session = same;
         says = (
@@ -190,10 +317,9 @@ module _ (o : Opened) (es : List Event) (number : ℕ) (s : Session) (stands : S
             calm,
             record {
               others = says.others;
-              are_others = own_others es' (PlacedAt at) says;
-              changed = λ none. says.fits.0 (subst IsUnchanged (sym done) none);
-              no_conflict = sym (ap (conflicts_at (after_events o (es ++ says.others))) done) ∙ says.fits.1;
-              number_is = says.fits.2;
+              are_others = own;
+              may = may_commit effects serves says.others own there calm says.fits.0.free says.fits.0;
+              number_is = says.fits.1;
               sees = subst (λ x. SeesNumber o s.session x es'' s'.number) (placed_events es' at says)
                   (subst (λ (n : ℕ). SeesNumber o n es' es'' s'.number) same begins.sees);
             },
@@ -217,7 +343,7 @@ module _ (o : Opened) (es : List Event) (number : ℕ) (s : Session) (stands : S
       (apart_both s.session (number + 1) es says.others apart_next others) (λ is. omega arith, tt))
 
   apart_unplaced : (es' : List Event) (at : ℕ) → CommitSays o es es' (record_with number s) (ReadOnly at) → AllByRecursion (EndedBefore s.session (number + 1)) es'
-  apart_unplaced es' at says = apart_when s.session (number + 1) es es' apart_next (others_before es' (ReadOnly at) refl says).0
+  apart_unplaced es' at says = apart_when s.session (number + 1) es es' apart_next (others_before es' (ReadOnly at) (λ stood. refl) says).0
 
   -- all that the session's commits have drawn comes before its next name
   names_unplaced : (es' : List Event) → OthersCame s.session es es' → next_counter (after_events o es') s.session ≤ s.view.state.seen.world.next
@@ -260,6 +386,7 @@ module _ (o : Opened) (es : List Event) (number : ℕ) (s : Session) (stands : S
         ended = ended;
         apart = apart;
         names = names;
+        mode = stands.mode ∙ sym (mode_still o s.session number Commit is low.0 (λ m. refl));
         sound = stands.sound;
       } in
       subst (λ x. HasEnded (record q { told = At x q.told.events }) number s) (sym opened_is) with
@@ -269,27 +396,41 @@ module _ (o : Opened) (es : List Event) (number : ℕ) (s : Session) (stands : S
       CommitSays o es es' (record_with number s) answer → AllByRecursion (EndedBefore s.session (number + 1)) es'
       × (next_counter (after_events o es') s.session ≤ s.view.state.seen.world.next)
   commit_has_ended es' (ReadOnly at) ends calm serial says =
-      (apart_unplaced es' at says, names_unplaced es' (others_before es' (ReadOnly at) refl says).0)
+      (apart_unplaced es' at says, names_unplaced es' (others_before es' (ReadOnly at) (λ stood. refl) says).0)
+  commit_has_ended es' (HaltedAt at) ends calm serial says = absurd (true≢false (sym ends))
   commit_has_ended es' (Conflicts found) ends calm serial says = absurd (true≢false (sym ends))
+  commit_has_ended es' (LogFull length size) ends calm serial says = absurd (true≢false (sym ends))
+  commit_has_ended es' DiskFault ends calm serial says = absurd (true≢false (sym ends))
   commit_has_ended es' (PlacedAt at) ends calm serial says = (apart_placed es' at says, names_placed es' at calm serial says)
   commit_has_ended es' ShortOfMemory ends calm serial says = absurd (true≢false (sym ends))
 
   -- a commit that ended its transaction
-  pub commit_ended : (es' es'' : List Event) (answer : CommitAnswer) (s' : Session) → ends_transaction answer ≡ true → s.spoiled ≡ false →
+  pub commit_ended : (es' es'' : List Event) (answer : CommitAnswer) (s' : Session) → EffectsAre → CanServe o → IsSerial (At o es') →
+      ends_transaction answer ≡ true → s.spoiled ≡ false →
       CommitSays o es es' (record_with number s) answer → Begins o es' es'' (λ view. next_transaction St view number) s' →
       Replied o number es es'' s Commit (commit_line answer s'.number ∷ []) s'
-  commit_ended es' es'' (ReadOnly at) s' ends calm says begins = commit_unchanged es' es'' at s' calm says begins
-  commit_ended es' es'' (Conflicts found) s' ends calm says begins = absurd (true≢false (sym ends))
-  commit_ended es' es'' (PlacedAt at) s' ends calm says begins = commit_placed es' es'' at s' calm says begins
-  commit_ended es' es'' ShortOfMemory s' ends calm says begins = absurd (true≢false (sym ends))
+  commit_ended es' es'' (HaltedAt at) s' effects serves serial ends calm says begins = absurd (true≢false (sym ends))
+  commit_ended es' es'' (ReadOnly at) s' effects serves serial ends calm says begins = commit_unchanged es' es'' at s' calm says begins
+  commit_ended es' es'' (Conflicts found) s' effects serves serial ends calm says begins = absurd (true≢false (sym ends))
+  commit_ended es' es'' (LogFull length size) s' effects serves serial ends calm says begins = absurd (true≢false (sym ends))
+  commit_ended es' es'' DiskFault s' effects serves serial ends calm says begins = absurd (true≢false (sym ends))
+  commit_ended es' es'' (PlacedAt at) s' effects serves serial ends calm says begins =
+      commit_placed es' es'' at s' effects serves serial calm says begins
+  commit_ended es' es'' ShortOfMemory s' effects serves serial ends calm says begins = absurd (true≢false (sym ends))
 
   -- a commit after which the transaction goes on
-  pub commit_goes_on : (es' : List Event) (answer : CommitAnswer) (view : ℕ) → ends_transaction answer ≡ false → s.spoiled ≡ false →
+  pub commit_goes_on : (es' : List Event) (answer : CommitAnswer) (view : ℕ) → EffectsAre → CanServe o → IsSerial (At o es') →
+      ends_transaction answer ≡ false → s.spoiled ≡ false →
       CommitSays o es es' (record_with number s) answer → Replied o number es es' s Commit (commit_line answer view ∷ []) s
-  commit_goes_on es' (ReadOnly at) view ends calm says = absurd (true≢false ends)
-  commit_goes_on es' (Conflicts found) view ends calm says = commit_refused es' found calm says
-  commit_goes_on es' (PlacedAt at) view ends calm says = absurd (true≢false ends)
-  commit_goes_on es' ShortOfMemory view ends calm says = commit_short es' calm (others_before es' ShortOfMemory refl says).0
+  commit_goes_on es' (HaltedAt at) view effects serves serial ends calm says = commit_halted es' at calm says
+  commit_goes_on es' (ReadOnly at) view effects serves serial ends calm says = absurd (true≢false ends)
+  commit_goes_on es' (Conflicts found) view effects serves serial ends calm says = commit_refused es' found calm says
+  commit_goes_on es' (LogFull length size) view effects serves serial ends calm says =
+      commit_full es' length size effects serves serial calm says
+  commit_goes_on es' DiskFault view effects serves serial ends calm says = commit_failed es' effects serves serial calm says
+  commit_goes_on es' (PlacedAt at) view effects serves serial ends calm says = absurd (true≢false ends)
+  commit_goes_on es' ShortOfMemory view effects serves serial ends calm says =
+      commit_short es' calm (others_before es' ShortOfMemory (λ stood. refl) says).0
 
 -- ---- aborts
 
@@ -327,6 +468,7 @@ abort_has_ended p number s comes =
       ended = subst EndsTransaction (sym comes.command) tt;
       apart = apart_later s.session s.first_command (number + 1) p.told.events (omega (arith, first)) stands.apart;
       names = omega (arith, stands.names, stands.drawn);
+      mode = stands.mode ∙ sym (mode_still p.told.opened s.session number Abort comes.command comes.numbered.0 (λ m. refl));
       sound = stands.sound;
     }
 
@@ -356,12 +498,14 @@ module _ (p q : PortState) (number : ℕ) (s : Session) (comes : ComesTo p numbe
       has_ended o es number s comes.stands comes.command p q goes_as refl comes.serves comes.opened comes.numbered
       (ended_commit o es number s comes.stands comes.command) facts.0 facts.1
 
-  pub replied_ended : (r : PortState) (s' : Session) → ends_transaction answer ≡ true
+  pub replied_ended : EffectsAre → (r : PortState) (s' : Session) → ends_transaction answer ≡ true
       → Begins q.told.opened q.told.events r.told.events (λ view. next_transaction (session_state s) view number) s'
       → Replied p.told.opened number p.told.events r.told.events s Commit (commit_line answer s'.number ∷ []) s'
-  replied_ended r s' ends begins = commit_ended p.told.opened p.told.events number s comes.stands comes.command q.told.events r.told.events answer s' ends calm says_as
+  replied_ended effects r s' ends begins = commit_ended p.told.opened p.told.events number s comes.stands comes.command q.told.events r.told.events answer s'
+      effects comes.opened serial_as ends calm says_as
       (subst (λ o. Begins o q.told.events r.told.events (λ view. next_transaction (session_state s) view number) s') goes_as.opened begins)
 
-  pub replied_going_on : (view : ℕ) → ends_transaction answer ≡ false
+  pub replied_going_on : EffectsAre → (view : ℕ) → ends_transaction answer ≡ false
       → Replied p.told.opened number p.told.events q.told.events s Commit (commit_line answer view ∷ []) s
-  replied_going_on view stays = commit_goes_on p.told.opened p.told.events number s comes.stands comes.command q.told.events answer view stays calm says_as
+  replied_going_on effects view stays = commit_goes_on p.told.opened p.told.events number s comes.stands comes.command q.told.events answer view
+      effects comes.opened serial_as stays calm says_as

@@ -8,7 +8,7 @@ use Rattle.std.proofs.lemmas.Bool.{eq-eqb}
 use Rattle.gem_image.proofs.radix_pages_lemmas.Tables.{get-insert_same, get-insert_other}
 use Rattle.gem_record.specs.declared.record.Entry.{Entry}
 use Rattle.gem_meaning.specs.gem_language.Transaction.{Transaction}
-use Rattle.gem_meaning.specs.declared.event.What.TheVariants.{Placed, Held, Dropped, Left}
+use Rattle.gem_meaning.specs.declared.event.What.TheVariants.{Placed, Held, Dropped, Left, Checked, Halted}
 use Rattle.gem_meaning.specs.Opened.{Opened}
 use Rattle.gem_meaning.specs.Events.{Event, Standing, next_counter, run_at_place, run_on_view, after_event, before_events, after_events, events_of}
 use Rattle.gem_meaning.specs.Serial.{IsSerialEvent, IsSerialFrom, IsSerial}
@@ -24,6 +24,8 @@ other_event o s (author, Placed e) session other =
 other_event o s (author, Held oid kind) session other = refl
 other_event o s (author, Dropped oid) session other = refl
 other_event o s (author, Left) session other = refl
+other_event o s (author, Checked) session other = refl
+other_event o s (author, Halted number entry) session other = refl
 
 others_from : (o : Opened) (s : Standing) (events : List Event) (session : ℕ) → events_of session events ≡ []
     → next_counter (fold (after_event o) s events) session ≡ next_counter s session

@@ -9,6 +9,7 @@ mod Lookups
 mod Beginnings
 mod Steps
 mod Commits
+mod Checks
 mod Made
 mod LockTargets
 mod LockSteps

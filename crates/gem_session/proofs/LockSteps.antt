@@ -63,7 +63,7 @@ module _ (o : Opened) (es : List Event) (number : ℕ) (s : Session) (stands : S
 
   module _ (write : Bool) (name : Text) (is : slice_get (commands_of o.script s.session) (number - 1) ≡ Some (Lock write name)) where
     kept_lock : (es' : List Event) → Passes o s.session es es' → StandsBefore (At o es') (number + 1) s
-    kept_lock es' passes = stands_kept o es es' number s (Lock write name) is tt refl stands passes
+    kept_lock es' passes = stands_kept o es es' number s (Lock write name) is tt refl (λ m. refl) stands passes
 
     -- a lock without a look at the Stone
     pub lock_replied : (line : Line) → replies line ≡ lock_target (kind_asked write) name s.view.state.seen.setting s.view.state.seen.world
@@ -162,7 +162,7 @@ module _ (o : Opened) (es : List Event) (number : ℕ) (s : Session) (stands : S
 
   module _ (name : Text) (is : slice_get (commands_of o.script s.session) (number - 1) ≡ Some (Unlock name)) where
     kept_unlock : (es' : List Event) → Passes o s.session es es' → StandsBefore (At o es') (number + 1) s
-    kept_unlock es' passes = stands_kept o es es' number s (Unlock name) is tt refl stands passes
+    kept_unlock es' passes = stands_kept o es es' number s (Unlock name) is tt refl (λ m. refl) stands passes
 
     pub unlock_replied : (line : Line) → replies line ≡ unlock_target name s.view.state.seen.setting s.view.state.seen.world
         → Replied o number es es s (Unlock name) (line ∷ []) s

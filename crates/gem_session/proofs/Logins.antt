@@ -16,6 +16,7 @@ use Rattle.gem_replies.specs.declared.reply.Line.TheVariants.{NoUser}
 use Rattle.shell_words.specs.Script.{SessionCommands}
 use Rattle.plain_state.specs.State.{begun}
 use Rattle.running_objects.specs.Seen.{Seen, IsSoundState}
+use Rattle.gem_record.specs.declared.mode.Mode.TheVariants.{Full}
 use Rattle.gem_meaning.specs.Opened.{Opened, session_serial}
 use Rattle.gem_meaning.specs.Names.{if_user, user_in}
 use Rattle.gem_meaning.specs.Events.{Event, Told, events_of}
@@ -91,7 +92,7 @@ sound_at_login p q session serial image number user script arrives says found =
 pub has_logged_in : (p q : PortState) (serial : ℕ) (image : Image) (number user : ℕ) (script : SessionCommands) (s : Session) → GoesOn s.session p q
     → Arrives p s.session serial script → BeginSays p.told.opened s.session p.told.events q.told.events image number
     → user_in image script.user ≡ Some user → s.view.state.seen ≡ begun image image user serial 1 → IsSoundState s.view.state.seen
-    → s ≡ record { session = s.session; serial = serial; number = number; transaction = 1; first_command = 1; spoiled = false; image = image; view = s.view; cache = s.cache }
+    → s ≡ record { session = s.session; serial = serial; number = number; mode = Full; transaction = 1; first_command = 1; spoiled = false; image = image; view = s.view; cache = s.cache }
     → HasLoggedIn q.told script s
 has_logged_in p q serial image number user script s goes arrives says found seen sound is =
     let o = q.told.opened in
@@ -111,7 +112,7 @@ has_logged_in p q serial image number user script s goes arrives says found seen
       user = subst (λ i. user_in i script.user ≡ Some s.view.state.seen.setting.user) here.image_is (found ∙ ap Some (sym user_is));
       fresh = fresh;
       view = view ∙ here.number_is;
-      carries = ap session_state is ∙ ap (carries_next 1 1 s.session number) seen
+      carries = ap session_state is ∙ ap (carries_next 1 1 s.session number Full) seen
           ∙ ap (λ (u : ℕ). first_transaction s.session u number) (sym user_is)
           ∙ ap (λ (v : ℕ). first_transaction s.session s.view.state.seen.setting.user v) (sym view);
       stands = stands_at_first o p.told.events q.told.events image number 1 s here view held first
@@ -120,7 +121,7 @@ has_logged_in p q serial image number user script s goes arrives says found seen
           (subst (λ n. IsSome (user_at (objects_in image) n)) (sym user_is) (user_is_there image script.user user found)) sound
           (subst (λ (x : Opened). (1 ≤ s.session) × (s.session ≤ length x.script)) (sym goes.opened) arrives.range)
           (inl refl) (omega arith) (omega (arith, transaction)) (apart_of_others s.session 1 p.told.events arrives.fresh)
-          (omega (arith, names, first_name));
+          (omega (arith, names, first_name)) (ap (λ (x : Session). x.mode) is);
     }
 
 -- what a session says whose user isn't there

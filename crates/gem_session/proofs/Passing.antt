@@ -1,8 +1,9 @@
 -- Events after which a session stands as it stood: those of others, and its own about locks.
-use Rattle.std.proofs.Common.{◌≡◌, ◌∙◌, refl, sym, ap, subst, ℕ, ◌≤◌, List, [], ◌∷◌, ◌++◌}
+use Rattle.std.proofs.Common.{◌≡◌, ◌∙◌, refl, sym, ap, subst, ℕ, ◌≤◌, Option, List, [], ◌∷◌, ◌++◌}
 use Rattle.std.specs.List.{AllByRecursion}
+use Rattle.gem_record.specs.declared.record.Entry.{Entry}
 use Rattle.lock_table.specs.declared.lock.LockKind.{LockKind}
-use Rattle.gem_meaning.specs.declared.event.What.TheVariants.{Held, Dropped}
+use Rattle.gem_meaning.specs.declared.event.What.TheVariants.{Held, Dropped, Checked, Halted}
 use Rattle.gem_meaning.specs.Opened.{Opened}
 use Rattle.gem_meaning.specs.Events.{Event, Standing, image_at, next_counter, after_events, Extends, OthersCame}
 use Rattle.gem_meaning.specs.Serial.{EndedBefore}
@@ -56,6 +57,22 @@ pass_dropped o session es author oid = record {
   extends = ((author, Dropped oid) ∷ [], refl);
   counter = ap (λ (s : Standing). next_counter s session) (after_one_more o es (author, Dropped oid));
   apart = λ first apart. apart_both session first es ((author, Dropped oid) ∷ []) apart (tt, tt);
+}
+
+-- a checkpoint, or a failure of the disk
+pub pass_checked : (o : Opened) (session : ℕ) (es : List Event) (author : ℕ) → Passes o session es (es ++ (author, Checked) ∷ [])
+pass_checked o session es author = record {
+  extends = ((author, Checked) ∷ [], refl);
+  counter = ap (λ (s : Standing). next_counter s session) (after_one_more o es (author, Checked));
+  apart = λ first apart. apart_both session first es ((author, Checked) ∷ []) apart (tt, tt);
+}
+
+pub pass_halted : (o : Opened) (session : ℕ) (es : List Event) (author number : ℕ) (entry : Option Entry)
+    → Passes o session es (es ++ (author, Halted number entry) ∷ [])
+pass_halted o session es author number entry = record {
+  extends = ((author, Halted number entry) ∷ [], refl);
+  counter = ap (λ (s : Standing). next_counter s session) (after_one_more o es (author, Halted number entry));
+  apart = λ first apart. apart_both session first es ((author, Halted number entry) ∷ []) apart (tt, tt);
 }
 
 -- an image that there was stays

@@ -11,7 +11,7 @@ use Rattle.gem_replies.specs.declared.reply.Line.{Line}
 use Rattle.gem_replies.specs.declared.reply.Line.TheVariants.{Login, Logout as LoggedOut}
 use Rattle.gem_replies.specs.declared.reply.Reply.{Reply}
 use Rattle.shell_words.specs.declared.script.Command.{Command}
-use Rattle.shell_words.specs.declared.script.Command.TheVariants.{Chunk, Method, Commit, Abort, Logout, Lock, Unlock}
+use Rattle.shell_words.specs.declared.script.Command.TheVariants.{Chunk, Method, Commit, Abort, Logout, Lock, Unlock, Checkpoint, Mode}
 use Rattle.gem_meaning.specs.Opened.{Opened, commands_or_none, commands_of}
 use Rattle.gem_meaning.specs.Events.{Event, Told, after_events, events_of, Extends}
 use Rattle.gem_meaning.specs.Names.{user_in}
@@ -45,6 +45,8 @@ until_is (Abort ∷ cs) = until_more (prefix_len goes_on cs) Abort cs (until_is 
 until_is (Logout ∷ cs) = refl
 until_is (Lock write name ∷ cs) = until_more (prefix_len goes_on cs) (Lock write name) cs (until_is cs)
 until_is (Unlock name ∷ cs) = until_more (prefix_len goes_on cs) (Unlock name) cs (until_is cs)
+until_is (Checkpoint ∷ cs) = until_more (prefix_len goes_on cs) Checkpoint cs (until_is cs)
+until_is (Mode full ∷ cs) = until_more (prefix_len goes_on cs) (Mode full) cs (until_is cs)
 
 -- the command of the session's script that the session comes to
 pub command_at : (o : Opened) (session : ℕ) (script : SessionCommands) (commands body : List Command) (i : ℕ) (c : Command) →

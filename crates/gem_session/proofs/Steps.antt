@@ -6,14 +6,15 @@ use Rattle.gem_world.specs.World.{Setting, World}
 use Rattle.gem_image.specs.Image.{objects_in}
 use Rattle.gem_sound.specs.Parts.{user_at}
 use Rattle.gem_replies.specs.declared.reply.Line.{Line}
-use Rattle.gem_replies.specs.declared.reply.Line.TheVariants.{NoMemory}
+use Rattle.gem_replies.specs.declared.reply.Line.TheVariants.{NoMemory, Mode as ModeLine}
 use Rattle.gem_meaning.specs.gem_language.Commands.{Command as ObjectCommand}
 use Rattle.gem_meaning.specs.gem_language.Transaction.{Transaction, command_outcome}
 use Rattle.shell_words.specs.declared.script.Command.{Command}
-use Rattle.shell_words.specs.declared.script.Command.TheVariants.{Chunk, Method, Commit, Abort, Logout, Lock, Unlock}
+use Rattle.shell_words.specs.declared.script.Command.TheVariants.{Chunk, Method, Commit, Abort, Logout, Lock, Unlock, Checkpoint, Mode as SetMode}
 use Rattle.running_objects.specs.Seen.{Keeps, with_whole_budget}
 use Rattle.session_view.specs.declared.view.View.{View}
-use Rattle.gem_meaning.specs.Commands.{object_command, is_run}
+use Rattle.gem_record.specs.declared.mode.Mode.{Mode}
+use Rattle.gem_meaning.specs.Commands.{object_command, is_run, mode_of, mode_with}
 use Rattle.gem_meaning.specs.Opened.{Opened, commands_of, entry_setting, run_at}
 use Rattle.gem_meaning.specs.Events.{Event, image_at, next_counter, after_events, Extends, run_on_view}
 use Rattle.gem_meaning.specs.Serial.{MayGoOn}
@@ -27,7 +28,7 @@ use Rattle.gem_session.specs.Answer.{lines_of, Meant, MeantBy}
 use Rattle.gem_session.specs.Running.{session_state, StandsBefore, Ran, Replied}
 use Rattle.gem_session.proofs.Others.{number_on}
 use Rattle.gem_session.proofs.Passing.{Passes, view_when}
-use Rattle.gem_session.proofs.Between.{whole_more, world_after, world_next}
+use Rattle.gem_session.proofs.Between.{whole_more, mode_next, mode_still, world_after, world_next}
 
 -- what the transaction does stays when events come
 pub run_when : (o : Opened) (es es' : List Event) (number : ℕ) (s : SessionState) → Extends es es' → o.number ≤ s.view → s.view ≤ (after_events o es).number →
@@ -42,9 +43,9 @@ setting_when o es es' s more from to = ap (λ i. entry_setting o (entry_to 0 s) 
 
 -- a command that leaves the session as it was
 pub stands_kept : (o : Opened) (es es' : List Event) (number : ℕ) (s : Session) (c : Command) →
-    slice_get (commands_of o.script s.session) (number - 1) ≡ Some c → MayGoOn c → object_command c ≡ None →
+    slice_get (commands_of o.script s.session) (number - 1) ≡ Some c → MayGoOn c → object_command c ≡ None → ((m : Mode) → mode_with m c ≡ m) →
     StandsBefore (record { opened = o; events = es }) number s → Passes o s.session es es' → StandsBefore (record { opened = o; events = es' }) (number + 1) s
-stands_kept o es es' number s c is one nothing stands passes =
+stands_kept o es es' number s c is one nothing still stands passes =
     let st = session_state s in
     let grown = number_on o es es' passes.extends in
     let same = view_when o es es' s.number passes.extends stands.from stands.to in
@@ -64,10 +65,50 @@ stands_kept o es es' number s c is one nothing stands passes =
       names = subst (λ n. n ≤ s.view.state.seen.setting.first) (sym passes.counter) stands.names;
       drawn = stands.drawn;
       sound = stands.sound;
+      mode = stands.mode ∙ sym (mode_still o s.session number c is (omega (arith, stands.first.0, stands.first.1)) still);
       world = λ calm. stands.world calm
           ∙ sym (ap (λ (r : Transaction). r.world) (run_when o es es' (number - 1) st passes.extends stands.from stands.to))
           ∙ sym (ap (λ (command : Option ObjectCommand). world_after command (setting_of o es' st) (run_so_far o es' number st).world) nothing)
           ∙ sym (world_next o es' number st c is stands.first.0 stands.first.1);
+    }
+
+-- ---- lines that set the mode
+
+-- what the transaction did on its view is the same in each mode
+run_any_mode : (o : Opened) (es : List Event) (number : ℕ) (s : SessionState) (mode : Mode)
+    → run_so_far o es number (record s { mode = mode }) ≡ run_so_far o es number s
+unfolding run_on_view
+run_any_mode o es number s mode = refl
+
+pub mode_replied : (o : Opened) (es : List Event) (number : ℕ) (s : Session) (full : Bool)
+    → slice_get (commands_of o.script s.session) (number - 1) ≡ Some (SetMode full) → StandsBefore (record { opened = o; events = es }) number s
+    → Replied o number es es s (SetMode full) (ModeLine full ∷ []) (record s { mode = mode_of full })
+mode_replied o es number s full is stands =
+    let st = session_state s in
+    record {
+      of_session = refl;
+      says = (ModeLine full, refl, (refl, refl, refl));
+      stands = record {
+        session = stands.session;
+        serial = stands.serial;
+        from = stands.from;
+        to = stands.to;
+        user = stands.user;
+        image = stands.image;
+        setting = stands.setting;
+        begins = stands.begins;
+        first = (stands.first.0, omega (arith, stands.first.1));
+        transaction = omega (arith, stands.transaction);
+        whole = whole_more o number st (SetMode full) is stands.first.0 stands.first.1 tt stands.whole;
+        apart = stands.apart;
+        names = stands.names;
+        drawn = stands.drawn;
+        sound = stands.sound;
+        mode = sym (mode_next o s.session number (SetMode full) is (omega (arith, stands.first.0, stands.first.1)));
+        world = λ calm. stands.world calm
+            ∙ sym (world_next o es number st (SetMode full) is stands.first.0 stands.first.1)
+            ∙ sym (ap (λ (r : Transaction). r.world) (run_any_mode o es (number + 1) st (mode_of full)));
+      };
     }
 
 -- ---- chunks and methods
@@ -81,6 +122,8 @@ run_says at Abort command s lines s' runs is says = absurd (true≢false (sym ru
 run_says at Logout command s lines s' runs is says = absurd (true≢false (sym runs))
 run_says at (Lock write name) command s lines s' runs is says = absurd (true≢false (sym runs))
 run_says at (Unlock name) command s lines s' runs is says = absurd (true≢false (sym runs))
+run_says at Checkpoint command s lines s' runs is says = absurd (true≢false (sym runs))
+run_says at (SetMode full) command s lines s' runs is says = absurd (true≢false (sym runs))
 
 run_goes_on : (c : Command) → is_run c ≡ true → MayGoOn c
 run_goes_on (Chunk prints text) is = tt
@@ -90,6 +133,20 @@ run_goes_on Abort is = absurd (true≢false (sym is))
 run_goes_on Logout is = absurd (true≢false (sym is))
 run_goes_on (Lock write name) is = tt
 run_goes_on (Unlock name) is = tt
+run_goes_on Checkpoint is = tt
+run_goes_on (SetMode full) is = tt
+
+-- it sets no mode
+run_still : (c : Command) → is_run c ≡ true → (m : Mode) → mode_with m c ≡ m
+run_still (Chunk prints text) is m = refl
+run_still (Method class_side class text) is m = refl
+run_still Commit is m = refl
+run_still Abort is m = refl
+run_still Logout is m = refl
+run_still (Lock write name) is m = refl
+run_still (Unlock name) is m = refl
+run_still Checkpoint is m = refl
+run_still (SetMode full) is m = absurd (true≢false (sym is))
 
 run_is : (c : Command) → is_run c ≡ true → (command : ObjectCommand) × (object_command c ≡ Some command)
 run_is (Chunk prints text) is = (_, refl)
@@ -99,6 +156,8 @@ run_is Abort is = absurd (true≢false (sym is))
 run_is Logout is = absurd (true≢false (sym is))
 run_is (Lock write name) is = absurd (true≢false (sym is))
 run_is (Unlock name) is = absurd (true≢false (sym is))
+run_is Checkpoint is = absurd (true≢false (sym is))
+run_is (SetMode full) is = absurd (true≢false (sym is))
 
 -- what a session carries with another view of the same setting
 carried : (s : Session) (spoiled : Bool) (view : View) (cache : List Bytes) → view.state.seen.setting ≡ s.view.state.seen.setting
@@ -144,6 +203,7 @@ module _ (o : Opened) (es : List Event) (number : ℕ) (s : Session) (c : Comman
         names = subst (λ n. next_counter (after_events o es) s.session ≤ n) (sym first) stands.names;
         drawn = omega (arith, stands.drawn, first, next);
         sound = keeps.sound stands.sound;
+        mode = stands.mode ∙ sym (mode_still o s.session number c is (omega (arith, stands.first.0, stands.first.1)) (run_still c runs));
         world = λ calm. world calm ∙ sym (ap (λ st. (run_so_far o es (number + 1) st).world) carries);
       }
 

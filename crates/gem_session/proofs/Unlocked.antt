@@ -6,7 +6,7 @@ use Rattle.std.proofs.lemmas.Bool.{false≢true, eq-eqb}
 use Rattle.lock_table.specs.declared.lock.LockKind.{LockKind}
 use Rattle.lock_table.specs.Locks.{holding_cmp, holding, kind_held}
 use Rattle.lock_table.proofs.Changes.{held_others, dropped_others, left_this, left_others}
-use Rattle.gem_meaning.specs.declared.event.What.TheVariants.{Placed, Held, Dropped, Left}
+use Rattle.gem_meaning.specs.declared.event.What.TheVariants.{Placed, Held, Dropped, Left, Checked, Halted}
 use Rattle.gem_meaning.specs.Opened.{Opened}
 use Rattle.gem_meaning.specs.Events.{Event, Told, Standing, after_event, before_events, after_events, events_of}
 use Rattle.gem_meaning.specs.Serial.{HoldsSome}
@@ -25,6 +25,8 @@ other_kind o s (author, Dropped at) session oid other = dropped_others s.locks a
     (λ same. absurd (true≢false (sym (eq-eqb author session (sym same)) ∙ other)))
 other_kind o s (author, Left) session oid other = left_others s.locks author oid session oid
     (λ same. true≢false (sym (eq-eqb author session (sym same)) ∙ other))
+other_kind o s (author, Checked) session oid other = refl
+other_kind o s (author, Halted number entry) session oid other = refl
 
 kinds_from : (o : Opened) (s : Standing) (events : List Event) (session oid : ℕ) → events_of session events ≡ []
     → kind_held (fold (after_event o) s events).locks session oid ≡ kind_held s.locks session oid

@@ -8,11 +8,11 @@ use Rattle.shell_words.specs.declared.limits.TheConstants.{COMMAND_LIMIT}
 use Rattle.gem_image.specs.Image.{objects_in}
 use Rattle.gem_sound.specs.Parts.{user_at}
 use Rattle.gem_replies.specs.declared.reply.Line.{Line}
-use Rattle.gem_replies.specs.declared.reply.Line.TheVariants.{NoMemory, Unchanged, Refused, Committed, Locked, Denied, NotHeld, Unlocked}
+use Rattle.gem_replies.specs.declared.reply.Line.TheVariants.{NoMemory, Unchanged, Refused, Committed, Locked, Denied, NotHeld, Unlocked, Halted as HaltedLine, LogFull as LogFullLine, DiskFault as DiskFaultLine, ExtentFull, Checkpoint}
 use Rattle.gem_replies.specs.declared.reply.Transcript.{Transcript}
 use Rattle.running_objects.specs.Seen.{IsSoundState, Keeps, with_whole_budget}
 use Rattle.gem_meaning.specs.Commands.{object_command}
-use Rattle.gem_meaning.specs.Opened.{Opened, session_serial, commands_of, entry_commands}
+use Rattle.gem_meaning.specs.Opened.{Opened, session_serial, commands_of, entry_commands, mode_at}
 use Rattle.gem_meaning.specs.Names.{user_in}
 use Rattle.gem_meaning.specs.Events.{Event, Told, image_at, next_counter, standing, events_of}
 use Rattle.gem_meaning.specs.Serial.{EndsTransaction, MayGoOn, EndedBefore, HoldsSome, CanServe, IsConsistent}
@@ -22,7 +22,9 @@ use Rattle.gem_meaning.specs.Commits.{SeesNumber}
 use Rattle.gem_meaning.specs.Session.{CommandSays, Says}
 use Rattle.stone_core.specs.Port.{PortState}
 use Rattle.stone_core.specs.declared.port.CommitAnswer.{CommitAnswer}
-use Rattle.stone_core.specs.declared.port.CommitAnswer.TheVariants.{ReadOnly, Conflicts, Placed, NoMemory as ShortOfMemory}
+use Rattle.stone_core.specs.declared.port.CommitAnswer.TheVariants.{Halted, ReadOnly, Conflicts, LogFull, DiskFault, Placed, NoMemory as ShortOfMemory}
+use Rattle.stone_core.specs.declared.port.CheckAnswer.{CheckAnswer}
+use Rattle.stone_core.specs.declared.port.CheckAnswer.TheVariants.{Halted as HaltedAtCheck, Full, DiskFault as DiskFaultAtCheck, Made, NoMemory as NoMemoryForCheck}
 use Rattle.stone_core.specs.declared.port.LockAnswer.{LockAnswer}
 use Rattle.stone_core.specs.declared.port.LockAnswer.TheVariants.{Granted, Denied as DeniedBy, NoMemory as NoMemoryForLock}
 use Rattle.lock_table.specs.declared.lock.LockKind.{LockKind}
@@ -46,10 +48,21 @@ ends_transaction _ = false
 
 -- the reply to a commit that was answered so, with this view after it
 abbrev pub commit_line : CommitAnswer → ℕ → Line
+commit_line (Halted number) view = HaltedLine number
 commit_line (ReadOnly number) view = Unchanged number view
 commit_line (Conflicts found) view = Refused found
+commit_line (LogFull length size) view = LogFullLine length size
+commit_line DiskFault view = DiskFaultLine
 commit_line (Placed number) view = Committed number view
 commit_line ShortOfMemory view = NoMemory
+
+-- the reply to a checkpoint that was answered so
+abbrev pub check_line : CheckAnswer → Line
+check_line (HaltedAtCheck number) = HaltedLine number
+check_line (Full pages) = ExtentFull pages
+check_line DiskFaultAtCheck = DiskFaultLine
+check_line (Made number) = Checkpoint number
+check_line NoMemoryForCheck = NoMemory
 
 -- the reply to a lock that was asked for in this kind and answered so, at this view
 abbrev pub lock_line : LockAnswer → (asked : LockKind) → (oid view : ℕ) → Line
@@ -73,6 +86,7 @@ session_state s = record {
   session = s.session;
   user = s.view.state.seen.setting.user;
   view = s.number;
+  mode = s.mode;
   transaction = s.transaction;
   first_command = s.first_command;
   first_name = s.view.state.seen.setting.first;
@@ -93,10 +107,10 @@ MayBegin o session number = (number ≡ 1)
 abbrev pub HasUser : Told → (number user : ℕ) → Type 0
 HasUser t number user = IsSome (user_at (objects_in (image_at (standing t) number)) user)
 
--- The session stands before the command with this number: its view is one that there was, with its
--- user, and its transaction runs on it; it goes on, no earlier entry of the session names one of its
--- commands, and its names come after all that the session's commits drew. Its objects are sound,
--- and they are what the transaction so far left, unless it is spoiled.
+-- The session stands before the command with this number, in its script's mode: its view is one that
+-- there was, with its user, and its transaction runs on it; it goes on, no earlier entry of the
+-- session names one of its commands, and its names come after all that the session's commits drew.
+-- Its objects are sound, and they are what the transaction so far left, unless it is spoiled.
 pub record StandsBefore (t : Told) (number : ℕ) (s : Session) : Type 0 where
   pub session : (1 ≤ s.session) × (s.session ≤ length t.opened.script)
   pub serial : s.serial ≡ session_serial t.opened s.session
@@ -113,6 +127,7 @@ pub record StandsBefore (t : Told) (number : ℕ) (s : Session) : Type 0 where
   pub names : next_counter (standing t) s.session ≤ s.view.state.seen.setting.first
   pub drawn : s.view.state.seen.setting.first ≤ s.view.state.seen.world.next
   pub sound : IsSoundState s.view.state.seen
+  pub mode : s.mode ≡ mode_at t.opened.script s.session number
   pub world : s.spoiled ≡ false → s.view.state.seen.world
       ≡ (run_so_far t.opened t.events number (session_state s)).world
 
@@ -125,9 +140,9 @@ pub record ComesTo (p : PortState) (number : ℕ) (s : Session) (c : Command) : 
   pub numbered : IsCommandNumber number
   pub command : slice_get (commands_of p.told.opened.script s.session) (number - 1) ≡ Some c
 
--- The transaction of the session has ended with the command of this number. Its view is one that
--- there was, with its user, and all names that the session's commits drew come before the one that
--- it draws next.
+-- The transaction of the session has ended with the command of this number, in its script's mode. Its
+-- view is one that there was, with its user, and all names that the session's commits drew come
+-- before the one that it draws next.
 pub record HasEnded (p : PortState) (number : ℕ) (s : Session) : Type 0 where
   pub serves : p.serves s.session ≡ true
   pub opened : CanServe p.told.opened
@@ -141,6 +156,7 @@ pub record HasEnded (p : PortState) (number : ℕ) (s : Session) : Type 0 where
   pub ended : EndsTransaction (slice_get (commands_of p.told.opened.script s.session) (number - 1))
   pub apart : AllByRecursion (EndedBefore s.session (number + 1)) p.told.events
   pub names : next_counter (standing p.told) s.session ≤ s.view.state.seen.world.next
+  pub mode : s.mode ≡ mode_at p.told.opened.script s.session (number + 1)
   pub sound : IsSoundState s.view.state.seen
 
 -- A transaction of the session began at the view that stands then. What the session carries is

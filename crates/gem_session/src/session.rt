@@ -4,7 +4,8 @@ ghost use Rattle.shell_words.specs.declared.script.Command.TheVariants.{Abort};
 ghost use Rattle.gem_image.specs.Image.{objects_in};
 ghost use Rattle.gem_sound.specs.Sound.{IsSoundFor};
 ghost use Rattle.plain_state.specs.State.{begun};
-ghost use Rattle.gem_meaning.specs.Commands.{is_run};
+ghost use Rattle.gem_record.specs.declared.mode.Mode.TheVariants.{Full};
+ghost use Rattle.gem_meaning.specs.Commands.{is_run, mode_of};
 ghost use Rattle.gem_meaning.specs.State.{next_transaction};
 ghost use Rattle.stone_core.specs.Port.{GoesOn};
 ghost use Rattle.running_objects.specs.Seen.{IsSoundState};
@@ -16,6 +17,7 @@ use crate::known_view::KnownView;
 use crate::running::run_command;
 use gem_image::Image;
 use gem_object::Oid;
+use gem_record::Mode;
 use gem_replies::Line;
 use history_laws::laws::images_are_sound;
 use plain_state::laws::begins_on_sound_images;
@@ -34,6 +36,8 @@ pub(crate) struct Session {
     pub serial: u32,
     /// The number of commits in the image that the transaction runs on.
     pub number: u64,
+    /// What its commits are checked for.
+    pub mode: Mode,
     /// The transaction's number within the session, from 1.
     pub transaction: u32,
     /// The number of the transaction's first command.
@@ -66,6 +70,7 @@ impl Session {
           session = session;
           serial = serial;
           number = standing.number;
+          mode = Full;
           transaction = 1;
           first_command = 1;
           spoiled = false;
@@ -85,6 +90,7 @@ impl Session {
             session,
             serial,
             number,
+            mode: Mode::Full,
             transaction: 1,
             first_command: 1,
             spoiled: false,
@@ -140,6 +146,11 @@ impl Session {
             Command::Abort => self.abort(alloc, port, number),
             Command::Lock { write, name } => self.lock(port, number, *write, name),
             Command::Unlock { name } => self.unlock(port, number, name),
+            Command::Checkpoint => Ok(self.checkpoint(alloc, port, number)),
+            Command::Mode { full } => {
+                self.mode = mode_of(*full);
+                Ok(Line::Mode { full: *full })
+            }
             _ => unreachable!(),
         }
     }
@@ -225,6 +236,13 @@ fn start_view(
     standing.image.invariant();
     let view = View::start(alloc, standing.image, standing.number, serial, next, user)?;
     Ok(KnownView::of(alloc, view))
+}
+
+// The mode that a line of a script sets.
+fn mode_of(full: bool) -> Mode
+    ensures { result ≡ mode_of full }
+{
+    if full { Mode::Full } else { Mode::NoRw }
 }
 
 // Whether the command is a chunk or a method.

@@ -1,20 +1,20 @@
-//! The commands of a session that end its transaction or are about locks.
+//! The commands of a session that end its transaction, are about locks, or store the image.
 ghost use Rattle.std.specs.Prelude.{◌≡◌, ◌∷◌, [], IfOk};
-ghost use Rattle.shell_words.specs.declared.script.Command.TheVariants.{Commit, Lock, Unlock};
+ghost use Rattle.shell_words.specs.declared.script.Command.TheVariants.{Commit, Lock, Unlock, Checkpoint};
 ghost use Rattle.gem_record.specs.Record.{record_of};
 ghost use Rattle.gem_meaning.specs.State.{entry_to};
 ghost use Rattle.stone_core.specs.Port.{GoesOn};
-ghost use Rattle.gem_session.specs.Running.{ends_transaction, commit_line, lock_line, unlock_line, may_ask, session_state, ComesTo, RepliedBy};
+ghost use Rattle.gem_session.specs.Running.{ends_transaction, commit_line, check_line, lock_line, unlock_line, may_ask, session_state, ComesTo, RepliedBy};
 
 use crate::session::Session;
 use crate::targets::{Target, kind_asked, lock_target, unlock_target};
 use gem_object::{Oid, Text};
 use gem_record::TxnRecord;
 use gem_replies::Line;
-use history_laws::laws::images_are_sound;
+use history_laws::laws::{images_are_sound, placed_as_recorded};
 use lock_table::LockKind;
 use std::alloc::{AllocError, Global};
-use stone_core::{CommitAnswer, LockAnswer, StonePort};
+use stone_core::{CheckAnswer, CommitAnswer, LockAnswer, StonePort};
 
 impl Session {
     /// Commits the transaction. Where it does, or nothing was written, the next one begins.
@@ -33,6 +33,7 @@ impl Session {
             number self.old Commit (line ∷ []) self.new) }
         ensures port { GoesOn self.old.session (P.state port.old) (P.state port.new) }
     {
+        placed_as_recorded();
         if self.spoiled {
             return Ok(Line::Spoiled);
         }
@@ -47,15 +48,29 @@ impl Session {
         Ok(commit_line(answer, self.number))
     }
 
+    /// Asks the Stone to store the image that stands.
+    pub(crate) fn checkpoint<P: StonePort>(&self, alloc: Global, port: &mut P, number: u32) -> Line
+        requires comes { ComesTo (P.state port.old) number self.now Checkpoint }
+        ensures replied { RepliedBy (P.state port.old) (P.state port.new) number self.now
+            Checkpoint (result ∷ []) self.now }
+        ensures port { GoesOn self.now.session (P.state port.old) (P.state port.new) }
+    {
+        let answer = port.checkpoint(alloc, self.session);
+        check_line(answer)
+    }
+
     // The record of the transaction, with the commit that has this number.
     fn record(&self, number: u32) -> Result<TxnRecord, AllocError>
         ensures { IfOk result (λ done. done ≡ record_of (entry_to number (session_state self.now))
             self.now.view.state.seen.setting self.now.view.state.seen.world) }
     {
-        let mut done = self
-            .view
-            .view()
-            .finish(self.session, self.transaction, self.first_command, number)?;
+        let mut done = self.view.view().finish(
+            self.session,
+            self.transaction,
+            self.first_command,
+            number,
+            self.mode,
+        )?;
         done.view = self.number;
         Ok(done)
     }
@@ -137,10 +152,26 @@ fn commit_line(answer: CommitAnswer, view: u64) -> Line
     ensures { result ≡ commit_line answer view }
 {
     match answer {
+        CommitAnswer::Halted(number) => Line::Halted(number),
         CommitAnswer::ReadOnly(at) => Line::Unchanged { at, view },
         CommitAnswer::Conflicts(found) => Line::Refused(found),
+        CommitAnswer::LogFull { length, size } => Line::LogFull { length, size },
+        CommitAnswer::DiskFault => Line::DiskFault,
         CommitAnswer::Placed(number) => Line::Committed { number, view },
         CommitAnswer::NoMemory => Line::NoMemory,
+    }
+}
+
+// The reply to a checkpoint that was answered so.
+fn check_line(answer: CheckAnswer) -> Line
+    ensures { result ≡ check_line answer }
+{
+    match answer {
+        CheckAnswer::Halted(number) => Line::Halted(number),
+        CheckAnswer::Full(pages) => Line::ExtentFull(pages),
+        CheckAnswer::DiskFault => Line::DiskFault,
+        CheckAnswer::Made(number) => Line::Checkpoint(number),
+        CheckAnswer::NoMemory => Line::NoMemory,
     }
 }
 

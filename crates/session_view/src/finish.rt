@@ -6,14 +6,15 @@ ghost use Rattle.gem_record.specs.Record.{all_uncommitted, record_of};
 
 use crate::view::View;
 use gem_object::{Object, Sequence};
-use gem_record::{ByName, OidList, TxnRecord};
+use gem_record::{ByName, Mode, OidList, TxnRecord};
 use gem_update::Update;
 use plain_state::PlainState;
 use running_objects::Objects;
 use std::alloc::AllocError;
 
 impl View {
-    /// The record of the transaction, which ran these commands of this session, for its commit.
+    /// The record of the transaction, which ran these commands of this session, for its commit in
+    /// this mode.
     /// Objects are copied, with 0 as the number of their last commit.
     ///
     /// # Errors
@@ -26,6 +27,7 @@ impl View {
         transaction: u32,
         first_command: u32,
         last_command: u32,
+        mode: Mode,
     ) -> Result<TxnRecord, AllocError>
         ensures { IfOk result (λ finished. finished ≡ record_of (record {
           session = session;
@@ -35,6 +37,7 @@ impl View {
           last_command = last_command;
           first_name = self.now.state.seen.setting.first;
           view = self.now.number;
+          mode = mode;
         }) self.now.state.seen.setting self.now.state.seen.world) }
     {
         Ok(TxnRecord {
@@ -45,6 +48,7 @@ impl View {
             last_command,
             first_name: self.state.first_counter(),
             view: self.number,
+            mode,
             base: self.state.view()?,
             touched: touched(&self.state)?,
             written: written(&self.state)?,

@@ -1,7 +1,7 @@
 ghost use Rattle.std.specs.Prelude.{◌≡◌, IfOk};
 
 use gem_object::{Conflict, ConflictKind, Conflicts, Oid, Text};
-use gem_record::Entry;
+use gem_record::{Entry, Mode};
 use gem_replies::{History, Line, Replies, Reply, RunBook, Transcript, Transcripts, report_text};
 use lock_table::LockKind;
 use std::alloc::{AllocError, Global};
@@ -47,6 +47,15 @@ fn entry(session: u32, transaction: u32, view: u64) -> Entry {
         last_command: 2,
         first_name: 1,
         view,
+        mode: Mode::Full,
+    }
+}
+
+// The same of a transaction in whose commit what it only read wasn't checked.
+fn unchecked(session: u32, transaction: u32, view: u64) -> Entry {
+    Entry {
+        mode: Mode::NoRw,
+        ..entry(session, transaction, view)
     }
 }
 
@@ -228,6 +237,30 @@ fn lines_of_commits(rt: HostRuntime) -> Result<(), Fail> {
     Ok(())
 }
 
+#[test]
+fn lines_of_the_disk(rt: HostRuntime) -> Result<(), Fail> {
+    let alloc = rt.alloc();
+    let most = 18_446_744_073_709_551_615;
+    assert!(rt; shows(alloc, Line::Halted(most), "halted at 18446744073709551615")?);
+    let full = Line::LogFull {
+        length: 13,
+        size: 21,
+    };
+    assert!(rt; shows(alloc, full, "log full at 13 by 21")?);
+    assert!(rt; shows(alloc, Line::DiskFault, "disk fault")?);
+    assert!(rt; shows(alloc, Line::ExtentFull(65537), "extent full at 65537")?);
+    assert!(rt; shows(alloc, Line::Checkpoint(0), "checkpoint 0")?);
+    Ok(())
+}
+
+#[test]
+fn lines_of_modes(rt: HostRuntime) -> Result<(), Fail> {
+    let alloc = rt.alloc();
+    assert!(rt; shows(alloc, Line::Mode { full: true }, "mode full_checks")?);
+    assert!(rt; shows(alloc, Line::Mode { full: false }, "mode no_rw_checks")?);
+    Ok(())
+}
+
 fn denied(kind: LockKind, holder: u32, held: LockKind) -> Line {
     Line::Denied {
         kind,
@@ -313,10 +346,10 @@ fn commits_alone(rt: HostRuntime) -> Result<(), Fail> {
         first: 18_446_744_073_709_551_614,
         base: 1,
         transcripts: Transcripts::of(Vec::new(alloc)),
-        history: History::of(vec![in alloc; entry(2, 1, 8), entry(1, 3, 9)]?),
+        history: History::of(vec![in alloc; entry(2, 1, 8), unchecked(1, 3, 9)]?),
     };
     let wanted = b"commits 2\n18446744073709551615 session 2 transaction 1 view 8\n\
-        18446744073709551616 session 1 transaction 3 view 9\n";
+        18446744073709551616 session 1 transaction 3 view 9 no_rw_checks\n";
     assert!(rt; report_text(alloc, &book)?.as_slice() == wanted.as_slice());
     Ok(())
 }

@@ -206,7 +206,7 @@ fn book_and_events(rt: HostRuntime) -> Result<(), Fail> {
 
 const NO_SCRIPTS: [(&str, u32, u8); 5] = [
     ("session DataCurator\nrun\n3\n", 2, 3),
-    ("checkpoint\n", 1, 1),
+    ("checkpoint\n", 1, 2),
     ("commit\n", 1, 2),
     ("\nsession 2nd\n", 2, 6),
     ("session DataCurator\nrun\n\u{7f}\n%\n", 3, 8),

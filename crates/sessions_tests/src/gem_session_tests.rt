@@ -4,6 +4,7 @@ ghost use Rattle.shell_words.specs.declared.limits.TheConstants.{SESSION_LIMIT};
 ghost use Rattle.gem_meaning.specs.Serial.{CanServe};
 ghost use Rattle.gem_server.specs.Server.{kernel_opening};
 
+use gem_keeper::MemKeeper;
 use gem_object::Oid;
 use gem_replies::{History, RunBook, Transcript, Transcripts, report_text};
 use gem_session::run_session;
@@ -86,12 +87,16 @@ commits 0
 ";
 
 // A Stone over the kernel's image for the script.
-fn opened<L: Ledger>(alloc: Global, script: Arc<Script>, blank: Blank) -> Result<Stone, AllocError>
+fn opened<L: Ledger>(
+    alloc: Global,
+    script: Arc<Script>,
+    blank: Blank,
+) -> Result<Stone<MemKeeper>, AllocError>
     requires name { blank.name ≡ L.name }
     requires parts { blank.parts ≡ L.parts }
     requires some_parts { 0 < L.parts }
     requires limit { length script.value ≤ SESSION_LIMIT }
-    ensures stone { IfOk result (λ stone. stone ≡ record {
+    ensures stone { IfOk result (λ stone. stone.told ≡ record {
       opened = kernel_opening script.value;
       events = [];
     }) }
@@ -100,7 +105,9 @@ fn opened<L: Ledger>(alloc: Global, script: Arc<Script>, blank: Blank) -> Result
     let mut steps = Steps::<L>::start(blank);
     let image = kernel(alloc, &mut steps)?;
     image.invariant();
-    let stone = Stone::start(alloc, image, 0, script)?;
+    let Ok(stone) = Stone::start(alloc, image, 0, script, MemKeeper::new()) else {
+        return Err(AllocError);
+    };
     Ok(stone)
 }
 

@@ -589,8 +589,90 @@ commits 2
 ",
 );
 
+/// Checkpoints, and lines that set the mode: the last one before a commit tells what it is checked
+/// for, and another session's don't.
+const MODES: (&str, &str) = (
+    "\
+session DataCurator
+checkpoint
+mode no_rw_checks
+run
+Globals at: #T put: 3
+%
+checkpoint
+commit
+checkpoint
+mode full_checks
+run
+Globals at: #T put: 4
+%
+commit
+run
+Globals at: #T put: 5
+%
+mode no_rw_checks
+mode full_checks
+mode no_rw_checks
+commit
+commit
+session DataCurator
+run
+Globals at: #T put: T + 1
+%
+commit
+mode no_rw_checks
+abort
+printit
+T
+%
+session Nobody
+checkpoint
+mode full_checks
+",
+    "\
+session 1 DataCurator
+[0] login view 0
+[1] checkpoint 0
+[2] mode no_rw_checks
+[3] ok
+[4] checkpoint 0
+[5] committed 1 view 1
+[6] checkpoint 1
+[7] mode full_checks
+[8] ok
+[9] committed 2 view 2
+[10] ok
+[11] mode no_rw_checks
+[12] mode full_checks
+[13] mode no_rw_checks
+[14] committed 3 view 3
+[15] committed unchanged at 3 view 3
+[16] logout
+session 2 DataCurator
+[0] login view 3
+[1] ok
+[2] committed 4 view 4
+[3] mode no_rw_checks
+[4] aborted view 4
+[5] 6
+[6] logout
+session 3 Nobody
+[0] no user at view 4
+[1] not logged in
+[2] not logged in
+[3] not logged in
+commits 4
+1 session 1 transaction 1 view 0 no_rw_checks
+2 session 1 transaction 2 view 1
+3 session 1 transaction 3 view 2 no_rw_checks
+4 session 2 transaction 1 view 3
+",
+);
+
 /// Scripts that take little time.
-pub(crate) const REPORTS: [(&str, &str); 6] = [LOGINS, CHUNKS, ERRORS, METHODS, COMMITS, LOCKS];
+pub(crate) const REPORTS: [(&str, &str); 7] = [
+    LOGINS, CHUNKS, ERRORS, METHODS, COMMITS, LOCKS, MODES,
+];
 
 /// Scripts that go to the limits of a chunk.
 pub(crate) const LONG_REPORTS: [(&str, &str); 1] = [BUDGETS];

@@ -27,6 +27,10 @@ fn show(out: &mut Vec<u8>, command: &Command) -> Result<(), AllocError> {
         Command::Commit => out.extend_from_slice(b"commit;"),
         Command::Abort => out.extend_from_slice(b"abort;"),
         Command::Logout => out.extend_from_slice(b"logout;"),
+        Command::Checkpoint => out.extend_from_slice(b"checkpoint;"),
+        Command::Mode { full } => {
+            out.extend_from_slice(if *full { b"full;" } else { b"no_rw;" })
+        }
         Command::Lock { write, name } => {
             out.extend_from_slice(if *write { b"write " } else { b"read " })?;
             out.extend_from_slice(name.bytes())?;
@@ -68,7 +72,7 @@ fn broken(alloc: Global, text: &[u8]) -> Option<(u32, u8)> {
     }
 }
 
-const SCRIPTS: [(&[u8], &[u8]); 13] = [
+const SCRIPTS: [(&[u8], &[u8]); 14] = [
     (b"", b""),
     (b"\n\r\n\r", b""),
     (b"session A", b"A{}"),
@@ -97,6 +101,10 @@ const SCRIPTS: [(&[u8], &[u8]); 13] = [
         b"A{read X;write y_1;unlock _;}",
     ),
     (
+        b"session A\ncheckpoint\nmode no_rw_checks\r\nmode full_checks\ncheckpoint",
+        b"A{checkpoint;no_rw;full;checkpoint;}",
+    ),
+    (
         b"session DataCurator\nprintit\n3 + 4 * 2\n%\n",
         b"DataCurator{printit(3 + 4 * 2\n)}",
     ),
@@ -115,7 +123,7 @@ fn reads_scripts(rt: HostRuntime) -> Result<(), Fail> {
     Ok(())
 }
 
-const BROKEN: [(&[u8], u32, u8); 37] = [
+const BROKEN: [(&[u8], u32, u8); 44] = [
     // none of the table's lines
     (b"foo", 1, 1),
     (b"session", 1, 1),
@@ -133,11 +141,18 @@ const BROKEN: [(&[u8], u32, u8); 37] = [
     (b"session A\nunlock\n", 2, 1),
     (b"session A\nmethod: 9x\nx\n%\n", 2, 1),
     (b"session A\nmethod: a-b\nx\n%\n", 2, 1),
-    (b"session A\ncheckpoint\n", 2, 1),
+    (b"session A\ncheckpoint 1\n", 2, 1),
+    (b"session A\nCheckpoint\n", 2, 1),
+    (b"session A\nmode\n", 2, 1),
+    (b"session A\nmode checks\n", 2, 1),
+    (b"session A\nmode full_checks \n", 2, 1),
+    (b"session A\nmode  no_rw_checks\n", 2, 1),
     (b"session A\nrun\n%\n%\n", 4, 1),
     // no session takes the command
     (b"commit", 1, 2),
     (b"\nlock read X\n", 2, 2),
+    (b"checkpoint\n", 1, 2),
+    (b"session A\nlogout\nmode full_checks\n", 3, 2),
     (b"run\n3\n", 1, 2),
     (b"session A\nlogout\ncommit\n", 3, 2),
     (b"session A\nlogout\n\nmethod: X\nx\n%\n", 4, 2),

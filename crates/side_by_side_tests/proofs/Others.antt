@@ -9,7 +9,7 @@ use Rattle.gem_record.specs.gem_image.Image.{Image}
 use Rattle.gem_record.specs.declared.record.TxnRecord.{TxnRecord}
 use Rattle.lock_table.specs.Locks.{kind_held}
 use Rattle.lock_table.specs.declared.lock.LockKind.{LockKind}
-use Rattle.gem_meaning.specs.declared.event.What.TheVariants.{Placed, Held, Dropped, Left}
+use Rattle.gem_meaning.specs.declared.event.What.TheVariants.{Placed, Held, Dropped, Left, Checked, Halted}
 use Rattle.shell_words.specs.Script.{SessionCommands}
 use Rattle.kernel_image.specs.Objects.{kernel_image}
 use Rattle.gem_meaning.specs.Opened.{Opened, base_serial, largest_serial}
@@ -18,8 +18,9 @@ use Rattle.gem_meaning.specs.Serial.{IsRecorded, HoldsSome, CanServe}
 use Rattle.gem_meaning.specs.Locks.{leaving}
 use Rattle.stone_core.specs.declared.port.Begun.{Begun}
 use Rattle.stone_core.specs.declared.port.CommitAnswer.{CommitAnswer}
+use Rattle.stone_core.specs.declared.port.CheckAnswer.{CheckAnswer}
 use Rattle.stone_core.specs.declared.port.LockAnswer.{LockAnswer}
-use Rattle.stone_core.specs.Port.{PortState, CommitSays, LockSays, UnlockSays, LogoutSays, GoesOn, AnswerFits, LockFits, BeginSays, event_of_answer, event_of_lock, dropping}
+use Rattle.stone_core.specs.Port.{PortState, CommitSays, LockSays, UnlockSays, LogoutSays, GoesOn, AnswerFits, LockFits, BeginSays, event_of_answer, event_of_lock, dropping, CheckSays, CheckFits, event_of_check}
 use Rattle.stone_core.specs.Stone.{is_session}
 use Rattle.history_laws.proofs.Apart.{records_stay}
 use Rattle.history_laws.proofs.Locked.{still_there}
@@ -91,6 +92,8 @@ there_after o s (event ∷ more) oid there = there_after o (after_event o s even
     one (session, Held at kind) = there
     one (session, Dropped at) = there
     one (session, Left) = there
+    one (session, Checked) = there
+    one (session, Halted number e) = there
 
 -- an object is there when others have come
 pub there_shared : (s t : Told) (session oid : ℕ) → t.opened ≡ s.opened → OthersCame session s.events t.events
@@ -156,8 +159,19 @@ commit_after o before between after r answer came says =
     record {
       others = came.0 ++ says.others;
       are_others = none_came o before between after r.session came says.others says.are_others;
-      events = says.events ∙ ap (λ es. es ++ event_of_answer r answer) is;
-      fits = subst (λ es. AnswerFits (after_events o es) r answer) is says.fits;
+      events = says.events ∙ ap (λ es. es ++ event_of_answer (after_events o es).number r answer) is;
+      fits = subst (λ es. AnswerFits o es r answer) is says.fits;
+    }
+
+check_after : (o : Opened) (before between after : List Event) (session : ℕ) (answer : CheckAnswer)
+    → OthersCame session before between → CheckSays o between after session answer → CheckSays o before after session answer
+check_after o before between after session answer came says =
+    let is = joined o before between after session came says.others in
+    record {
+      others = came.0 ++ says.others;
+      are_others = none_came o before between after session came says.others says.are_others;
+      events = says.events ∙ ap (λ es. es ++ event_of_check session (after_events o es).number answer) is;
+      fits = subst (λ es. CheckFits o es answer) is says.fits;
     }
 
 module _ (s t u : Told) (opened : t.opened ≡ s.opened) where
@@ -184,6 +198,11 @@ module _ (s t u : Told) (opened : t.opened ≡ s.opened) where
         → UnlockSays s.opened s.events u.events session oid held
     unlock_shared oid held says = unlock_after s.opened s.events t.events u.events session came oid held
         (subst (λ o. UnlockSays o t.events u.events session oid held) opened says)
+
+    pub check_shared : (answer : CheckAnswer) → CheckSays t.opened t.events u.events session answer
+        → CheckSays s.opened s.events u.events session answer
+    check_shared answer says = check_after s.opened s.events t.events u.events session answer came
+        (subst (λ o. CheckSays o t.events u.events session answer) opened says)
 
     pub logout_shared : LogoutSays t.opened t.events u.events session → LogoutSays s.opened s.events u.events session
     logout_shared says = logout_after s.opened s.events t.events u.events session came

@@ -3,6 +3,7 @@ ghost use Rattle.std.specs.Prelude.{◌≡◌, ℕ, true};
 ghost use Rattle.gem_meaning.specs.Events.{OthersCame};
 ghost use Rattle.side_by_side_tests.specs.Overtaken.{is_overtaken};
 
+use gem_keeper::MemKeeper;
 use gem_object::Oid;
 use gem_record::TxnRecord;
 use gem_replies::Transcript;
@@ -12,7 +13,7 @@ use shell_words::Script;
 use std::alloc::{AllocError, Global};
 use std::marker::Model;
 use std::sync::Arc;
-use stone_core::{Begun, CommitAnswer, LockAnswer, Stone, StonePort};
+use stone_core::{Begun, CheckAnswer, CommitAnswer, LockAnswer, Stone, StonePort};
 
 /// The calls before which another session runs. They count from 1, the one by which the session
 /// logs in, and 0 is none.
@@ -20,11 +21,11 @@ pub(crate) type Turns = (u32, u32);
 
 /// A port for the last session but one of a script. Before a call whose turn it is, the next of the
 /// sessions before it runs on the same Stone to its end. A call begins a transaction,
-/// commits, locks, unlocks or logs out.
+/// commits, locks, unlocks, makes a checkpoint or logs out.
 #[derive(Drop)]
 pub(crate) struct Overtaken {
     /// The Stone.
-    pub(crate) stone: Stone,
+    pub(crate) stone: Stone<MemKeeper>,
     /// Its script.
     pub(crate) script: Arc<Script>,
     /// The memory for the others' transcripts.
@@ -51,9 +52,9 @@ impl Model for Overtaken {
 
     ghost coded = { Prim.hlevel (codes, map.code {R = nat_cmp} coded_ℕ object.the_row.coded) };
 
-    ghost view = { λ port. port.stone };
+    ghost view = { λ port. port.stone.told };
 
-    ghost invariant = { λ port. IsOvertaking port.stone port.script.value port.next };
+    ghost invariant = { λ port. IsOvertaking port.stone.told port.script.value port.next };
 }
 
 impl Overtaken {
@@ -110,6 +111,11 @@ impl StonePort for Overtaken {
     fn unlock(&mut self, session: u32, oid: Oid) -> bool {
         self.let_others_run();
         StonePort::unlock(&mut self.stone, session, oid)
+    }
+
+    fn checkpoint(&mut self, alloc: Global, session: u32) -> CheckAnswer {
+        self.let_others_run();
+        StonePort::checkpoint(&mut self.stone, alloc, session)
     }
 
     fn logout(&mut self, session: u32) {

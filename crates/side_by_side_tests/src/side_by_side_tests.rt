@@ -8,6 +8,7 @@ ghost use Rattle.gem_server.specs.Server.{kernel_opening};
 
 use crate::overtaken::{Overtaken, Turns};
 use crate::scripts::{MADE, MADE_REPORT, ROWS};
+use gem_keeper::MemKeeper;
 use gem_replies::{History, RunBook, Transcript, Transcripts, report_text};
 use gem_session::run_session;
 use kernel_image::kernel;
@@ -21,12 +22,16 @@ use std::test::Fail;
 use stone_core::Stone;
 
 // A Stone over the kernel's image for the script.
-fn opened<L: Ledger>(alloc: Global, script: Arc<Script>, blank: Blank) -> Result<Stone, AllocError>
+fn opened<L: Ledger>(
+    alloc: Global,
+    script: Arc<Script>,
+    blank: Blank,
+) -> Result<Stone<MemKeeper>, AllocError>
     requires name { blank.name ≡ L.name }
     requires parts { blank.parts ≡ L.parts }
     requires some_parts { 0 < L.parts }
     requires limit { length script.value ≤ SESSION_LIMIT }
-    ensures stone { IfOk result (λ stone. stone ≡ record {
+    ensures stone { IfOk result (λ stone. stone.told ≡ record {
       opened = kernel_opening script.value;
       events = [];
     }) }
@@ -36,26 +41,28 @@ fn opened<L: Ledger>(alloc: Global, script: Arc<Script>, blank: Blank) -> Result
     let mut steps = Steps::<L>::start(blank);
     let image = kernel(alloc, &mut steps)?;
     image.invariant();
-    let stone = Stone::start(alloc, image, 0, script)?;
+    let Ok(stone) = Stone::start(alloc, image, 0, script, MemKeeper::new()) else {
+        return Err(AllocError);
+    };
     Ok(stone)
 }
 
 // Runs the first sessions of the script in turn, so many.
 fn run_first(
     alloc: Global,
-    stone: &mut Stone,
+    stone: &mut Stone<MemKeeper>,
     sessions: &[SessionScript],
     count: usize,
 ) -> Result<Vec<Transcript>, AllocError>
-    requires script { stone.old.opened.script ≡ sessions.now }
-    requires serves { CanServe stone.old.opened }
-    requires begun { stone.old.events ≡ [] }
-    requires base { base_serial stone.old.opened ≡ 1 }
+    requires script { stone.old.told.opened.script ≡ sessions.now }
+    requires serves { CanServe stone.old.told.opened }
+    requires begun { stone.old.told.events ≡ [] }
+    requires base { base_serial stone.old.told.opened ≡ 1 }
     requires limit { length sessions.now ≤ SESSION_LIMIT }
     requires count { count ≤ length sessions.now }
-    ensures opened { stone.new.opened ≡ stone.old.opened }
+    ensures opened { stone.new.told.opened ≡ stone.old.told.opened }
     ensures fresh { IfOk result (λ _. (session : ℕ) → count < session
-        → events_of session stone.new.events ≡ []) }
+        → events_of session stone.new.told.events ≡ []) }
 {
     let mut transcripts = Vec::new(alloc);
     for index in 0..count {
@@ -78,20 +85,20 @@ fn before_turns(sessions: usize, turns: Turns) -> usize
 // which have run.
 fn run_overtaken(
     alloc: Global,
-    stone: Stone,
+    stone: Stone<MemKeeper>,
     script: Arc<Script>,
     first: usize,
     ran: Vec<Transcript>,
     turns: Turns,
-) -> Result<(Stone, Vec<Transcript>), AllocError>
-    requires script { stone.opened.script ≡ script.value }
-    requires serves { CanServe stone.opened }
-    requires base { base_serial stone.opened ≡ 1 }
+) -> Result<(Stone<MemKeeper>, Vec<Transcript>), AllocError>
+    requires script { stone.told.opened.script ≡ script.value }
+    requires serves { CanServe stone.told.opened }
+    requires base { base_serial stone.told.opened ≡ 1 }
     requires limit { length script.value ≤ SESSION_LIMIT }
     requires count { first + 2 ≤ length script.value }
-    requires fresh { (session : ℕ) → first < session → events_of session stone.events ≡ [] }
-    ensures opened { IfOk result (λ left. left.0.opened ≡ stone.opened) }
-    ensures fresh { IfOk result (λ left. events_of (length script.value) left.0.events ≡ []) }
+    requires fresh { (session : ℕ) → first < session → events_of session stone.told.events ≡ [] }
+    ensures opened { IfOk result (λ left. left.0.told.opened ≡ stone.told.opened) }
+    ensures fresh { IfOk result (λ left. events_of (length script.value) left.0.told.events ≡ []) }
 {
     let number = script.sessions().len() as u32 - 1;
     let mut port = Overtaken {
@@ -113,15 +120,15 @@ fn run_overtaken(
 // Runs the last session of the script.
 fn run_last(
     alloc: Global,
-    stone: &mut Stone,
+    stone: &mut Stone<MemKeeper>,
     sessions: &[SessionScript],
 ) -> Result<Transcript, AllocError>
-    requires script { stone.old.opened.script ≡ sessions.now }
-    requires serves { CanServe stone.old.opened }
-    requires base { base_serial stone.old.opened ≡ 1 }
+    requires script { stone.old.told.opened.script ≡ sessions.now }
+    requires serves { CanServe stone.old.told.opened }
+    requires base { base_serial stone.old.told.opened ≡ 1 }
     requires limit { length sessions.now ≤ SESSION_LIMIT }
     requires some { 1 ≤ length sessions.now }
-    requires fresh { events_of (length sessions.now) stone.old.events ≡ [] }
+    requires fresh { events_of (length sessions.now) stone.old.told.events ≡ [] }
 {
     let number = sessions.len() as u32;
     let session = &sessions[sessions.len() - 1];
@@ -131,18 +138,18 @@ fn run_last(
 // Runs the last session but one, overtaken as told, and then the last one.
 fn run_last_two(
     alloc: Global,
-    stone: Stone,
+    stone: Stone<MemKeeper>,
     script: Arc<Script>,
     first: usize,
     ran: Vec<Transcript>,
     turns: Turns,
 ) -> Result<RunBook, AllocError>
-    requires script { stone.opened.script ≡ script.value }
-    requires serves { CanServe stone.opened }
-    requires base { base_serial stone.opened ≡ 1 }
+    requires script { stone.told.opened.script ≡ script.value }
+    requires serves { CanServe stone.told.opened }
+    requires base { base_serial stone.told.opened ≡ 1 }
     requires limit { length script.value ≤ SESSION_LIMIT }
     requires count { first + 2 ≤ length script.value }
-    requires fresh { (session : ℕ) → first < session → events_of session stone.events ≡ [] }
+    requires fresh { (session : ℕ) → first < session → events_of session stone.told.events ≡ [] }
 {
     let again = script.clone()?;
     let (mut stone, mut transcripts) = run_overtaken(alloc, stone, again, first, ran, turns)?;

@@ -12,13 +12,15 @@ use Rattle.gem_meaning.specs.Events.{Event, Told, Standing, told_more, after_eve
 use Rattle.gem_meaning.specs.Serial.{IsConsistent, CanServe, HoldsSome}
 use Rattle.gem_meaning.specs.Locks.{leaving}
 use Rattle.stone_core.specs.declared.port.CommitAnswer.{CommitAnswer}
-use Rattle.stone_core.specs.declared.port.CommitAnswer.TheVariants.{ReadOnly, Conflicts, Placed as PlacedAt, NoMemory}
+use Rattle.stone_core.specs.declared.port.CommitAnswer.TheVariants.{Halted as HaltedAt, ReadOnly, Conflicts, LogFull, DiskFault, Placed as PlacedAt, NoMemory}
+use Rattle.stone_core.specs.declared.port.CheckAnswer.{CheckAnswer}
+use Rattle.stone_core.specs.declared.port.CheckAnswer.TheVariants.{Halted as HaltedAtCheck, Full, DiskFault as DiskFaultAtCheck, Made, NoMemory as NoMemoryForCheck}
 use Rattle.stone_core.specs.declared.port.LockAnswer.{LockAnswer}
 use Rattle.stone_core.specs.declared.port.LockAnswer.TheVariants.{Granted, Denied, NoMemory as NoMemoryForLock}
 use Rattle.std.specs.declared.alloc.AllocError.{AllocError}
 use Rattle.stone_core.specs.declared.port.Begun.{Begun}
 use Rattle.stone_core.specs.Stone.{is_session}
-use Rattle.stone_core.specs.Port.{PortState, BeginSays, CommitSays, LockSays, UnlockSays, LogoutSays, GoesOn, AnswerFits, LockFits, event_of_answer, event_of_lock, dropping}
+use Rattle.stone_core.specs.Port.{PortState, BeginSays, CommitSays, LockSays, UnlockSays, CheckSays, LogoutSays, GoesOn, AnswerFits, LockFits, CheckFits, event_of_answer, event_of_lock, event_of_check, dropping}
 use Rattle.stone_core.proofs.OneMore.{session_bounds}
 
 -- a Stone that nobody else uses, as a port
@@ -35,11 +37,22 @@ not_same session other different = grind (arith, nat_tests)
 own_one : (session : ℕ) (what : What) → AreOwn session ((session, what) ∷ [])
 own_one session what other different = rw (not_same session other different) refl
 
-pub own_answer : (done : TxnRecord) (answer : CommitAnswer) → AreOwn done.session (event_of_answer done answer)
-own_answer done (ReadOnly number) other different = refl
-own_answer done (Conflicts found) other different = refl
-own_answer done (PlacedAt number) other different = own_one done.session _ other different
-own_answer done NoMemory other different = refl
+pub own_answer : (stands : ℕ) (done : TxnRecord) (answer : CommitAnswer)
+    → AreOwn done.session (event_of_answer stands done answer)
+own_answer stands done (HaltedAt number) other different = refl
+own_answer stands done (ReadOnly number) other different = refl
+own_answer stands done (Conflicts found) other different = refl
+own_answer stands done (LogFull length size) other different = refl
+own_answer stands done DiskFault other different = own_one done.session _ other different
+own_answer stands done (PlacedAt number) other different = own_one done.session _ other different
+own_answer stands done NoMemory other different = refl
+
+pub own_check : (session stands : ℕ) (answer : CheckAnswer) → AreOwn session (event_of_check session stands answer)
+own_check session stands (HaltedAtCheck number) other different = refl
+own_check session stands (Full pages) other different = refl
+own_check session stands DiskFaultAtCheck other different = own_one session _ other different
+own_check session stands (Made number) other different = own_one session _ other different
+own_check session stands NoMemoryForCheck other different = refl
 
 pub own_lock : (session oid : ℕ) (answer : LockAnswer) → AreOwn session (event_of_lock session oid answer)
 own_lock session oid (Granted kind changed) other different = own_one session _ other different
@@ -113,14 +126,28 @@ module _ (before : Told) where
     begun_alone (Ok b) image_is number_is = begins_alone b.image b.number image_is number_is
     begun_alone (Err e) image_is number_is = tt
 
-  pub commit_alone : (after : Told) (done : TxnRecord) (answer : CommitAnswer) → after ≡ told_more before (event_of_answer done answer)
-      → AnswerFits (standing before) done answer
+  pub commit_alone : (after : Told) (done : TxnRecord) (answer : CommitAnswer)
+      → after ≡ told_more before (event_of_answer (standing before).number done answer)
+      → AnswerFits before.opened before.events done answer
       → CommitSays before.opened before.events after.events done answer
   commit_alone after done answer is fits = record {
     others = [];
     are_others = refl;
-    events = own_come after (event_of_answer done answer) is;
-    fits = then_stands (λ s. AnswerFits s done answer) fits;
+    events = then_stands (λ s. after.events ≡ (before.events ++ []) ++ event_of_answer s.number done answer)
+        (own_come after (event_of_answer (standing before).number done answer) is);
+    fits = subst (λ es. AnswerFits before.opened es done answer) (sym (append-nil before.events)) fits;
+  }
+
+  pub check_alone : (after : Told) (session : ℕ) (answer : CheckAnswer)
+      → after ≡ told_more before (event_of_check session (standing before).number answer)
+      → CheckFits before.opened before.events answer
+      → CheckSays before.opened before.events after.events session answer
+  check_alone after session answer is fits = record {
+    others = [];
+    are_others = refl;
+    events = then_stands (λ s. after.events ≡ (before.events ++ []) ++ event_of_check session s.number answer)
+        (own_come after (event_of_check session (standing before).number answer) is);
+    fits = subst (λ es. CheckFits before.opened es answer) (sym (append-nil before.events)) fits;
   }
 
   pub lock_alone : (after : Told) (session oid : ℕ) (asked : LockKind) (answer : LockAnswer)

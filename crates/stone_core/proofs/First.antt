@@ -11,12 +11,14 @@ use Rattle.std.proofs.lemmas.Option.{same_Some}
 use Rattle.gem_object.specs.declared.object.Object.{Object}
 use Rattle.gem_image.specs.Image.{Image, with_objects}
 use Rattle.gem_record.specs.Names.{under}
+use Rattle.gem_record.specs.History.{entry_of}
 use Rattle.gem_record.specs.declared.record.Entry.{Entry}
 use Rattle.gem_record.specs.declared.record.TxnRecord.{TxnRecord}
+use Rattle.gem_record.specs.declared.mode.Mode.TheVariants.{Full}
 use Rattle.commit_check.specs.Conflicts.{Place, changed_of, last_change, conflicts_of}
 use Rattle.commit_check.specs.Table.{IsTouched, IsWritten, IsChangedSince, write_write}
 use Rattle.commit_check.proofs.Members.{IsOneOf}
-use Rattle.gem_meaning.specs.declared.event.What.TheVariants.{Placed, Held, Dropped, Left}
+use Rattle.gem_meaning.specs.declared.event.What.TheVariants.{Placed, Held, Dropped, Left, Checked, Halted}
 use Rattle.gem_meaning.specs.Opened.{Opened}
 use Rattle.gem_meaning.specs.Effect.{effect_at}
 use Rattle.gem_meaning.specs.Events.{Event, Standing, effect_of, record_at_place, after_event, after_events, conflicts_at}
@@ -25,7 +27,7 @@ use Rattle.history_laws.proofs.Effects.{tied, of_effect}
 use Rattle.history_laws.proofs.Unchanged.{IsPlacedAt, after_placed}
 use Rattle.history_laws.proofs.Touched.{none_stands, touched_is_old}
 use Rattle.stone_core.specs.declared.port.CommitAnswer.{CommitAnswer}
-use Rattle.stone_core.specs.declared.port.CommitAnswer.TheVariants.{ReadOnly, Conflicts, Placed as PlacedAt, NoMemory}
+use Rattle.stone_core.specs.declared.port.CommitAnswer.TheVariants.{Halted as HaltedAt, ReadOnly, Conflicts, LogFull, DiskFault, Placed as PlacedAt, NoMemory}
 use Rattle.stone_core.specs.Port.{CommitSays}
 use Rattle.stone_core.proofs.ByName.{first_true, second_true}
 use Rattle.stone_core.proofs.Spelled.{others_leave}
@@ -99,6 +101,8 @@ later_event o s (session, Placed e) view name later =
 later_event o s (session, Held oid kind) view name later = later
 later_event o s (session, Dropped oid) view name later = later
 later_event o s (session, Left) view name later = later
+later_event o s (session, Checked) view name later = later
+later_event o s (session, Halted number entry) view name later = later
 
 later_from : (o : Opened) (s : Standing) (events : List Event) (view name : ℕ) → IsLater s view name
     → IsLater (fold (after_event o) s events) view name
@@ -122,16 +126,16 @@ since_of image view name None is later =
 since_of image view name (Some object) is later = record { object = object; stands = is; later = later }
 
 conflicts : (place : Place) (done : TxnRecord) (name : ℕ) → done.view < last_change place.image name
-    → IsTouched done name ⊎ IsWritten done name → conflicts_of place done ≡ [] → ⊥
+    → ((done.mode ≡ Full) × IsTouched done name) ⊎ IsWritten done name → conflicts_of place done ≡ [] → ⊥
 conflicts place done name later (inl touched) none =
-    let old = touched_is_old place done none name touched in omega (arith, old, later)
+    let old = touched_is_old place done none touched.0 name touched.1 in omega (arith, old, later)
 conflicts place done name later (inr written) none =
     none_stands place done _ none (write_write name written
     (since_of place.image done.view name (get place.image name) refl later))
 
 pub first_wins : (o : Opened) (before more : List Event) (session : ℕ) (placed : Entry) (done : TxnRecord) (name : ℕ)
     → done.view ≤ (after_events o before).number → IsSome (under name (effect_of o (after_events o before) placed))
-    → IsTouched done name ⊎ IsWritten done name
+    → ((done.mode ≡ Full) × IsTouched done name) ⊎ IsWritten done name
     → conflicts_at (after_events o ((before ++ (session, Placed placed) ∷ []) ++ more)) done ≢ []
 first_wins o before more session placed done name seen changed used none =
     let event : Event = (session, Placed placed) in
@@ -146,9 +150,20 @@ first_wins o before more session placed done name seen changed used none =
 -- ---- answers that change nothing
 
 pub nothing_changed : (o : Opened) (before after : List Event) (done : TxnRecord) (answer : CommitAnswer)
-    → ((number : ℕ) → answer ≢ PlacedAt number)
+    → ((number : ℕ) → answer ≢ PlacedAt number) → answer ≢ DiskFault
     → (says : CommitSays o before after done answer) → after ≡ before ++ says.others
-nothing_changed o before after done (ReadOnly number) other says = says.events ∙ append-nil (before ++ says.others)
-nothing_changed o before after done (Conflicts found) other says = says.events ∙ append-nil (before ++ says.others)
-nothing_changed o before after done (PlacedAt number) other says = absurd (other number refl)
-nothing_changed o before after done NoMemory other says = says.events ∙ append-nil (before ++ says.others)
+nothing_changed o before after done (HaltedAt number) other worked says = says.events ∙ append-nil (before ++ says.others)
+nothing_changed o before after done (ReadOnly number) other worked says = says.events ∙ append-nil (before ++ says.others)
+nothing_changed o before after done (Conflicts found) other worked says = says.events ∙ append-nil (before ++ says.others)
+nothing_changed o before after done (LogFull length size) other worked says = says.events ∙ append-nil (before ++ says.others)
+nothing_changed o before after done DiskFault other worked says = absurd (worked refl)
+nothing_changed o before after done (PlacedAt number) other worked says = absurd (other number refl)
+nothing_changed o before after done NoMemory other worked says = says.events ∙ append-nil (before ++ says.others)
+
+-- nor does what stands where the disk fails
+pub still_stands : (o : Opened) (before after : List Event) (done : TxnRecord)
+    → (says : CommitSays o before after done DiskFault) → after_events o after ≡ after_events o (before ++ says.others)
+still_stands o before after done says =
+    ap (after_events o) says.events
+    ∙ after_one_more o (before ++ says.others)
+    (done.session, Halted ((after_events o (before ++ says.others)).number + 1) (Some (entry_of done)))

@@ -4,5 +4,6 @@ pub mod Largest
 mod Spelled
 mod Fits
 mod OneMore
+mod Keeps
 mod Calls
 mod First

@@ -7,7 +7,10 @@ use Rattle.std.proofs.lemmas.List.{length-append}
 use Rattle.std.proofs.lemmas.List.Elements.{filter_map-append}
 use Rattle.gem_object.specs.Spelling.{IsSpelled}
 use Rattle.gem_image.specs.Image.{Image, IsImage, with_objects}
+use Rattle.gem_object.specs.declared.object.Object.{Object}
 use Rattle.gem_record.specs.History.{entry_of}
+use Rattle.gem_record.specs.Effects.{log_record_size}
+use Rattle.gem_record.specs.declared.effect.Effect.{Effect}
 use Rattle.gem_record.specs.declared.record.Entry.{Entry}
 use Rattle.gem_record.specs.declared.record.TxnRecord.{TxnRecord}
 use Rattle.lock_table.specs.LockKind.{kind_granted}
@@ -15,13 +18,15 @@ use Rattle.lock_table.specs.Locks.{LockSet, holding_cmp, holding, kind_held, aft
 use Rattle.lock_table.specs.declared.lock.LockKind.{LockKind}
 use Rattle.lock_table.specs.declared.lock.LockKind.TheVariants.{Read, Write}
 use Rattle.lock_table.proofs.Counts.{held_more, dropped_fewer, left_fewer}
-use Rattle.gem_meaning.specs.declared.event.What.TheVariants.{Placed, Held, Dropped, Left}
+use Rattle.gem_meaning.specs.declared.event.What.TheVariants.{Placed, Held, Dropped, Left, Checked, Halted}
 use Rattle.gem_meaning.specs.Opened.{Opened}
 use Rattle.gem_meaning.specs.Effect.{effect_at}
-use Rattle.gem_meaning.specs.Events.{Event, Told, Standing, told_more, image_at, effect_of, after_event, after_events, standing, placed_entry, entries_of}
+use Rattle.gem_meaning.specs.Events.{Event, Told, Standing, told_more, image_at, effect_of, after_event, after_events, standing, placed_entry, entries_of, IsRunning}
+use Rattle.gem_meaning.specs.After.{record_size}
 use Rattle.gem_meaning.specs.Serial.{IsPlaced, IsSerialEvent, IsSerial, IsOfScript, IsConsistent, IsRecorded, HoldsSome, CanServe}
 use Rattle.stone_core.specs.Stone.{IsStone, is_session}
-use Rattle.history_laws.proofs.Views.{after_one_more, number_at_most, image_now}
+use Rattle.stone_core.specs.Port.{size_at}
+use Rattle.history_laws.proofs.Views.{after_one_more, image_now}
 use Rattle.history_laws.proofs.OneMore.{consistent_more, free_as_granted}
 use Rattle.stone_core.proofs.Spelled.{effect_spelled}
 
@@ -71,6 +76,7 @@ unfolding after_events IsSerial
 first_stone o events image locks history room opening image_is none_held no_entries none = record {
   image_is = sym image_is ∙ ap (λ es. (after_events o es).image) (sym none);
   number_is = ap (λ es. (after_events o es).number) (sym none);
+  small = let most = opening.number in omega (arith, most);
   locks_are = none_held ∙ ap (λ es. (after_events o es).locks) (sym none);
   history_is = no_entries ∙ ap entries_of (sym none);
   opening = opening;
@@ -91,6 +97,7 @@ module _ (t : Told) (image : Image) (number : ℕ) (locks : LockSet) (history : 
   more_room more larger = record {
     image_is = stone.image_is;
     number_is = stone.number_is;
+    small = stone.small;
     locks_are = stone.locks_are;
     history_is = stone.history_is;
     opening = stone.opening;
@@ -102,25 +109,17 @@ module _ (t : Told) (image : Image) (number : ℕ) (locks : LockSet) (history : 
   pub same_locks : (after : LockSet) → after ≡ locks → IsStone t image number after history room
   same_locks after is = subst (λ (l : LockSet). IsStone t image number l history room) (sym is) stone
 
-  -- a Stone's number has room to grow
-  pub number_has_room : length t.events < 2 ^ 63 → number + 1 < 2 ^ 64
-  number_has_room short =
-      let is = stone.number_is in
-      let opening = stone.opening.number in
-      let most = number_at_most t.opened t.events in
-      omega (arith, is, opening, most, short)
-
   -- the Stone with an event that may come
   next_stone : (event : Event) (next : Image) (now : ℕ) (after : LockSet) (entries : List Entry)
       (events : List Event) (more : ℕ) → IsOfScript t.opened.script event
       → IsSerialEvent t.opened t.events event → events ≡ t.events ++ event ∷ []
       → next ≡ (after_event t.opened (standing t) event).image
-      → now ≡ (after_event t.opened (standing t) event).number
+      → now ≡ (after_event t.opened (standing t) event).number → now < 2 ^ 63
       → after ≡ (after_event t.opened (standing t) event).locks
       → entries ≡ history ++ entries_of (event ∷ [])
       → length t.events + 1 + len after ≤ more
       → IsStone (record t { events = events }) next now after entries more
-  next_stone event next now after entries events more of_script serial events_are image_is number_is locks_are history_is enough =
+  next_stone event next now after entries events more of_script serial events_are image_is number_is small locks_are history_is enough =
       let stands : after_events t.opened events ≡ after_event t.opened (standing t) event =
       ap (after_events t.opened) events_are ∙ after_one_more t.opened t.events event in
       let longer : length events ≡ length t.events + 1 =
@@ -128,6 +127,7 @@ module _ (t : Told) (image : Image) (number : ℕ) (locks : LockSet) (history : 
       record {
         image_is = image_is ∙ sym (ap (λ (s : Standing). s.image) stands);
         number_is = number_is ∙ sym (ap (λ (s : Standing). s.number) stands);
+        small = small;
         locks_are = locks_are ∙ sym (ap (λ (s : Standing). s.locks) stands);
         history_is = history_is ∙ ap (λ es. es ++ entries_of (event ∷ [])) stone.history_is
             ∙ sym (filter_map-append placed_entry t.events (event ∷ [])) ∙ ap entries_of (sym events_are);
@@ -159,7 +159,7 @@ module _ (t : Told) (image : Image) (number : ℕ) (locks : LockSet) (history : 
       next_stone (session, Held oid kind) image number after history events more
       (session_bounds t.opened session serves)
       (now_free, there)
-      events_are stone.image_is stone.number_is
+      events_are stone.image_is stone.number_is stone.small
       (again ∙ ap (λ (l : LockSet). after_held l session oid kind) stone.locks_are)
       (sym (append-nil history)) (omega (arith, counted, room_is))
 
@@ -175,7 +175,7 @@ module _ (t : Told) (image : Image) (number : ℕ) (locks : LockSet) (history : 
       next_stone (session, Dropped oid) image number after history events more
       (session_bounds t.opened session serves)
       (subst (λ (l : LockSet). IsSome (kind_held l session oid)) stone.locks_are held)
-      events_are stone.image_is stone.number_is
+      events_are stone.image_is stone.number_is stone.small
       (after_is ∙ ap (λ (l : LockSet). after_dropped l session oid) stone.locks_are)
       (sym (append-nil history)) (omega (arith, counted, enough, larger))
 
@@ -191,9 +191,29 @@ module _ (t : Told) (image : Image) (number : ℕ) (locks : LockSet) (history : 
       next_stone (session, Left) image number after history events more
       (session_bounds t.opened session serves)
       (subst (λ (l : LockSet). HoldsSome (record (standing t) { locks = l }) session) stone.locks_are held)
-      events_are stone.image_is stone.number_is
+      events_are stone.image_is stone.number_is stone.small
       (after_is ∙ ap (λ (l : LockSet). after_left l session) stone.locks_are)
       (sym (append-nil history)) (omega (arith, counted, enough, larger))
+
+  -- a checkpoint was made
+  pub checked_stone : (session : ℕ) (events : List Event) (more : ℕ)
+      → is_session t.opened.script session ≡ true → IsRunning t.events
+      → events ≡ t.events ++ (session, Checked) ∷ [] → length t.events + (len locks + 1) ≤ more
+      → IsStone (record t { events = events }) image number locks history more
+  checked_stone session events more serves running events_are room_is =
+      next_stone (session, Checked) image number locks history events more
+      (session_bounds t.opened session serves) running events_are stone.image_is stone.number_is
+      stone.small stone.locks_are (sym (append-nil history)) (omega (arith, room_is))
+
+  -- the disk failed at a checkpoint
+  pub check_halted_stone : (session : ℕ) (events : List Event) (more : ℕ)
+      → is_session t.opened.script session ≡ true → IsRunning t.events
+      → events ≡ t.events ++ (session, Halted number None) ∷ [] → length t.events + (len locks + 1) ≤ more
+      → IsStone (record t { events = events }) image number locks history more
+  check_halted_stone session events more serves running events_are room_is =
+      next_stone (session, Halted number None) image number locks history events more
+      (session_bounds t.opened session serves) (stone.number_is, running) events_are stone.image_is
+      stone.number_is stone.small stone.locks_are (sym (append-nil history)) (omega (arith, room_is))
 
   -- a session that holds a lock has room for an event
   pub room_to_drop : (session oid : ℕ) → IsSome (kind_held locks session oid) → length t.events < room
@@ -201,6 +221,15 @@ module _ (t : Told) (image : Image) (number : ℕ) (locks : LockSet) (history : 
       let count = dropped_fewer locks session oid held in
       let enough = stone.enough in
       omega (arith, count, enough)
+
+  -- the size of an effect's record, in the words of what stands
+  pub size_is : (done : TxnRecord) (effect : Effect) (size : ℕ)
+      → effect.objects ≡ effect_at image (number + 1) done → size ≡ log_record_size effect
+      → size ≡ size_at (standing t) done
+  size_is done effect size objects_are is =
+      is ∙ ap (λ (objects : List (ℕ × Object)).
+      log_record_size (record { number = (standing t).number + 1; objects = objects }))
+      (objects_are ∙ ap₂ (λ (i : Image) (n : ℕ). effect_at i (n + 1) done) stone.image_is stone.number_is)
 
   module _ (done : TxnRecord) (recorded : IsRecorded t done)
       (placed : IsPlaced t.opened t.events done.session (entry_of done))
@@ -216,15 +245,31 @@ module _ (t : Told) (image : Image) (number : ℕ) (locks : LockSet) (history : 
 
     -- the commit was placed
     pub placed_stone : (next : Image) (entries : List Entry) (events : List Event) (more : ℕ)
-        → next ≡ with_objects image (effect_at image (number + 1) done)
+        → next ≡ with_objects image (effect_at image (number + 1) done) → number + 1 < 2 ^ 63
         → entries ≡ history ++ entry_of done ∷ []
         → events ≡ t.events ++ (done.session, Placed (entry_of done)) ∷ []
         → length t.events + (len locks + 1) ≤ more
         → IsStone (record t { events = events }) next (number + 1) locks entries more
-    placed_stone next entries events more next_is entries_are events_are room_is =
+    placed_stone next entries events more next_is small entries_are events_are room_is =
         next_stone (done.session, Placed (entry_of done)) next (number + 1) locks entries events more
         recorded.of_script.session placed events_are (next_is ∙ next_image_is)
-        (ap (λ (n : ℕ). n + 1) stone.number_is) stone.locks_are entries_are (omega (arith, room_is))
+        (ap (λ (n : ℕ). n + 1) stone.number_is) small stone.locks_are entries_are (omega (arith, room_is))
+
+    -- the disk failed as it was to be placed
+    pub halted_stone : (events : List Event) (more : ℕ)
+        → events ≡ t.events ++ (done.session, Halted (number + 1) (Some (entry_of done))) ∷ []
+        → length t.events + (len locks + 1) ≤ more
+        → IsStone (record t { events = events }) image number locks history more
+    halted_stone events more events_are room_is =
+        next_stone (done.session, Halted (number + 1) (Some (entry_of done))) image number locks history events more
+        recorded.of_script.session (ap (λ (n : ℕ). n + 1) stone.number_is, placed) events_are stone.image_is
+        stone.number_is stone.small stone.locks_are (sym (append-nil history)) (omega (arith, room_is))
+
+    -- its record has this size
+    pub record_size_is : record_size t.opened (standing t) (entry_of done) ≡ size_at (standing t) done
+    unfolding record_size
+    record_size_is = ap (λ (objects : List (ℕ × Object)).
+        log_record_size (record { number = (standing t).number + 1; objects = objects })) effect
 
     -- the Stone's events with the commit, as what it was opened with and they tell it
     abbrev with_commit : Told

@@ -1,5 +1,5 @@
 -- The objects of an effect have a spelling where the image that it makes is one.
-use Rattle.std.proofs.Common.{◌≡◌, ◌≤◌, ◌+◌, ◌*◌, length, ℕ, false, cond, T, List, [], ◌∷◌, ◌++◌, map, Some, refl, ap, subst, ◌∙◌}
+use Rattle.std.proofs.Common.{◌≡◌, ◌≤◌, ◌+◌, ◌*◌, length, ℕ, false, cond, T, List, [], ◌∷◌, ◌++◌, map, Some, refl, ap, subst, ◌∙◌, arith}
 use Rattle.std.specs.List.{All, AllByRecursion}
 use Rattle.std.specs.declared.cmp.Ordering.{Ordering}
 use Rattle.std.specs.declared.cmp.Ordering.TheVariants.{Less, Equal, Greater}
@@ -8,11 +8,17 @@ use Rattle.std.specs.Cmp.{tied_itself}
 use Rattle.std.specs.FinMap.{entries_sorted, from_entries, get, insert, get-insert}
 use Rattle.std.specs.FinMap.Entries.{is_sorted, below_all}
 use Rattle.std.proofs.lemmas.Cmp.{nat_cmp_total}
+use Rattle.std.proofs.lemmas.List.{length-append}
 use Rattle.std.proofs.lemmas.List.Elements.{All-from_recursion}
 use Rattle.gem_object.specs.Spelling.{IsSpelled}
 use Rattle.gem_object.specs.declared.object.Object.{Object}
 use Rattle.gem_image.specs.Image.{Image, AreSpelled, with_objects}
 use Rattle.gem_record.specs.declared.record.TxnRecord.{TxnRecord}
+use Rattle.gem_record.specs.Effects.{effect_size, log_record_size}
+use Rattle.gem_record.specs.declared.effect.Effect.{Effect}
+use Rattle.body_codec.specs.Spelled.{spelled_effect}
+use Rattle.tran_log.specs.Log.{spelled_record}
+use Rattle.tran_log.proofs.Walks.{record_long}
 use Rattle.commit_check.specs.Conflicts.{merged_objects}
 use Rattle.gem_meaning.specs.Events.{Told, standing}
 use Rattle.stone_core.proofs.ByName.{first_true, second_true}
@@ -70,3 +76,11 @@ nodes_bound t now image number done merged objects before after same image_is nu
     let stamped_now = subst (λ (n : ℕ). objects ≡ by_name (map (stamped (n + 1)) (done.written ++ (kept_objects done ++ merged)))) counted is in
     subst (λ (list : List (ℕ × Object)). after ≤ before + 8 * length list)
     (effect_made (standing now).image ((standing now).number + 1) done merged objects merged_is stamped_now) most
+
+-- a record with the gate behind it is thirteen bytes longer than its effect
+pub body_length : (effect : Effect) (body : List ℕ) → length (spelled_effect effect) ≡ effect_size effect
+    → body ≡ spelled_record effect ++ 0 ∷ [] → length body ≡ log_record_size effect
+body_length effect body long is =
+    let whole = length-append (spelled_record effect) (0 ∷ []) in
+    let long_record = record_long effect in
+    ap length is ∙ omega (arith, whole, long_record, long)

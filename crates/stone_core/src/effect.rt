@@ -1,13 +1,17 @@
 //! What a commit changes.
-ghost use Rattle.std.specs.Prelude.{◌≡◌, ◌↔◌, ◌++◌, ◌<◌, ◌≤◌, ◌+◌, ◌*◌, ◌^◌, All, IsTrue, length, map, option_copied, IfOk, OnOk};
+ghost use Rattle.std.specs.Prelude.{◌≡◌, ◌↔◌, ◌++◌, ◌∷◌, [], ◌<◌, ◌≤◌, ◌+◌, ◌*◌, ◌^◌, All, IsTrue, length, map, option_copied, IfOk, OnOk};
 ghost use Rattle.std.specs.Ordering.{nat_cmp};
 ghost use Rattle.std.specs.BTreeMap.{insert_entry};
 ghost use Rattle.gem_object.specs.Spelling.{IsSpelled};
 ghost use Rattle.gem_image.specs.Image.{with_objects};
 ghost use Rattle.gem_record.specs.gem_update.Spelling.{entries_of};
 ghost use Rattle.gem_meaning.specs.Effect.{kept_objects, stamped, by_name};
+ghost use Rattle.gem_record.specs.Effects.{log_record_size};
+ghost use Rattle.tran_log.specs.Log.{spelled_record};
 ghost use Rattle.stone_core.specs.Effects.{named, found_in};
 
+use body_codec::laws::length_is_size;
+use body_codec::write_effect;
 use gem_image::Image;
 use gem_object::{Body, Object, Oid};
 use gem_record::{ByName, Effect, TxnRecord};
@@ -16,6 +20,7 @@ use radix_pages::Steps;
 use std::alloc::{AllocError, Global};
 use std::collections::BTreeMap;
 use std::sync::ledger::Ledger;
+use tran_log::spell_body;
 
 /// The effect of the commit with this number: what its transaction wrote, the made objects that are
 /// kept, and what the merges of its updates made, by name, each changed by this commit.
@@ -63,6 +68,20 @@ pub(crate) fn next_image<L: Ledger>(
     ensures nodes { steps.new ≤ steps.old + 8 * length effect.objects }
 {
     image.with_all(alloc, effect.objects.into_entries(), steps)
+}
+
+/// The bytes of the effect's record in the log, with the gate behind it.
+///
+/// # Errors
+///
+/// `AllocError` where memory ran out.
+pub(crate) fn body_of(alloc: Global, effect: &Effect) -> Result<Vec<u8>, AllocError>
+    ensures body { IfOk result (λ body. body.items ≡ spelled_record effect.now ++ 0 ∷ []) }
+    ensures size { IfOk result (λ body. length body.items ≡ log_record_size effect.now) }
+{
+    length_is_size();
+    let spelled = write_effect(alloc, effect)?;
+    spell_body(alloc, effect.number, &spelled)
 }
 
 /// Whether each of the merged objects can be stored: each has fewer than 2^32 pairs or items.

@@ -9,6 +9,6 @@ mod serial;
 mod stone;
 
 pub use effect::effect_of;
-pub use port::{Begun, CommitAnswer, LockAnswer, StonePort};
+pub use port::{Begun, CheckAnswer, CommitAnswer, LockAnswer, StonePort};
 pub use serial::largest_serial;
 pub use stone::{Closed, Stone};

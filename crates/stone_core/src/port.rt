@@ -3,7 +3,7 @@ ghost use Rattle.std.specs.Prelude.{◌≡◌, true, IfOk, IfErr, IsSome};
 ghost use Rattle.std.specs.FinMap.{get};
 ghost use Rattle.gem_meaning.specs.Events.{OthersCame, standing};
 ghost use Rattle.gem_meaning.specs.Serial.{IsRecorded};
-ghost use Rattle.stone_core.specs.Port.{PortState, BeginSays, CommitSays, LockSays, UnlockSays, LogoutSays, GoesOn};
+ghost use Rattle.stone_core.specs.Port.{PortState, BeginSays, CommitSays, LockSays, UnlockSays, CheckSays, LogoutSays, GoesOn};
 
 use gem_image::Image;
 use gem_object::{Conflicts, Oid};
@@ -23,10 +23,21 @@ pub struct Begun {
 /// How a commit ended.
 #[derive(Debug, Drop)]
 pub enum CommitAnswer {
+    /// The disk had failed when this number was to be stored, and nothing has changed.
+    Halted(u64),
     /// Nothing was written or updated. The number is that of the transaction's view.
     ReadOnly(u64),
     /// The commit was refused, for these conflicts, and nothing has changed.
     Conflicts(Conflicts),
+    /// The log has no room for the commit's record, and nothing has changed.
+    LogFull {
+        /// The log's length.
+        length: u64,
+        /// The record's size.
+        size: u64,
+    },
+    /// The disk failed. Whether the commit is on it isn't known, and nothing later is accepted.
+    DiskFault,
     /// The commit was placed, and this is its number.
     Placed(u64),
     /// Memory ran out, or a merge made what can't be stored, and nothing has changed.
@@ -50,6 +61,21 @@ pub enum LockAnswer {
         /// The kind of its lock.
         kind: LockKind,
     },
+    /// Memory ran out, and nothing has changed.
+    NoMemory,
+}
+
+/// How a checkpoint ended.
+#[derive(Clone, Copy, Debug, PartialEq, Eq)]
+pub enum CheckAnswer {
+    /// The disk had failed when this number was to be stored, and nothing has changed.
+    Halted(u64),
+    /// The checkpoint would count so many pages, which are too many, and nothing has changed.
+    Full(u64),
+    /// The disk failed, and nothing later is accepted.
+    DiskFault,
+    /// The image with this number is stored, and the log is empty.
+    Made(u64),
     /// Memory ran out, and nothing has changed.
     NoMemory,
 }
@@ -79,9 +105,10 @@ pub trait StonePort {
     /// Commits what a transaction did. The record has to be what running its commands gives where
     /// all stands as at its view.
     ///
-    /// It is read only exactly where nothing was written or updated. Otherwise it is refused
-    /// exactly where there are conflicts, and else placed, with the next number. Only where it is
-    /// placed something has changed.
+    /// Where the disk had failed that is answered. Otherwise it is read only exactly where nothing
+    /// was written or updated, else refused exactly where there are conflicts, else `LogFull`
+    /// exactly where the log has no room for its record, and else placed, with the next number,
+    /// unless the disk fails. Only where it is placed or the disk fails something has changed.
     fn commit(&mut self, alloc: Global, done: &TxnRecord) -> CommitAnswer
         requires serves { (state self.old).serves done.now.session ≡ true }
         requires recorded { IsRecorded (state self.old).told done.now }
@@ -103,6 +130,15 @@ pub trait StonePort {
         requires serves { (state self.old).serves session ≡ true }
         ensures says { UnlockSays (state self.old).told.opened (state self.old).told.events
             (state self.new).told.events session oid result }
+        ensures port { GoesOn session (state self.old) (state self.new) };
+
+    /// Stores the image that stands, and empties the log. Where the disk had failed that is
+    /// answered. Otherwise it is `Full` exactly where it would count too many pages, and else made,
+    /// unless the disk fails.
+    fn checkpoint(&mut self, alloc: Global, session: u32) -> CheckAnswer
+        requires serves { (state self.old).serves session ≡ true }
+        ensures says { CheckSays (state self.old).told.opened (state self.old).told.events
+            (state self.new).told.events session result }
         ensures port { GoesOn session (state self.old) (state self.new) };
 
     /// Ends the session: all its locks are gone. It takes no memory.

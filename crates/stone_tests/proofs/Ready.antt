@@ -9,9 +9,10 @@ use Rattle.gem_image.specs.Image.{Image, IsImage}
 use Rattle.gem_object.specs.declared.object.Object.{Object}
 use Rattle.gem_sound.specs.Sound.{IsSoundImage}
 use Rattle.kernel_image.specs.Objects.{kernel_image}
+use Rattle.gem_record.specs.Stored.{Stored}
 use Rattle.gem_meaning.specs.commit_check.Conflicts.{changed_of, last_change}
 use Rattle.shell_words.specs.Script.{SessionCommands}
-use Rattle.gem_meaning.specs.declared.event.What.TheVariants.{Held, Dropped, Left}
+use Rattle.gem_meaning.specs.declared.event.What.TheVariants.{Held, Dropped, Left, Checked, Halted}
 use Rattle.gem_meaning.specs.Opened.{Opened, base_serial, largest_serial}
 use Rattle.gem_meaning.specs.Events.{Event, Told, Standing, told_more, after_events, standing}
 use Rattle.gem_meaning.specs.Serial.{most_at_opening, CanServe}
@@ -19,8 +20,10 @@ use Rattle.gem_meaning.specs.Locks.{leaving}
 use Rattle.history_laws.proofs.Views.{after_one_more}
 use Rattle.stone_core.specs.declared.port.LockAnswer.{LockAnswer}
 use Rattle.stone_core.specs.declared.port.LockAnswer.TheVariants.{Granted, Denied, NoMemory}
+use Rattle.stone_core.specs.declared.port.CheckAnswer.{CheckAnswer}
+use Rattle.stone_core.specs.declared.port.CheckAnswer.TheVariants as check
 use Rattle.stone_core.specs.Stone.{is_session}
-use Rattle.stone_core.specs.Port.{event_of_lock, dropping}
+use Rattle.stone_core.specs.Port.{event_of_lock, event_of_check, dropping}
 use Rattle.stone_tests.specs.Setting.{two_sessions, HasBoxes, IsReady}
 
 -- ---- the image
@@ -100,14 +103,22 @@ boxes_changed kernel image first second changed kernel_is unchanged first_is sec
 
 -- ---- the Stone as it is opened
 
-abbrev pub opened_with : Image → ℕ → List SessionCommands → Opened
-opened_with image number script = record { image = image; number = number; script = script }
+abbrev pub opened_with : Stored → Bool → Image → ℕ → List SessionCommands → Opened
+opened_with stored counts_pages image number script = record {
+  image = image;
+  number = number;
+  script = script;
+  stored = stored;
+  counts_pages = counts_pages;
+}
 
-pub can_serve : (image : Image) (number : ℕ) (script : List SessionCommands) → IsImage image → IsSoundImage image
+pub can_serve : (stored : Stored) (counts_pages : Bool) (image : Image) (number : ℕ) (script : List SessionCommands)
+    → IsImage image → IsSoundImage image
     → number ≤ most_at_opening → ((oid : ℕ) → last_change image oid ≤ number)
-    → largest_serial image ≡ 1 → script ≡ two_sessions → CanServe (opened_with image number script)
+    → largest_serial image ≡ 1 → script ≡ two_sessions
+    → CanServe (opened_with stored counts_pages image number script)
 unfolding base_serial
-can_serve image number script is_image sound most changed largest script_is = record {
+can_serve stored counts_pages image number script is_image sound most changed largest script_is = record {
   image = is_image;
   sound = sound;
   number = most;
@@ -120,11 +131,12 @@ can_serve image number script is_image sound most changed largest script_is = re
 two_served : (session : ℕ) → 1 ≤ session → session ≤ 2 → is_session two_sessions session ≡ true
 two_served session first last = ap₂ (λ a b. a && b) (le-leb 1 session first) (le-leb session 2 last)
 
-pub first_ready : (t : Told) (image : Image) (number : ℕ) (script : List SessionCommands)
-    → t ≡ record { opened = opened_with image number script; events = [] } → script ≡ two_sessions → HasBoxes image
-    → IsReady t
+pub first_ready : (t : Told) (stored : Stored) (counts_pages : Bool) (image : Image) (number : ℕ)
+    (script : List SessionCommands)
+    → t ≡ record { opened = opened_with stored counts_pages image number script; events = [] }
+    → script ≡ two_sessions → HasBoxes image → IsReady t
 unfolding after_events
-first_ready t image number script is script_is boxes =
+first_ready t stored counts_pages image number script is script_is boxes =
     subst IsReady (sym is) (record {
       serves = λ session first last.
           ap (λ list. is_session list session) script_is ∙ two_served session first last;
@@ -162,3 +174,15 @@ leave_ready t true session ready =
     stays_ready t ((session, Left) ∷ [])
     (ap (λ (s : Standing). s.image) (after_one_more t.opened t.events (session, Left))) ready
 leave_ready t false session ready = stays_ready t [] (nothing_more t) ready
+
+pub check_ready : (t : Told) (session stands : ℕ) (answer : CheckAnswer) → IsReady t
+    → IsReady (told_more t (event_of_check session stands answer))
+check_ready t session stands (check.Made number) ready =
+    stays_ready t ((session, Checked) ∷ [])
+    (ap (λ (s : Standing). s.image) (after_one_more t.opened t.events (session, Checked))) ready
+check_ready t session stands check.DiskFault ready =
+    stays_ready t ((session, Halted stands None) ∷ [])
+    (ap (λ (s : Standing). s.image) (after_one_more t.opened t.events (session, Halted stands None))) ready
+check_ready t session stands (check.Halted number) ready = stays_ready t [] (nothing_more t) ready
+check_ready t session stands (check.Full pages) ready = stays_ready t [] (nothing_more t) ready
+check_ready t session stands check.NoMemory ready = stays_ready t [] (nothing_more t) ready

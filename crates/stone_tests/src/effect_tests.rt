@@ -4,7 +4,7 @@ ghost use Rattle.gem_object.specs.gem_value.Oid.{oid_number};
 
 use gem_image::Image;
 use gem_object::{Body, Counter, Object, Oid, Sequence, Value, Values};
-use gem_record::{ByName, Effect, OidList, TxnRecord};
+use gem_record::{ByName, Effect, Mode, OidList, TxnRecord};
 use gem_sound::names::{
     ARRAY_CLASS, DATA_CURATOR, DATA_CURATOR_SEGMENT, KERNEL_SERIAL, RC_COUNTER_CLASS,
 };
@@ -120,6 +120,7 @@ fn record(rt: &impl Abort, alloc: Global) -> Result<TxnRecord, AllocError> {
         last_command: 2,
         first_name: 1,
         view: 7,
+        mode: Mode::Full,
         base: Image::empty(),
         touched,
         written,

@@ -6,8 +6,12 @@
 #[cfg(test)]
 mod effect_tests;
 #[cfg(test)]
+mod keeper_tests;
+#[cfg(test)]
 mod lock_table_tests;
 #[cfg(test)]
 mod lock_tests;
+#[cfg(test)]
+mod log_tests;
 #[cfg(test)]
 mod setting;

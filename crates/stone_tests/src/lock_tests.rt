@@ -2,7 +2,8 @@
 ghost use Rattle.std.specs.Prelude.{◌≡◌, ◌<◌};
 ghost use Rattle.stone_tests.specs.Setting.{IsReady};
 
-use crate::setting::{BOX, CUP, lock, logout, name, opened, unlock};
+use crate::setting::{BOX, CUP, checkpoint, lock, logout, name, opened, unlock};
+use gem_keeper::MemKeeper;
 use gem_meaning::What;
 use lock_table::LockKind;
 use radix_pages::Steps;
@@ -11,7 +12,7 @@ use std::marker::Brand;
 use std::process::Abort;
 use std::sync::ledger::{Blank, Ledger};
 use std::test::Fail;
-use stone_core::{LockAnswer, Stone};
+use stone_core::{CheckAnswer, LockAnswer, Stone};
 
 const READ: LockKind = LockKind::Read;
 
@@ -26,9 +27,9 @@ fn denied(holder: u32, kind: LockKind) -> LockAnswer {
 }
 
 // Both may read, so neither may write while the other reads.
-fn check_readers<R: Abort>(rt: &R, stone: &mut Stone)
-    requires { IsReady stone.old }
-    ensures { IsReady stone.new }
+fn check_readers<R: Abort>(rt: &R, stone: &mut Stone<MemKeeper>)
+    requires { IsReady stone.old.told }
+    ensures { IsReady stone.new.told }
 {
     assert_eq!(rt; lock(stone, 1, BOX, READ), granted(READ, 4));
     assert_eq!(rt; lock(stone, 2, BOX, WRITE), denied(1, READ));
@@ -37,9 +38,9 @@ fn check_readers<R: Abort>(rt: &R, stone: &mut Stone)
 }
 
 // Who gave a lock back holds it no longer; the other may write, and reads no less.
-fn check_writer<R: Abort>(rt: &R, stone: &mut Stone)
-    requires { IsReady stone.old }
-    ensures { IsReady stone.new }
+fn check_writer<R: Abort>(rt: &R, stone: &mut Stone<MemKeeper>)
+    requires { IsReady stone.old.told }
+    ensures { IsReady stone.new.told }
 {
     assert!(rt; unlock(stone, 2, BOX));
     assert!(rt; !unlock(stone, 2, BOX));
@@ -49,9 +50,9 @@ fn check_writer<R: Abort>(rt: &R, stone: &mut Stone)
 }
 
 // A session that ends gives all its locks back, once.
-fn check_end<R: Abort>(rt: &R, stone: &mut Stone)
-    requires { IsReady stone.old }
-    ensures { IsReady stone.new }
+fn check_end<R: Abort>(rt: &R, stone: &mut Stone<MemKeeper>)
+    requires { IsReady stone.old.told }
+    ensures { IsReady stone.new.told }
 {
     assert_eq!(rt; lock(stone, 1, CUP, READ), granted(READ, 4));
     assert!(rt; logout(stone, 1));
@@ -83,7 +84,7 @@ fn check_locks<R: Abort, L: Ledger>(rt: &R, alloc: Global, blank: Blank) -> Resu
     requires some_parts { 0 < L.parts }
 {
     let mut steps = Steps::<L>::start(blank);
-    let mut stone = opened(alloc, 4, &mut steps)?;
+    let mut stone = opened(alloc, 4, MemKeeper::new(), &mut steps)?;
     check_readers(rt, &mut stone);
     check_writer(rt, &mut stone);
     check_end(rt, &mut stone);
@@ -107,7 +108,7 @@ fn check_both_read<R: Abort, L: Ledger>(
     alloc: Global,
     steps: &mut Steps<L>,
 ) -> Result<(), Fail> {
-    let mut stone = opened(alloc, 1, steps)?;
+    let mut stone = opened(alloc, 1, MemKeeper::new(), steps)?;
     assert_eq!(rt; lock(&mut stone, 1, BOX, READ), granted(READ, 1));
     assert_eq!(rt; lock(&mut stone, 2, BOX, READ), granted(READ, 1));
     Ok(())
@@ -120,7 +121,7 @@ fn check_dirty<R: Abort, L: Ledger>(
     alloc: Global,
     steps: &mut Steps<L>,
 ) -> Result<(), Fail> {
-    let mut stone = opened(alloc, 2, steps)?;
+    let mut stone = opened(alloc, 2, MemKeeper::new(), steps)?;
     assert_eq!(rt; lock(&mut stone, 2, BOX, WRITE), granted(WRITE, 2));
     assert_eq!(rt; lock(&mut stone, 1, BOX, READ), denied(2, WRITE));
     assert!(rt; logout(&mut stone, 2));
@@ -142,4 +143,30 @@ fn check_views<R: Abort, L: Ledger>(rt: &R, alloc: Global, blank: Blank) -> Resu
 #[test]
 fn locks_by_views(rt: HostRuntime) -> Result<(), Fail> {
     check_views::<HostRuntime, Brand>(&rt, rt.alloc(), Blank::new(1))
+}
+
+// A checkpoint stores the number that stands, as often as it is asked for, and leaves the locks.
+fn check_checkpoints<R: Abort, L: Ledger>(rt: &R, alloc: Global, blank: Blank) -> Result<(), Fail>
+    requires name { blank.name ≡ L.name }
+    requires parts { blank.parts ≡ L.parts }
+    requires some_parts { 0 < L.parts }
+{
+    let mut steps = Steps::<L>::start(blank);
+    let mut stone = opened(alloc, 4, MemKeeper::new(), &mut steps)?;
+    assert_eq!(rt; checkpoint(&mut stone, alloc, 2), CheckAnswer::Made(4));
+    assert_eq!(rt; lock(&mut stone, 1, BOX, WRITE), granted(WRITE, 4));
+    assert_eq!(rt; checkpoint(&mut stone, alloc, 2), CheckAnswer::Made(4));
+    assert_eq!(rt; lock(&mut stone, 2, BOX, READ), denied(1, WRITE));
+    let want = [
+        (2, What::Checked),
+        (1, What::Held(name(BOX), WRITE)),
+        (2, What::Checked),
+    ];
+    assert!(rt; &stone.close().events[..] == &want[..]);
+    Ok(())
+}
+
+#[test]
+fn checkpoints(rt: HostRuntime) -> Result<(), Fail> {
+    check_checkpoints::<HostRuntime, Brand>(&rt, rt.alloc(), Blank::new(1))
 }

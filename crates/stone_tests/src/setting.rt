@@ -1,6 +1,6 @@
 // A Stone over the kernel's image and two boxes, for two sessions that commit at once, and its
 // calls.
-ghost use Rattle.std.specs.Prelude.{◌≡◌, ◌<◌, ◌≤◌, ◌^◌, ℕ, IfOk, OnOk};
+ghost use Rattle.std.specs.Prelude.{◌≡◌, ◌<◌, ◌≤◌, ◌^◌, ℕ, true, IfOk, OnOk};
 ghost use Rattle.gem_object.specs.gem_value.Oid.{oid_number};
 ghost use Rattle.gem_object.specs.Spelling.{IsSpelled};
 ghost use Rattle.gem_sound.specs.Sound.{IsSoundImage};
@@ -9,6 +9,7 @@ ghost use Rattle.gem_meaning.specs.Serial.{most_at_opening};
 ghost use Rattle.stone_tests.specs.Setting.{one_commit, two_sessions, HasBoxes, IsReady};
 
 use gem_image::Image;
+use gem_keeper::Keeper;
 use gem_object::{Body, Object, Oid, Text, Value, Values};
 use gem_sound::names::{ARRAY_CLASS, DATA_CURATOR_SEGMENT, KERNEL_SERIAL};
 use image_check::sound;
@@ -21,7 +22,7 @@ use std::alloc::{AllocError, Global};
 use std::sync::Arc;
 use std::sync::ledger::Ledger;
 use std::test::Fail;
-use stone_core::{LockAnswer, Stone, largest_serial};
+use stone_core::{CheckAnswer, LockAnswer, Stone, largest_serial};
 
 /// The serial of the boxes.
 pub const SERIAL: u32 = 1;
@@ -83,11 +84,17 @@ fn check_sound(alloc: Global, image: &Image) -> Result<(), Fail>
     Ok(sound(alloc, image)?)
 }
 
-/// A Stone that is opened with the kernel's image, the boxes and so many commits, the last of which
-/// changed the boxes.
-pub fn opened<L: Ledger>(alloc: Global, number: u64, steps: &mut Steps<L>) -> Result<Stone, Fail>
-    requires { number ≤ most_at_opening }
-    ensures { IfOk result IsReady }
+/// A Stone over this keeper that is opened with the kernel's image, the boxes and so many commits,
+/// the last of which changed the boxes.
+pub fn opened<K: Keeper + Drop, L: Ledger>(
+    alloc: Global,
+    number: u64,
+    keeper: K,
+    steps: &mut Steps<L>,
+) -> Result<Stone<K>, Fail>
+    requires number { number ≤ most_at_opening }
+    requires ready { K.ready keeper ≡ true }
+    ensures { IfOk result (λ stone. IsReady stone.told) }
 {
     let image = boxes(alloc, number, steps)?;
     if largest_serial(&image) != SERIAL {
@@ -95,38 +102,61 @@ pub fn opened<L: Ledger>(alloc: Global, number: u64, steps: &mut Steps<L>) -> Re
     }
     check_sound(alloc, &image)?;
     image.invariant();
-    Ok(Stone::start(alloc, image, number, script(alloc)?)?)
+    let script = script(alloc)?;
+    match Stone::start(alloc, image, number, script, keeper) {
+        Ok(stone) => Ok(stone),
+        Err(_) => Err(Fail::from(AllocError)),
+    }
 }
 
 /// Asks for a lock on the box with this counter.
-pub fn lock(stone: &mut Stone, session: u32, counter: u32, kind: LockKind) -> LockAnswer
-    requires ready { IsReady stone.old }
+pub fn lock<K: Keeper + Drop>(
+    stone: &mut Stone<K>,
+    session: u32,
+    counter: u32,
+    kind: LockKind,
+) -> LockAnswer
+    requires ready { IsReady stone.old.told }
     requires first { 1 ≤ session }
     requires last { session ≤ 2 }
     requires from { 1 ≤ counter }
     requires to { counter ≤ 2 }
-    ensures { IsReady stone.new }
+    ensures { IsReady stone.new.told }
 {
     stone.lock(session, name(counter), kind)
 }
 
 /// Gives the lock on the box with this counter back.
-pub fn unlock(stone: &mut Stone, session: u32, counter: u32) -> bool
-    requires ready { IsReady stone.old }
+pub fn unlock<K: Keeper + Drop>(stone: &mut Stone<K>, session: u32, counter: u32) -> bool
+    requires ready { IsReady stone.old.told }
     requires first { 1 ≤ session }
     requires last { session ≤ 2 }
     requires to { counter ≤ 2 }
-    ensures { IsReady stone.new }
+    ensures { IsReady stone.new.told }
 {
     stone.unlock(session, name(counter))
 }
 
 /// Ends the session.
-pub fn logout(stone: &mut Stone, session: u32) -> bool
-    requires ready { IsReady stone.old }
+pub fn logout<K: Keeper + Drop>(stone: &mut Stone<K>, session: u32) -> bool
+    requires ready { IsReady stone.old.told }
     requires first { 1 ≤ session }
     requires last { session ≤ 2 }
-    ensures { IsReady stone.new }
+    ensures { IsReady stone.new.told }
 {
     stone.logout(session)
+}
+
+/// Makes a checkpoint for the session.
+pub fn checkpoint<K: Keeper + Drop>(
+    stone: &mut Stone<K>,
+    alloc: Global,
+    session: u32,
+) -> CheckAnswer
+    requires ready { IsReady stone.old.told }
+    requires first { 1 ≤ session }
+    requires last { session ≤ 2 }
+    ensures { IsReady stone.new.told }
+{
+    stone.checkpoint(alloc, session)
 }

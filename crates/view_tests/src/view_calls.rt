@@ -4,7 +4,7 @@ ghost use Rattle.std.specs.Prelude.{◌≡◌, ◌<◌};
 use crate::notes::note_unless;
 use crate::walk::is_shared;
 use gem_object::{Body, Counter, Object, Oid, Right, Value, Values};
-use gem_record::TxnRecord;
+use gem_record::{Mode, TxnRecord};
 use gem_sound::names::{ARRAY_CLASS, DATA_CURATOR_SEGMENT, SYSTEM_SEGMENT, kernel_name};
 use gem_update::Update;
 use kernel_state::{begin_over, larger_image};
@@ -171,7 +171,7 @@ fn has_touched(record: &TxnRecord) -> bool {
 
 /// Whether the record has what was done.
 fn finishes(view: &View) -> Result<bool, AllocError> {
-    let record = view.finish(1, 1, 1, 2)?;
+    let record = view.finish(1, 1, 1, 2, Mode::Full)?;
     Ok(has_changes(&record) && has_touched(&record))
 }
 

@@ -7,7 +7,7 @@ ghost use Rattle.session_view.specs.Calls.{is_shared_at};
 use crate::notes::note_unless;
 use gem_image::Image;
 use gem_object::{Body, Counter, Object, Oid, Value, Values, may_write};
-use gem_record::TxnRecord;
+use gem_record::{Mode, TxnRecord};
 use gem_sound::names::{
     ARRAY_CLASS, DATA_CURATOR_SEGMENT, RC_COUNTER_CLASS, SYSTEM_SEGMENT, kernel_name,
 };
@@ -346,7 +346,7 @@ fn check_walk(alloc: Global, both: &mut Both, wrong: &mut String) -> Result<(), 
         let line = format!(in alloc; "step {step}")?;
         return wrong.push_str(line.as_str());
     }
-    let record = both.view.finish(1, 1, 1, 2)?;
+    let record = both.view.finish(1, 1, 1, 2, Mode::Full)?;
     note_unless(wrong, "an empty list", has_all(&record))?;
     compare_all(alloc, both, &record, wrong)
 }

@@ -1,9 +1,11 @@
+use Rattle.std.proofs.Common.{refl}
 use Rattle.gem_server.proofs.Kernel.{can_serve}
 use Rattle.gem_server.proofs.run.run_here.Goals as goal
 
 pub start-requires : goal.start-requires
 start-requires c = record {
-  serves = can_serve c.in_ok-image.image _ c.in_ok-image.ensures
+  serves = can_serve c.in_ok-image.image _ _ _ c.in_ok-image.ensures
       (record { named = c.invariant.ensures.named; spelled = c.invariant.ensures.spelled })
-      (rw c.in_ok-clone.ensures.cases (rw c.deref.ensures at c.sessions-sessions.ensures.limit));
+      (rw c.in_ok-shared.ensures.cases (rw c.deref.ensures at c.sessions-sessions.ensures.limit));
+  ready = refl;
 }

@@ -1,4 +1,5 @@
 use Rattle.std.proofs.Common.{◌≡◌, ◌∙◌, sym, ap, subst, ℕ, Some, None, false, length}
+use Rattle.gem_record.specs.declared.mode.Mode.TheVariants.{Full}
 use Rattle.gem_meaning.specs.Names.{user_in}
 use Rattle.gem_meaning.specs.Session.{Says}
 use Rattle.stone_core.specs.Port.{GoesOn, BeginSays}
@@ -34,6 +35,7 @@ serve-requires-clause-logged_in g c =
       session = n;
       serial = c.args.serial;
       number = begun.number;
+      mode = Full;
       transaction = 1;
       first_command = 1;
       spoiled = false;

@@ -7,7 +7,7 @@ use Rattle.sessions_tests.proofs.gem_session_tests.beside_lock.Goals as goal
 
 pub lock-requires-clause-there : goal.lock-requires-clause-there
 lock-requires-clause-there c =
-    globals_there c.in_ok-stone.stone c.in_ok-clone.field-0.value c.from_parts.result c.in_ok-stone.ensures.stone c.from_parts.ensures
+    globals_there c.in_ok-stone.stone.told c.in_ok-clone.field-0.value c.from_parts.result c.in_ok-stone.ensures.stone c.from_parts.ensures
 
 pub run_session-requires : goal.run_session-requires
 run_session-requires c =

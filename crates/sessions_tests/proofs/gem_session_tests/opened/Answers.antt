@@ -1,17 +1,19 @@
-use Rattle.std.proofs.Common.{subst}
+use Rattle.std.proofs.Common.{refl, subst}
 use Rattle.gem_record.specs.gem_image.Image.{Image}
 use Rattle.gem_meaning.specs.Serial.{CanServe}
+use Rattle.gem_server.specs.Server.{kernel_opening}
 use Rattle.gem_server.proofs.Kernel.{can_serve}
 use Rattle.sessions_tests.proofs.gem_session_tests.opened.Goals as goal
 
 pub start-requires : goal.start-requires
 start-requires g c = record {
-  serves = can_serve c.in_ok-image.image c.args.script.value c.in_ok-image.ensures.image
+  serves = can_serve c.in_ok-image.image c.args.script.value _ _ c.in_ok-image.ensures.image
       (record { named = c.invariant.ensures.named; spelled = c.invariant.ensures.spelled }) c.requires.limit;
+  ready = refl;
 }
 
 pub returns-clause-serves : goal.returns-clause-serves
 returns-clause-serves g c =
-    subst (λ (i : Image). CanServe (record { image = i; number = 0; script = c.args.script.value })) c.in_ok-image.ensures.image
-    (can_serve c.in_ok-image.image c.args.script.value c.in_ok-image.ensures.image
+    subst (λ (i : Image). CanServe (record (kernel_opening c.args.script.value) { image = i })) c.in_ok-image.ensures.image
+    (can_serve c.in_ok-image.image c.args.script.value _ _ c.in_ok-image.ensures.image
     (record { named = c.invariant.ensures.named; spelled = c.invariant.ensures.spelled }) c.requires.limit)

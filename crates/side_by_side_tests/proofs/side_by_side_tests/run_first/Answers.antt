@@ -9,6 +9,6 @@ loop-index-preserved c =
     let below = c.loop-index-test.true in
     let within = c.requires.count in
     rw c.in_ok-push.ensures.items
-    (one_session c.args.stone.now c.loop-index.stone c.run_session.new.port c.args.sessions.now c.loop-index.index _
+    (one_session c.args.stone.now.told c.loop-index.stone.told c.run_session.new.port.told c.args.sessions.now c.loop-index.index _
     c.index-sessions-index.result c.in_ok-run_session.field-0 port.extends.0 (omega (arith, below, within)) c.index-sessions-index.is
     c.loop-index.invariant port.opened port.extends.1 alone.1 c.in_ok-run_session.ensures.says)

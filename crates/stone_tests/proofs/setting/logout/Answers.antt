@@ -4,8 +4,8 @@ use Rattle.stone_tests.proofs.Ready.{leave_ready}
 use Rattle.stone_tests.proofs.setting.logout.Goals as goal
 
 pub logout-requires : goal.logout-requires
-logout-requires c = record { serves = c.requires.ready.serves c.args.session c.requires.first c.requires.last }
+logout-requires g c = record { serves = c.requires.ready.serves c.args.session c.requires.first c.requires.last }
 
 pub returns : goal.returns
-returns c = subst IsReady (sym c.logout.ensures.events)
-    (leave_ready c.args.stone.now c.logout.result c.args.session c.requires.ready)
+returns g c = subst IsReady (sym c.logout.ensures.events)
+    (leave_ready c.args.stone.now.told c.logout.result c.args.session c.requires.ready)

@@ -47,7 +47,7 @@ returns-then-ends_transaction-clause-replied g c =
     let ends = sym c.ends_transaction.ensures ∙ c.if-ends_transaction.true in
     rw c.commit_line.ensures
     (replied_ended _ _ c.args.number c.args.self.now c.requires.comes c.in-Ok.done c.in-Ok.ensures c.commit-answer.result c.if-self.false
-    c.commit-answer.ensures.port c.commit-answer.ensures.says (g.P.StonePort.state c.begin_next.new.port) c.begin_next.new.self ends c.in_ok-begin_next.ensures.begins)
+    c.commit-answer.ensures.port c.commit-answer.ensures.says c.placed_as_recorded.ensures.effect (g.P.StonePort.state c.begin_next.new.port) c.begin_next.new.self ends c.in_ok-begin_next.ensures.begins)
 
 pub returns-clause-port : goal.returns-clause-port
 returns-clause-port g c =
@@ -59,7 +59,7 @@ returns-clause-replied g c =
     let stays = sym c.ends_transaction.ensures ∙ c.if-ends_transaction.false in
     rw c.commit_line-2.ensures
     (replied_going_on _ _ c.args.number c.args.self.now c.requires.comes c.in-Ok.done c.in-Ok.ensures c.commit-answer.result c.if-self.false
-    c.commit-answer.ensures.port c.commit-answer.ensures.says c.args.self.now.number stays)
+    c.commit-answer.ensures.port c.commit-answer.ensures.says c.placed_as_recorded.ensures.effect c.args.self.now.number stays)
 
 pub commit-answer-requires-clause-serves : goal.commit-answer-requires-clause-serves
 commit-answer-requires-clause-serves g c =

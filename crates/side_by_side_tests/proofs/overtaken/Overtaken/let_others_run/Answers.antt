@@ -8,9 +8,9 @@ pub returns-in_default-clause-came : goal.returns-in_default-clause-came
 returns-in_default-clause-came c session last =
     let few = c.if-number-sessions.false in
     let size = ap length (c.sessions-sessions.ensures.sessions ∙ c.deref.ensures ∙ sym c.self.invariant.script_is) in
-    let before : c.self.inside.next + 1 < length c.self.inside.stone.opened.script = omega (arith, few, size) in
-    subst (λ (t : Told). OthersCame session t.events c.run_session-ran.new.port.events) c.self.view_is
-    (another_came c.self.inside.stone c.run_session-ran.new.port session c.self.inside.next
+    let before : c.self.inside.next + 1 < length c.self.inside.stone.told.opened.script = omega (arith, few, size) in
+    subst (λ (t : Told). OthersCame session t.events c.run_session-ran.new.port.told.events) c.self.view_is
+    (another_came c.self.inside.stone.told c.run_session-ran.new.port.told session c.self.inside.next
     c.run_session-ran.ensures.port before
     (subst (λ (t : Told). is_overtaken t.opened.script session ≡ true) (sym c.self.view_is) last))
 
@@ -18,8 +18,8 @@ pub returns-clause-came : goal.returns-clause-came
 returns-clause-came c session last =
     let few = c.if-number-sessions.false in
     let size = ap length (c.sessions-sessions.ensures.sessions ∙ c.deref.ensures ∙ sym c.self.invariant.script_is) in
-    let before : c.self.inside.next + 1 < length c.self.inside.stone.opened.script = omega (arith, few, size) in
-    subst (λ (t : Told). OthersCame session t.events c.run_session-ran.new.port.events) c.self.view_is
-    (another_came c.self.inside.stone c.run_session-ran.new.port session c.self.inside.next
+    let before : c.self.inside.next + 1 < length c.self.inside.stone.told.opened.script = omega (arith, few, size) in
+    subst (λ (t : Told). OthersCame session t.events c.run_session-ran.new.port.told.events) c.self.view_is
+    (another_came c.self.inside.stone.told c.run_session-ran.new.port.told session c.self.inside.next
     c.run_session-ran.ensures.port before
     (subst (λ (t : Told). is_overtaken t.opened.script session ≡ true) (sym c.self.view_is) last))

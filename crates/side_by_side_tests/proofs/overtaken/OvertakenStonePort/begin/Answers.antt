@@ -7,7 +7,7 @@ use Rattle.side_by_side_tests.proofs.overtaken.OvertakenStonePort.begin.Goals as
 pub begin-requires : goal.begin-requires
 begin-requires c =
     let s = c.args.self.now in
-    let t = c.self.inside.stone in
+    let t = c.self.inside.stone.told in
     let opened : t.opened ≡ s.opened = ap (λ (x : Told). x.opened) c.self.view_is ∙ c.let_others_run.ensures.opened in
     record {
       serves = is_of_script t.opened.script c.args.session
@@ -17,17 +17,17 @@ begin-requires c =
 pub returns-clause-begun : goal.returns-clause-begun
 returns-clause-begun c =
     let s = c.args.self.now in
-    let t = c.self.inside.stone in
+    let t = c.self.inside.stone.told in
     let opened : t.opened ≡ s.opened = ap (λ (x : Told). x.opened) c.self.view_is ∙ c.let_others_run.ensures.opened in
     let came : OthersCame c.args.session s.events t.events =
     subst (λ (x : Told). OthersCame c.args.session s.events x.events) (sym c.self.view_is) (c.let_others_run.ensures.came c.args.session c.requires.serves) in
-    begun_shared s t c.begin.new.self c.args.session opened came c.begin.result c.begin.ensures.begun
+    begun_shared s t c.begin.new.self.told c.args.session opened came c.begin.result c.begin.ensures.begun
 
 pub returns-clause-starved : goal.returns-clause-starved
 returns-clause-starved c =
     let s = c.args.self.now in
-    let t = c.self.inside.stone in
+    let t = c.self.inside.stone.told in
     let opened : t.opened ≡ s.opened = ap (λ (x : Told). x.opened) c.self.view_is ∙ c.let_others_run.ensures.opened in
     let came : OthersCame c.args.session s.events t.events =
     subst (λ (x : Told). OthersCame c.args.session s.events x.events) (sym c.self.view_is) (c.let_others_run.ensures.came c.args.session c.requires.serves) in
-    starved_shared s t c.begin.new.self c.args.session opened came c.begin.result c.begin.ensures.starved
+    starved_shared s t c.begin.new.self.told c.args.session opened came c.begin.result c.begin.ensures.starved

@@ -6,7 +6,7 @@ use Rattle.side_by_side_tests.proofs.overtaken.OvertakenStonePort.commit.Goals a
 pub commit-requires-clause-recorded : goal.commit-requires-clause-recorded
 commit-requires-clause-recorded c =
     let s = c.args.self.now in
-    let t = c.self.inside.stone in
+    let t = c.self.inside.stone.told in
     let opened : t.opened ≡ s.opened = ap (λ (x : Told). x.opened) c.self.view_is ∙ c.let_others_run.ensures.opened in
     let came : OthersCame c.args.done.now.session s.events t.events =
     subst (λ (x : Told). OthersCame c.args.done.now.session s.events x.events) (sym c.self.view_is) (c.let_others_run.ensures.came c.args.done.now.session c.requires.serves) in
@@ -15,8 +15,8 @@ commit-requires-clause-recorded c =
 pub returns-clause-says : goal.returns-clause-says
 returns-clause-says c =
     let s = c.args.self.now in
-    let t = c.self.inside.stone in
+    let t = c.self.inside.stone.told in
     let opened : t.opened ≡ s.opened = ap (λ (x : Told). x.opened) c.self.view_is ∙ c.let_others_run.ensures.opened in
     let came : OthersCame c.args.done.now.session s.events t.events =
     subst (λ (x : Told). OthersCame c.args.done.now.session s.events x.events) (sym c.self.view_is) (c.let_others_run.ensures.came c.args.done.now.session c.requires.serves) in
-    commit_shared s t c.commit.new.self opened c.args.done.now c.commit.result came c.commit.ensures.says
+    commit_shared s t c.commit.new.self.told opened c.args.done.now c.commit.result came c.commit.ensures.says

@@ -1,35 +1,42 @@
-use Rattle.std.proofs.Common.{◌≡◌, true, ℕ, IsSome, ◌∙◌, ap, sym, subst, arith}
+use Rattle.std.proofs.Common.{◌≡◌, true, ℕ, IsSome, refl, ◌∙◌, ap, sym, subst, arith}
 use Rattle.lock_table.specs.Locks.{kind_held, after_dropped}
 use Rattle.lock_table.proofs.Counts.{dropped_none}
-use Rattle.gem_meaning.specs.Events.{Told}
+use Rattle.gem_meaning.specs.declared.event.What.TheVariants.{Dropped}
 use Rattle.stone_core.specs.Stone.{is_session}
+use Rattle.stone_core.specs.Kept.{Kept}
 use Rattle.stone_core.specs.Inside.{told_by}
+use Rattle.stone_core.proofs.Keeps.{kept_quiet}
 use Rattle.stone_core.proofs.OneMore.{same_locks, dropped_stone, room_to_drop, none_held}
 use Rattle.stone_core.proofs.stone.Stone.unlock.Goals as goal
 
 pub invariant_of-self : goal.invariant_of-self
-invariant_of-self c =
-    let inside = c.self.inside in
-    same_locks (told_by inside) inside.image inside.number inside.locks inside.history.items _ c.self.invariant _
-    (c.release.ensures.locks ∙ dropped_none inside.locks c.args.session c.number.result
-    (none_held _ _ c.release.ensures.held c.if-not-release.true))
+invariant_of-self g c =
+    let inside = c.self.inside in (
+      same_locks (told_by g.K.Keeper.counts_pages g.K.Keeper.stored inside) inside.image inside.number inside.locks inside.history.items _ c.self.invariant.0 _
+          (c.release.ensures.locks ∙ dropped_none inside.locks c.args.session c.number.result
+          (none_held _ _ c.release.ensures.held c.if-not-release.true)),
+      c.self.invariant.1,
+    )
 
 pub unreachable-requires : goal.unreachable-requires
-unreachable-requires c =
+unreachable-requires g c =
     let inside = c.self.inside in
-    let room = room_to_drop (told_by inside) inside.image inside.number inside.locks inside.history.items _ c.self.invariant
+    let room = room_to_drop (told_by g.K.Keeper.counts_pages g.K.Keeper.stored inside) inside.image inside.number inside.locks inside.history.items _ c.self.invariant.0
     c.args.session c.number.result (c.release.ensures.held.0 c.if-not-release.false) in
     let full = c.in_default.ensures.full in
     let length_is = inside.events.ok.0 in
     omega (arith, room, full, length_is)
 
 pub invariant_of-self-2 : goal.invariant_of-self-2
-invariant_of-self-2 c =
+invariant_of-self-2 g c =
     let inside = c.self.inside in
-    let same = c.number.ensures.number in
-    dropped_stone (told_by inside) inside.image inside.number inside.locks inside.history.items _ c.self.invariant
-    c.args.session c.args.oid _ _ _
-    (subst (λ (t : Told). is_session t.opened.script c.args.session ≡ true) (sym c.self.view_is) c.requires.serves)
-    (subst (λ (n : ℕ). IsSome (kind_held inside.locks c.args.session n)) same (c.release.ensures.held.0 c.if-not-release.false))
-    (c.release.ensures.locks ∙ ap (λ (n : ℕ). after_dropped inside.locks c.args.session n) same)
-    c.in-Ok.ensures.items c.in-Ok.ensures.capacity
+    let same = c.number.ensures.number in (
+      dropped_stone (told_by g.K.Keeper.counts_pages g.K.Keeper.stored inside) inside.image inside.number inside.locks inside.history.items _ c.self.invariant.0
+          c.args.session c.args.oid _ _ _
+          (subst (λ (k : Kept _). is_session k.told.opened.script c.args.session ≡ true) (sym c.self.view_is) c.requires.serves)
+          (subst (λ (n : ℕ). IsSome (kind_held inside.locks c.args.session n)) same (c.release.ensures.held.0 c.if-not-release.false))
+          (c.release.ensures.locks ∙ ap (λ (n : ℕ). after_dropped inside.locks c.args.session n) same)
+          c.in-Ok.ensures.items c.in-Ok.ensures.capacity,
+      kept_quiet (told_by g.K.Keeper.counts_pages g.K.Keeper.stored inside) inside.halted inside.started.value inside.keeper
+          c.self.invariant.1 _ (c.args.session, Dropped c.args.oid) c.in-Ok.ensures.items refl (λ s x. refl),
+    )

@@ -7,8 +7,8 @@ use Rattle.stone_core.proofs.Calls.{begun_alone}
 use Rattle.stone_core.proofs.stone.StoneStonePort.begin.Goals as goal
 
 pub returns-clause-begun : goal.returns-clause-begun
-returns-clause-begun c =
-    let t = c.args.self.now in
+returns-clause-begun g c =
+    let t = c.args.self.now.told in
     let s = standing t in
     let opening = c.keeps_order.ensures.opening in
     let serial = c.keeps_order.ensures.consistent.serial in

@@ -1,0 +1,4 @@
+pub mod FaultText
+pub mod Keeper
+pub mod Memory
+pub mod Failing

@@ -1,0 +1,46 @@
+-- What a Stone's keeper has to do with its events.
+use Rattle.std.specs.Prelude.{◌≡◌, ◌≤◌, ℕ, Bool, true, Option}
+use Rattle.std.specs.Option.{option_to_list}
+use Rattle.gem_io.specs.Faults.{HasRisen}
+use Rattle.gem_record.specs.Stored.{Stored}
+use Rattle.gem_meaning.specs.Events.{Told, halts_in, IsRunning}
+use Rattle.gem_meaning.specs.After.{stored_after}
+use Rattle.stone_core.specs.declared.port.CommitAnswer.{CommitAnswer}
+use Rattle.stone_core.specs.declared.port.CommitAnswer.TheVariants.{DiskFault, Placed}
+use Rattle.stone_core.specs.declared.port.CheckAnswer.{CheckAnswer}
+use Rattle.stone_core.specs.declared.port.CheckAnswer.TheVariants as check
+
+-- A Stone as contracts see it: what it was opened with and its events, and its keeper as it was at
+-- the start and as it is.
+pub record Kept (K : Type 0) : Type 0 where
+  pub told : Told
+  pub started : K
+  pub keeper : K
+
+module _ {K : Type 0} (stored : K → Stored) (ready : K → Bool) (faults : K → ℕ) where
+  -- The disk has failed since the start only where its count tells so. Where it hasn't, the keeper
+  -- is ready, and has stored what the events say.
+  pub record IsKept (t : Told) (started keeper : K) : Type 0 where
+    pub later : faults started ≤ faults keeper
+    pub cause : (IsRunning t.events → ⊥) → HasRisen (faults started) (faults keeper)
+    pub is_ready : IsRunning t.events → ready keeper ≡ true
+    pub has : IsRunning t.events → stored keeper ≡ stored_after t.opened t.events
+
+  -- The number at which the Stone has halted is the one that its events tell, if they tell one.
+  pub record IsHalting (t : Told) (halted : Option ℕ) (started keeper : K) : Type 0 where
+    pub halted_is : option_to_list halted ≡ halts_in t.events
+    pub kept : IsKept t started keeper
+
+-- What a commit does to the keeper, by its answer. Where the disk is said to have failed its count
+-- has risen in this call, and where the commit is placed it hasn't. Any other answer leaves the
+-- keeper as it was.
+abbrev pub CommitKeeps : {K : Type 0} → (faults : K → ℕ) → (old new : K) → CommitAnswer → Type 0
+CommitKeeps faults old new (Placed number) = faults new ≡ faults old
+CommitKeeps faults old new DiskFault = HasRisen (faults old) (faults new)
+CommitKeeps faults old new _ = new ≡ old
+
+-- The same of a checkpoint.
+abbrev pub CheckKeeps : {K : Type 0} → (faults : K → ℕ) → (old new : K) → CheckAnswer → Type 0
+CheckKeeps faults old new (check.Made number) = faults new ≡ faults old
+CheckKeeps faults old new check.DiskFault = HasRisen (faults old) (faults new)
+CheckKeeps faults old new _ = new ≡ old
