@@ -48,7 +48,7 @@ impl FailingKeeper {
 }
 
 impl Keeper for FailingKeeper {
-    ghost use Rattle.std.specs.Prelude.{true, false};
+    ghost use Rattle.std.specs.Prelude.{true, false, None};
     ghost use Rattle.gem_keeper.specs.Memory.{stored_in};
 
     ghost counts_pages = { false };
@@ -58,6 +58,14 @@ impl Keeper for FailingKeeper {
     ghost faults = { λ keeper. keeper.faults };
 
     ghost stored = { λ keeper. stored_in keeper.kept };
+
+    ghost tells = { false };
+
+    ghost moment = { λ _. 0 };
+
+    ghost stands = { λ _. None };
+
+    ghost left_since = { λ _ _ _. ⊥ };
 
     fn append(&mut self, body: &[u8]) -> Result<(), AppendFault> {
         self.kept.append(body)?;

@@ -9,7 +9,7 @@ use std::alloc::Global;
 use tran_log::AppendFault;
 
 /// A keeper of a Stone that is nowhere stored: it counts how long a log would be, and knows the
-/// number of the last checkpoint. It never fails, and counts no pages.
+/// number of the last checkpoint. It never fails, counts no pages, and tells nothing of crashes.
 #[derive(Debug, Drop)]
 pub struct MemKeeper {
     length: u64,
@@ -29,7 +29,7 @@ impl MemKeeper {
 }
 
 impl Keeper for MemKeeper {
-    ghost use Rattle.std.specs.Prelude.{true, false};
+    ghost use Rattle.std.specs.Prelude.{true, false, None};
     ghost use Rattle.gem_keeper.specs.Memory.{stored_in};
 
     ghost counts_pages = { false };
@@ -39,6 +39,14 @@ impl Keeper for MemKeeper {
     ghost faults = { λ _. 0 };
 
     ghost stored = { stored_in };
+
+    ghost tells = { false };
+
+    ghost moment = { λ _. 0 };
+
+    ghost stands = { λ _. None };
+
+    ghost left_since = { λ _ _ _. ⊥ };
 
     fn append(&mut self, body: &[u8]) -> Result<(), AppendFault> {
         let (length, size) = (self.length, body.len() as u64);

@@ -4,6 +4,8 @@ pub mod Largest
 mod Spelled
 mod Fits
 mod OneMore
+mod Crashes
 mod Keeps
 mod Calls
 mod First
+mod StoredEffect

@@ -235,7 +235,7 @@ module _ (t : Told) (image : Image) (number : ℕ) (locks : LockSet) (history : 
       (placed : IsPlaced t.opened t.events done.session (entry_of done))
       (effect : effect_of t.opened (standing t) (entry_of done)
       ≡ effect_at (standing t).image ((standing t).number + 1) done) where
-    effect_is : effect_at image (number + 1) done ≡ effect_of t.opened (standing t) (entry_of done)
+    pub effect_is : effect_at image (number + 1) done ≡ effect_of t.opened (standing t) (entry_of done)
     effect_is = ap₂ (λ (i : Image) (n : ℕ). effect_at i (n + 1) done) stone.image_is stone.number_is ∙ sym effect
 
     -- the image that the effect makes

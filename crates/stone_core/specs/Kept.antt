@@ -1,10 +1,13 @@
 -- What a Stone's keeper has to do with its events.
-use Rattle.std.specs.Prelude.{◌≡◌, ◌≤◌, ℕ, Bool, true, Option}
+use Rattle.std.specs.Prelude.{◌≡◌, ◌≤◌, ℕ, Bool, true, IsTrue, Option}
 use Rattle.std.specs.Option.{option_to_list}
 use Rattle.gem_io.specs.Faults.{HasRisen}
 use Rattle.gem_record.specs.Stored.{Stored}
 use Rattle.gem_meaning.specs.Events.{Told, halts_in, IsRunning}
 use Rattle.gem_meaning.specs.After.{stored_after}
+use Rattle.gem_keeper.specs.Found.{Found}
+use Rattle.gem_keeper.specs.Crashes.{FitsNow, KeepsOnly}
+use Rattle.stone_core.specs.Crashes.{StandsAfter, MayBeLeft, MayHaveBeenLeft}
 use Rattle.stone_core.specs.declared.port.CommitAnswer.{CommitAnswer}
 use Rattle.stone_core.specs.declared.port.CommitAnswer.TheVariants.{DiskFault, Placed}
 use Rattle.stone_core.specs.declared.port.CheckAnswer.{CheckAnswer}
@@ -17,14 +20,24 @@ pub record Kept (K : Type 0) : Type 0 where
   pub started : K
   pub keeper : K
 
-module _ {K : Type 0} (stored : K → Stored) (ready : K → Bool) (faults : K → ℕ) where
+module _ {K : Type 0} (stored : K → Stored) (ready : K → Bool) (faults : K → ℕ) (tells : Bool)
+    (moment : K → ℕ) (stands : K → Option Found) (left_since : K → ℕ → Option Found → Type 0) where
   -- The disk has failed since the start only where its count tells so. Where it hasn't, the keeper
-  -- is ready, and has stored what the events say.
+  -- is ready, and has stored what the events say. Where the keeper tells what it stands for, that is
+  -- what stands after the events, as long as the disk hasn't failed; what a crash at this moment may
+  -- leave is that, too, or that with the commit in flight; and what one since the start may leave is
+  -- what stood at some point of the events, or that with the commit in flight.
   pub record IsKept (t : Told) (started keeper : K) : Type 0 where
     pub later : faults started ≤ faults keeper
     pub cause : (IsRunning t.events → ⊥) → HasRisen (faults started) (faults keeper)
     pub is_ready : IsRunning t.events → ready keeper ≡ true
     pub has : IsRunning t.events → stored keeper ≡ stored_after t.opened t.events
+    pub now : IsTrue tells → IsRunning t.events
+        → FitsNow moment stands left_since keeper (StandsAfter t.opened t.events)
+    pub crash : IsTrue tells → (left : Option Found) → left_since keeper (moment keeper) left
+        → MayBeLeft t.opened t.events left
+    pub since : IsTrue tells
+        → KeepsOnly moment left_since started keeper (MayHaveBeenLeft t.opened t.events)
 
   -- The number at which the Stone has halted is the one that its events tell, if they tell one.
   pub record IsHalting (t : Told) (halted : Option ℕ) (started keeper : K) : Type 0 where

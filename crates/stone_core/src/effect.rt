@@ -74,12 +74,16 @@ pub(crate) fn next_image<L: Ledger>(
 ///
 /// # Errors
 ///
-/// `AllocError` where memory ran out.
+/// `AllocError` where memory ran out, or where the effect has no object: then it has no record.
 pub(crate) fn body_of(alloc: Global, effect: &Effect) -> Result<Vec<u8>, AllocError>
     ensures body { IfOk result (λ body. body.items ≡ spelled_record effect.now ++ 0 ∷ []) }
     ensures size { IfOk result (λ body. length body.items ≡ log_record_size effect.now) }
+    ensures some { IfOk result (λ _. 0 < length effect.now.objects) }
 {
     length_is_size();
+    if effect.objects.as_slice().is_empty() {
+        return Err(AllocError);
+    }
     let spelled = write_effect(alloc, effect)?;
     spell_body(alloc, effect.number, &spelled)
 }

@@ -7,6 +7,8 @@ ghost use Rattle.gem_meaning.specs.Events.{standing, entries_of, conflicts_at, t
 ghost use Rattle.gem_meaning.specs.Serial.{IsRecorded, IsConsistent, CanServe};
 ghost use Rattle.gem_meaning.specs.Locks.{leaving};
 ghost use Rattle.stone_core.specs.Kept.{IsKept, CommitKeeps, CheckKeeps};
+ghost use Rattle.gem_keeper.specs.Found.{StandsFor};
+ghost use Rattle.gem_keeper.specs.Crashes.{FitsNow};
 ghost use Rattle.stone_core.specs.Stone.{is_session};
 ghost use Rattle.stone_core.specs.Port.{event_of_answer, AnswerFits, event_of_lock, LockFits, dropping, event_of_check, CheckFits};
 ghost use Rattle.lock_table.specs.Locks.{kind_held};
@@ -85,13 +87,16 @@ impl<K: Keeper + Drop> Model for Stone<K> {
 
     ghost view = { kept_by K.counts_pages K.stored };
 
-    ghost invariant = { IsWholeStone K.counts_pages K.stored K.ready K.faults };
+    ghost invariant = { IsWholeStone K.counts_pages K.stored K.ready K.faults K.tells K.moment K.stands
+        K.left_since };
 }
 
 impl<K: Keeper + Drop> Stone<K> {
     /// A Stone that is opened with this image, which has so many commits, for the sessions of this
-    /// script, and that stores its commits with this keeper. Each session draws names of a serial
-    /// of its own, from the one after the image's largest on: `largest_serial` gives that one.
+    /// script, and that stores its commits with this keeper. Where the keeper tells what it stands
+    /// for, it is this image, and a crash at this moment leaves it. Each session draws names of a
+    /// serial of its own, from the one after the image's largest on: `largest_serial` gives that
+    /// one.
     ///
     /// # Errors
     ///
@@ -111,6 +116,8 @@ impl<K: Keeper + Drop> Stone<K> {
           counts_pages = K.counts_pages;
         }) }
         requires ready { K.ready keeper ≡ true }
+        requires stands { IsTrue K.tells
+            → FitsNow K.moment K.stands K.left_since keeper (StandsFor image number) }
         ensures stone { IfOk result (λ stone. stone ≡ record {
           told = record {
             opened = record {
@@ -170,6 +177,9 @@ impl<K: Keeper + Drop> Stone<K> {
     /// was. A merge that makes a body of 2^32 pairs or items, which can't be stored, counts as want
     /// of memory, and so does the commit with the number 2^63. An object of the effect builds at
     /// most 8 nodes of the next image, however many objects the image has.
+    ///
+    /// What the type says of every Stone's keeper is said of it once more, so that an acknowledged
+    /// commit is in what each later crash leaves.
     pub fn commit<L: Ledger>(
         &mut self,
         alloc: Global,
@@ -182,19 +192,14 @@ impl<K: Keeper + Drop> Stone<K> {
         ensures answer { AnswerFits self.old.told.opened self.old.told.events done.now result }
         ensures started { self.new.started ≡ self.old.started }
         ensures keeper { CommitKeeps K.faults self.old.keeper self.new.keeper result }
+        ensures kept { IsKept K.stored K.ready K.faults K.tells K.moment K.stands K.left_since
+            self.new.told self.new.started self.new.keeper }
         ensures nodes { steps.new ≤ steps.old + 8 * length
             (effect_at (standing self.old.told).image ((standing self.old.told).number + 1) done.now) }
     {
-        if let Some(number) = self.halted {
-            return CommitAnswer::Halted(number);
-        }
-        if done.written.as_slice().is_empty() && done.updates.as_slice().is_empty() {
-            return CommitAnswer::ReadOnly(done.view);
-        }
-        match self.place_or_refuse(alloc, done, steps) {
-            Ok(answer) => answer,
-            Err(AllocError) => CommitAnswer::NoMemory,
-        }
+        let answer = self.answer(alloc, done, steps);
+        self.keeps_order();
+        answer
     }
 
     /// Locks an object for the session, which has to be there. Where another session's lock is in
@@ -308,7 +313,8 @@ impl<K: Keeper + Drop> Stone<K> {
         ensures history { result.history.items ≡ entries_of self.told.events }
         ensures consistent { IsConsistent self.told }
         ensures keeper { result.keeper ≡ self.keeper }
-        ensures kept { IsKept K.stored K.ready K.faults self.told self.started self.keeper }
+        ensures kept { IsKept K.stored K.ready K.faults K.tells K.moment K.stands K.left_since
+            self.told self.started self.keeper }
     {
         Closed {
             keeper: self.keeper,
@@ -322,8 +328,38 @@ impl<K: Keeper + Drop> Stone<K> {
     fn keeps_order(&self) -> bool
         ensures opening { CanServe self.now.told.opened }
         ensures consistent { IsConsistent self.now.told }
+        ensures kept { IsKept K.stored K.ready K.faults K.tells K.moment K.stands K.left_since
+            self.now.told self.now.started self.now.keeper }
     {
         self.opened_number <= self.number
+    }
+
+    // The answer to a commit.
+    fn answer<L: Ledger>(
+        &mut self,
+        alloc: Global,
+        done: &TxnRecord,
+        steps: &mut Steps<L>,
+    ) -> CommitAnswer
+        requires recorded { IsRecorded self.old.told done.now }
+        ensures events { self.new.told ≡ told_more self.old.told
+            (event_of_answer (standing self.old.told).number done.now result) }
+        ensures answer { AnswerFits self.old.told.opened self.old.told.events done.now result }
+        ensures started { self.new.started ≡ self.old.started }
+        ensures keeper { CommitKeeps K.faults self.old.keeper self.new.keeper result }
+        ensures nodes { steps.new ≤ steps.old + 8 * length
+            (effect_at (standing self.old.told).image ((standing self.old.told).number + 1) done.now) }
+    {
+        if let Some(number) = self.halted {
+            return CommitAnswer::Halted(number);
+        }
+        if done.written.as_slice().is_empty() && done.updates.as_slice().is_empty() {
+            return CommitAnswer::ReadOnly(done.view);
+        }
+        match self.place_or_refuse(alloc, done, steps) {
+            Ok(answer) => answer,
+            Err(AllocError) => CommitAnswer::NoMemory,
+        }
     }
 
     // The answer to a commit of a transaction that wrote or updated something, where memory

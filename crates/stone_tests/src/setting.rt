@@ -1,6 +1,6 @@
 // A Stone over the kernel's image and two boxes, for two sessions that commit at once, and its
 // calls.
-ghost use Rattle.std.specs.Prelude.{◌≡◌, ◌<◌, ◌≤◌, ◌^◌, ℕ, true, IfOk, OnOk};
+ghost use Rattle.std.specs.Prelude.{◌≡◌, ◌<◌, ◌≤◌, ◌^◌, ℕ, true, false, IfOk, OnOk};
 ghost use Rattle.gem_object.specs.gem_value.Oid.{oid_number};
 ghost use Rattle.gem_object.specs.Spelling.{IsSpelled};
 ghost use Rattle.gem_sound.specs.Sound.{IsSoundImage};
@@ -94,6 +94,7 @@ pub fn opened<K: Keeper + Drop, L: Ledger>(
 ) -> Result<Stone<K>, Fail>
     requires number { number ≤ most_at_opening }
     requires ready { K.ready keeper ≡ true }
+    requires silent { K.tells ≡ false }
     ensures { IfOk result (λ stone. IsReady stone.told) }
 {
     let image = boxes(alloc, number, steps)?;

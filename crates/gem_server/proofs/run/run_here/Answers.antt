@@ -1,4 +1,5 @@
 use Rattle.std.proofs.Common.{refl}
+use Rattle.std.proofs.lemmas.Bool.{false≢true}
 use Rattle.gem_server.proofs.Kernel.{can_serve}
 use Rattle.gem_server.proofs.run.run_here.Goals as goal
 
@@ -8,4 +9,5 @@ start-requires c = record {
       (record { named = c.invariant.ensures.named; spelled = c.invariant.ensures.spelled })
       (rw c.in_ok-shared.ensures.cases (rw c.deref.ensures at c.sessions-sessions.ensures.limit));
   ready = refl;
+  stands = λ told. absurd (false≢true told);
 }

@@ -1,4 +1,5 @@
 use Rattle.std.proofs.Common.{refl, subst}
+use Rattle.std.proofs.lemmas.Bool.{false≢true}
 use Rattle.gem_record.specs.gem_image.Image.{Image}
 use Rattle.gem_meaning.specs.Serial.{CanServe}
 use Rattle.gem_server.specs.Server.{kernel_opening}
@@ -10,6 +11,7 @@ start-requires g c = record {
   serves = can_serve c.in_ok-image.image c.args.script.value _ _ c.in_ok-image.ensures.image
       (record { named = c.invariant.ensures.named; spelled = c.invariant.ensures.spelled }) c.requires.limit;
   ready = refl;
+  stands = λ told. absurd (false≢true told);
 }
 
 pub returns-clause-serves : goal.returns-clause-serves

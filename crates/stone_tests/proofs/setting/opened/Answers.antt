@@ -1,4 +1,5 @@
 use Rattle.std.proofs.Common.{sym, ap, ◌∙◌}
+use Rattle.std.proofs.lemmas.Bool.{false≢true}
 use Rattle.stone_core.specs.Kept.{Kept}
 use Rattle.stone_tests.proofs.Ready.{can_serve, first_ready}
 use Rattle.stone_tests.proofs.setting.opened.Goals as goal
@@ -10,6 +11,7 @@ start-requires g c = record {
       c.requires.number c.in_ok-image.ensures.changed (sym c.largest_serial.ensures.serial ∙ c.if-largest_serial-ne-SERIAL.false)
       c.in_ok-script.ensures;
   ready = c.requires.ready;
+  stands = λ told. absurd (false≢true (sym c.requires.silent ∙ told));
 }
 
 pub returns-in-Ok : goal.returns-in-Ok

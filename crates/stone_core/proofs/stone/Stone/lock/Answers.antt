@@ -31,5 +31,5 @@ invariant_of-self-in-Granted g c =
           more
           (omega (arith, counted, length_is, reserved, kept, grown)),
       kept_quiet (told_by g.K.Keeper.counts_pages g.K.Keeper.stored inside) inside.halted inside.started.value inside.keeper
-          c.self.invariant.1 _ (c.args.session, Held c.args.oid c.in-Granted.now) more refl (λ s x. refl),
+          c.self.invariant.1 (c.args.session, Held c.args.oid c.in-Granted.now) refl _ more (λ s x. refl) (λ s. (refl, refl)),
     )

@@ -36,5 +36,5 @@ invariant_of-self-2 g c =
           (c.release_all.ensures.held.0 c.if-not-release_all.false)
           c.release_all.ensures.locks c.in-Ok.ensures.items c.in-Ok.ensures.capacity,
       kept_quiet (told_by g.K.Keeper.counts_pages g.K.Keeper.stored inside) inside.halted inside.started.value inside.keeper
-          c.self.invariant.1 _ (c.args.session, Left) c.in-Ok.ensures.items refl (λ s x. refl),
+          c.self.invariant.1 (c.args.session, Left) refl _ c.in-Ok.ensures.items (λ s x. refl) (λ s. (refl, refl)),
     )

@@ -2,7 +2,7 @@ use Rattle.std.proofs.Common.{◌≡◌, ◌+◌, ◌<◌, ◌^◌, ℕ, List, [
 use Rattle.std.specs.Vec.{vec_capacity}
 use Rattle.gem_object.specs.Spelling.{IsSpelled}
 use Rattle.gem_object.specs.declared.object.Object.{Object}
-use Rattle.gem_image.specs.Image.{Image, with_objects}
+use Rattle.gem_image.specs.Image.{Image, IsImage, with_objects}
 use Rattle.commit_check.specs.Conflicts.{merged_objects}
 use Rattle.gem_meaning.specs.declared.event.What.TheVariants.{Placed, Halted}
 use Rattle.gem_meaning.specs.Effect.{MergesFit, effect_at}
@@ -15,9 +15,10 @@ use Rattle.stone_core.specs.Port.{MayPlace, AnswerFits}
 use Rattle.stone_core.specs.Stone.{IsStone}
 use Rattle.stone_core.specs.Kept.{Kept}
 use Rattle.stone_core.specs.Inside.{told_by}
-use Rattle.stone_core.proofs.Keeps.{kept_placed, kept_halted, may_place, is_full}
-use Rattle.stone_core.proofs.OneMore.{placed_stone, halted_stone, size_is, record_size_is, commit_consistent, effect_has_spelling}
+use Rattle.stone_core.proofs.Keeps.{kept_placed, kept_flying, may_place, is_full}
+use Rattle.stone_core.proofs.OneMore.{placed_stone, halted_stone, size_is, record_size_is, effect_is, commit_consistent, effect_has_spelling}
 use Rattle.stone_core.proofs.Spelled.{effect_made, nodes_bound}
+use Rattle.stone_core.proofs.StoredEffect.{next_body}
 use Rattle.stone_core.proofs.stone.Stone.place.Goals as goal
 
 pub overflow_add-number : goal.overflow_add-number
@@ -44,6 +45,23 @@ next_image-requires g c =
     (effect_has_spelling t inside.image inside.number inside.locks inside.history.items _ stone done recorded placed effect
     (c.images_are_sound.ensures.image more (standing more).number stone.opening consistent.serial
     (number_at_least t.opened more.events) (le_refl (standing more).number)))
+
+pub append-requires-clause-next : goal.append-requires-clause-next
+append-requires-clause-next g c =
+    let inside = c.self.inside in
+    let done = c.args.done.now in
+    let t = told_by g.K.Keeper.counts_pages g.K.Keeper.stored inside in
+    let stone = c.self.invariant.0 in
+    let merged_is = c.requires.merged ∙ ap (λ (k : Kept _). merged_objects (standing k.told).image done) (sym c.self.view_is)
+    ∙ ap (λ (i : Image). merged_objects i done) (sym c.self.invariant.0.image_is) in
+    let made = effect_made inside.image (inside.number + 1) done c.args.merged c.in_ok-effect.effect.objects merged_is c.in_ok-effect.ensures.objects in
+    let running = subst (λ (k : Kept _). IsRunning k.told.events) (sym c.self.view_is) c.requires.running in
+    let small : inside.number + 1 < 2 ^ 63 = let below = c.if-number-ge-NUMBER_LIMIT.false in omega (arith, below) in
+    let is_image = subst IsImage (c.image.view_is ∙ c.in_ok-image.ensures.image ∙ ap (with_objects inside.image) made) c.image.invariant in
+    let next = next_body t inside.image inside.number done c.in_ok-effect.effect c.deref.result.now stone.number_is small
+    c.in_ok-effect.ensures.number made c.in_ok-body.ensures.some is_image (c.deref.ensures.value ∙ c.in_ok-body.ensures.body)
+    (ap length c.deref.ensures.value ∙ c.in_ok-body.ensures.size) in
+    λ told. ((standing t).image, (standing t).number, c.in_ok-effect.effect, c.self.invariant.1.kept.now told running, next)
 
 pub returns-in_err-image-clause-nodes : goal.returns-in_err-image-clause-nodes
 returns-in_err-image-clause-nodes g c =
@@ -97,13 +115,23 @@ invariant_of-self-in-Ok g c =
     c.in-Ok-push-2.ensures.items ∙ ap₂ (λ entries e. entries ++ e ∷ []) c.in_ok-reserve.ensures.items c.entry-in-Ok.ensures in
     let events_are : c.push.new.self.items ≡ inside.events.items ++ (done.session, Placed (entry_of done)) ∷ [] =
     c.in-Ok-push.ensures.items ∙ ap₂ (λ events e. events ++ (done.session, Placed e) ∷ []) c.in_ok-reserve-2.ensures.items c.entry.ensures in
-    let small : inside.number + 1 < 2 ^ 63 = let below = c.if-number-ge-NUMBER_LIMIT.false in omega (arith, below) in (
+    let small : inside.number + 1 < 2 ^ 63 = let below = c.if-number-ge-NUMBER_LIMIT.false in omega (arith, below) in
+    let is_image = subst IsImage (c.image.view_is ∙ c.in_ok-image.ensures.image ∙ ap (with_objects inside.image) made) c.image.invariant in
+    let next = next_body t inside.image inside.number done c.in_ok-effect.effect c.deref.result.now stone.number_is small
+    c.in_ok-effect.ensures.number made c.in_ok-body.ensures.some is_image (c.deref.ensures.value ∙ c.in_ok-body.ensures.body)
+    (ap length c.deref.ensures.value ∙ c.in_ok-body.ensures.size) in
+    let objects_are = made ∙ effect_is t inside.image inside.number inside.locks inside.history.items _ stone done recorded placed effect in (
       placed_stone t inside.image inside.number inside.locks inside.history.items _ stone done recorded placed effect
           c.in_ok-image.image _ _ _ image_is small entries_are events_are
           (omega (arith, length_is, counted, reserved, kept, grown)),
-      kept_placed t inside.halted inside.started.value inside.keeper c.self.invariant.1 _ done.session (entry_of done) _ _
+      kept_placed t inside.halted inside.started.value inside.keeper c.self.invariant.1 _ done.session (entry_of done) c.in_ok-effect.effect _ _
           events_are running c.in-Ok.ensures.later c.in-Ok.ensures.ready c.in-Ok.ensures.stored
-          (size ∙ sym (record_size_is t inside.image inside.number inside.locks inside.history.items _ stone done recorded placed effect)),
+          (size ∙ sym (record_size_is t inside.image inside.number inside.locks inside.history.items _ stone done recorded placed effect))
+          objects_are
+          (λ told. c.in-Ok.ensures.acknowledged (standing t).image (standing t).number c.in_ok-effect.effect told
+          (c.self.invariant.1.kept.now told running) next)
+          (λ told. c.in-Ok.ensures.any_moment (standing t).image (standing t).number c.in_ok-effect.effect told
+          (c.self.invariant.1.kept.now told running) next),
     )
 
 pub returns-in-Ok-clause-events : goal.returns-in-Ok-clause-events
@@ -169,6 +197,9 @@ invariant_of-self-in-Err-Disk g c =
     let done = c.args.done.now in
     let t = told_by g.K.Keeper.counts_pages g.K.Keeper.stored inside in
     let stone = c.self.invariant.0 in
+    let merged_is = c.requires.merged ∙ ap (λ (k : Kept _). merged_objects (standing k.told).image done) (sym c.self.view_is)
+    ∙ ap (λ (i : Image). merged_objects i done) (sym c.self.invariant.0.image_is) in
+    let made = effect_made inside.image (inside.number + 1) done c.args.merged c.in_ok-effect.effect.objects merged_is c.in_ok-effect.ensures.objects in
     let running = subst (λ (k : Kept _). IsRunning k.told.events) (sym c.self.view_is) c.requires.running in
     let recorded = subst (λ (k : Kept _). IsRecorded k.told done) (sym c.self.view_is) c.requires.recorded in
     let none = subst (λ (k : Kept _). conflicts_at (standing k.told) done ≡ []) (sym c.self.view_is) c.requires.no_conflict in
@@ -184,14 +215,22 @@ invariant_of-self-in-Err-Disk g c =
     ≡ inside.events.items ++ (done.session, Halted (inside.number + 1) (Some (entry_of done))) ∷ [] =
     c.in-Ok-push-3.ensures.items ∙ ap₂ (λ events e. events ++ (done.session, Halted (inside.number + 1) (Some e)) ∷ [])
     c.in_ok-reserve-2.ensures.items c.entry-in-Err-Disk.ensures in
+    let small : inside.number + 1 < 2 ^ 63 = let below = c.if-number-ge-NUMBER_LIMIT.false in omega (arith, below) in
+    let is_image = subst IsImage (c.image.view_is ∙ c.in_ok-image.ensures.image ∙ ap (with_objects inside.image) made) c.image.invariant in
+    let next = next_body t inside.image inside.number done c.in_ok-effect.effect c.deref.result.now stone.number_is small
+    c.in_ok-effect.ensures.number made c.in_ok-body.ensures.some is_image (c.deref.ensures.value ∙ c.in_ok-body.ensures.body)
+    (ap length c.deref.ensures.value ∙ c.in_ok-body.ensures.size) in
+    let objects_are = made ∙ effect_is t inside.image inside.number inside.locks inside.history.items _ stone done recorded placed effect in
     let fault = rw c.in-Err-Disk.field-0-is at c.in-Err-Disk.ensures.fault in (
       subst (λ entries. IsStone (record t { events = c.push-in-Err-Disk.new.self.items }) inside.image inside.number inside.locks
           entries (vec_capacity c.push-in-Err-Disk.new.self))
           (sym c.in_ok-reserve.ensures.items)
           (halted_stone t inside.image inside.number inside.locks inside.history.items _ stone done recorded placed effect _ _ events_are
           (omega (arith, length_is, counted, reserved, kept, grown))),
-      kept_halted t inside.halted inside.started.value inside.keeper c.self.invariant.1 _ done.session (inside.number + 1) (Some (entry_of done)) _
-          events_are running c.in-Err-Disk.ensures.later fault.1,
+      kept_flying t inside.halted inside.started.value inside.keeper c.self.invariant.1 _ done.session (inside.number + 1) (entry_of done)
+          c.in_ok-effect.effect _ events_are running c.in-Err-Disk.ensures.later fault.1 objects_are
+          (λ told. c.in-Err-Disk.ensures.any_moment (standing t).image (standing t).number c.in_ok-effect.effect told
+          (c.self.invariant.1.kept.now told running) next),
     )
 
 pub returns-clause-events : goal.returns-clause-events

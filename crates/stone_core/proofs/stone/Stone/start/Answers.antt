@@ -2,6 +2,8 @@ use Rattle.std.proofs.Common.{refl, sym, subst}
 use Rattle.gem_image.specs.Image.{Image}
 use Rattle.gem_meaning.specs.Opened.{Opened}
 use Rattle.gem_meaning.specs.Serial.{CanServe}
+use Rattle.gem_keeper.specs.Found.{StandsFor}
+use Rattle.gem_keeper.specs.Crashes.{FitsNow}
 use Rattle.stone_core.proofs.Keeps.{first_kept}
 use Rattle.stone_core.proofs.OneMore.{first_stone}
 use Rattle.stone_core.proofs.stone.Stone.start.Goals as goal
@@ -21,5 +23,7 @@ invariant_of-result g c =
           (subst (λ (i : Image). CanServe (at_start i c.args.keeper)) (sym c.in-Ok.ensures) c.requires.serves))
           c.in-Ok.ensures c.new.ensures c.new-2.ensures.items c.new-3.ensures.items,
       first_kept (at_start opened c.of.result.value) _
-          c.of.result.value c.args.keeper c.of.ensures refl c.requires.ready c.new-3.ensures.items,
+          c.of.result.value c.args.keeper c.of.ensures refl c.requires.ready
+          (λ told. subst (λ (i : Image). FitsNow g.K.Keeper.moment g.K.Keeper.stands g.K.Keeper.left_since c.args.keeper (StandsFor i c.args.number))
+          (sym c.in-Ok.ensures) (c.requires.stands told)) c.new-3.ensures.items,
     )

@@ -38,5 +38,5 @@ invariant_of-self-2 g c =
           (c.release.ensures.locks ∙ ap (λ (n : ℕ). after_dropped inside.locks c.args.session n) same)
           c.in-Ok.ensures.items c.in-Ok.ensures.capacity,
       kept_quiet (told_by g.K.Keeper.counts_pages g.K.Keeper.stored inside) inside.halted inside.started.value inside.keeper
-          c.self.invariant.1 _ (c.args.session, Dropped c.args.oid) c.in-Ok.ensures.items refl (λ s x. refl),
+          c.self.invariant.1 (c.args.session, Dropped c.args.oid) refl _ c.in-Ok.ensures.items (λ s x. refl) (λ s. (refl, refl)),
     )
