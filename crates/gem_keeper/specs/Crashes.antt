@@ -2,16 +2,18 @@
 -- there, and `None` is told where nothing can be found.
 use Rattle.std.specs.Prelude.{◌≡◌, ◌<◌, ◌≤◌, ◌⊎◌, ◌+◌, ◌^◌, ℕ, List, [], ◌∷◌, ◌++◌, length, Option}
 use Rattle.gem_image.specs.Image.{Image, with_objects}
+use Rattle.gem_record.specs.declared.mode.Mode.{Mode}
 use Rattle.gem_record.specs.declared.effect.Effect.{Effect}
 use Rattle.gem_record.specs.declared.limits.TheConstants.{LOG_LIMIT}
 use Rattle.body_codec.specs.Stored.{IsStoredEffect}
 use Rattle.tran_log.specs.Log.{spelled_record}
 use Rattle.gem_keeper.specs.Found.{Found, StandsFor}
 
--- The body is the record of the effect of the commit after this number, with the gate behind it,
--- closed. One that is longer than any log may be of anything.
+-- The body is the record of the effect of the commit after this number, in some mode, with the gate
+-- behind it, closed. One that is longer than any log may be of anything.
 pub record IsNextBody (number : ℕ) (effect : Effect) (body : List ℕ) : Type 0 where
-  pub body_is : body ≡ spelled_record effect ++ 0 ∷ []
+  pub mode : Mode
+  pub body_is : body ≡ spelled_record mode effect ++ 0 ∷ []
   pub small : number + 1 < 2 ^ 63
   pub stored : length body ≤ LOG_LIMIT → IsStoredEffect (number + 1) effect
 

@@ -1,6 +1,7 @@
 //! What a keeper is.
 ghost use Rattle.std.specs.Prelude.{◌≡◌, ◌≤◌, ◌<◌, ◌+◌, ◌^◌, ℕ, Bool, true, [], ◌∷◌, ◌++◌, length, Option, IsTrue, OnOk, IfErr};
 ghost use Rattle.gem_io.specs.Faults.{HasRisen};
+ghost use Rattle.gem_record.specs.declared.mode.Mode.{Mode};
 ghost use Rattle.gem_record.specs.declared.effect.Effect.{Effect};
 ghost use Rattle.tran_log.specs.Log.{spelled_record};
 ghost use Rattle.gem_record.specs.Stored.{Stored, longer_by, pages_needed, after_checkpoint};
@@ -79,9 +80,9 @@ pub trait Keeper {
     /// `None` says that nothing is.
     ghost left_since: { Self → ℕ → Option Found → Type 0 };
 
-    /// Adds a record to the log. The body is the record of some effect, with the gate behind it,
-    /// closed; where the keeper tells what it stands for, of the effect of the next commit. It
-    /// takes no memory.
+    /// Adds a record to the log. The body is the record of some effect in some mode, with the gate
+    /// behind it, closed; where the keeper tells what it stands for, of the effect of the next
+    /// commit. It takes no memory.
     ///
     /// At every moment a crash leaves what stood, or that with the commit; after `Ok` it leaves the
     /// commit.
@@ -90,7 +91,8 @@ pub trait Keeper {
     /// `Disk`: only where the count of faults rose in this call.
     fn append(&mut self, body: &[u8]) -> Result<(), AppendFault>
         requires ready { ready self.old ≡ true }
-        requires spelled { (effect : Effect) × (body.now ≡ spelled_record effect ++ 0 ∷ []) }
+        requires spelled { (mode : Mode) × (effect : Effect)
+            × (body.now ≡ spelled_record mode effect ++ 0 ∷ []) }
         requires next { IsTrue tells → (image : Image) × (number : ℕ) × (effect : Effect)
             × FitsNow moment stands left_since self.old (StandsFor image number)
             × IsNextBody number effect body.now }

@@ -12,6 +12,6 @@ changed_size changed = 8 + object_size changed.1
 abbrev pub effect_size : Effect → ℕ
 effect_size effect = 4 + sum_by changed_size effect.objects
 
--- the record of an effect in the log: thirteen bytes more than the effect
+-- the record of an effect in the log: fourteen bytes more than the effect
 abbrev pub log_record_size : Effect → ℕ
-log_record_size effect = 13 + effect_size effect
+log_record_size effect = 14 + effect_size effect

@@ -27,7 +27,7 @@ impl Effect {
     pub fn log_record_size(&self) -> u64
         ensures { result ≡ min (log_record_size self.now) (2 ^ 64 - 1) }
     {
-        self.size().saturating_add(13)
+        self.size().saturating_add(14)
     }
 }
 

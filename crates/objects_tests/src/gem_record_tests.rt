@@ -101,7 +101,7 @@ fn sizes(rt: HostRuntime) -> Result<(), Fail> {
     let one = vec![in alloc; (Oid::from_parts(1, 3), counter(20))]?;
     let (first, second) = (Oid::from_parts(1, 3), Oid::from_parts(1, 4));
     let two = vec![in alloc; (first, counter(20)), (second, counter(-1))]?;
-    for (objects, bytes, in_log) in [(one, 37, 50), (two, 70, 83)] {
+    for (objects, bytes, in_log) in [(one, 37, 51), (two, 70, 84)] {
         let effect = Effect {
             number: 3,
             objects: by_name(&rt, objects),

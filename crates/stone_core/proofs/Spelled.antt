@@ -15,9 +15,10 @@ use Rattle.gem_object.specs.declared.object.Object.{Object}
 use Rattle.gem_image.specs.Image.{Image, AreSpelled, with_objects}
 use Rattle.gem_record.specs.declared.record.TxnRecord.{TxnRecord}
 use Rattle.gem_record.specs.Effects.{effect_size, log_record_size}
+use Rattle.gem_record.specs.declared.mode.Mode.{Mode}
 use Rattle.gem_record.specs.declared.effect.Effect.{Effect}
 use Rattle.body_codec.specs.Spelled.{spelled_effect}
-use Rattle.tran_log.specs.Log.{spelled_record}
+use Rattle.tran_log.specs.Log.{Format2, spelled_record}
 use Rattle.tran_log.proofs.Walks.{record_long}
 use Rattle.commit_check.specs.Conflicts.{merged_objects}
 use Rattle.gem_meaning.specs.Events.{Told, standing}
@@ -77,10 +78,10 @@ nodes_bound t now image number done merged objects before after same image_is nu
     subst (λ (list : List (ℕ × Object)). after ≤ before + 8 * length list)
     (effect_made (standing now).image ((standing now).number + 1) done merged objects merged_is stamped_now) most
 
--- a record with the gate behind it is thirteen bytes longer than its effect
-pub body_length : (effect : Effect) (body : List ℕ) → length (spelled_effect effect) ≡ effect_size effect
-    → body ≡ spelled_record effect ++ 0 ∷ [] → length body ≡ log_record_size effect
-body_length effect body long is =
-    let whole = length-append (spelled_record effect) (0 ∷ []) in
-    let long_record = record_long effect in
+-- a record with the gate behind it is fourteen bytes longer than its effect
+pub body_length : (mode : Mode) (effect : Effect) (body : List ℕ) → length (spelled_effect effect) ≡ effect_size effect
+    → body ≡ spelled_record mode effect ++ 0 ∷ [] → length body ≡ log_record_size effect
+body_length mode effect body long is =
+    let whole = length-append (spelled_record mode effect) (0 ∷ []) in
+    let long_record = record_long (Format2 mode effect) in
     ap length is ∙ omega (arith, whole, long_record, long)

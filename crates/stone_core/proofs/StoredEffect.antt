@@ -85,9 +85,10 @@ pub next_body : (t : Told) (image : Image) (number : ℕ) (done : TxnRecord) (ef
     → number ≡ (standing t).number → number + 1 < 2 ^ 63
     → effect.number ≡ number + 1 → effect.objects ≡ effect_at image (number + 1) done → 0 < length effect.objects
     → IsImage (with_objects image (effect_at image (number + 1) done))
-    → body ≡ spelled_record effect ++ 0 ∷ [] → length body ≡ log_record_size effect
+    → body ≡ spelled_record done.mode effect ++ 0 ∷ [] → length body ≡ log_record_size effect
     → IsNextBody (standing t).number effect body
 next_body t image number done effect body number_is small effect_number objects_are some is body_is size = record {
+  mode = done.mode;
   body_is = body_is;
   small = omega (arith, number_is, small);
   stored = λ short.

@@ -14,7 +14,7 @@ use body_codec::laws::length_is_size;
 use body_codec::write_effect;
 use gem_image::Image;
 use gem_object::{Body, Object, Oid};
-use gem_record::{ByName, Effect, TxnRecord};
+use gem_record::{ByName, Effect, Mode, TxnRecord};
 use kept_set::kept;
 use radix_pages::Steps;
 use std::alloc::{AllocError, Global};
@@ -70,13 +70,14 @@ pub(crate) fn next_image<L: Ledger>(
     image.with_all(alloc, effect.objects.into_entries(), steps)
 }
 
-/// The bytes of the effect's record in the log, with the gate behind it.
+/// The bytes of the record in the log of the effect, in this mode, with the gate behind it.
 ///
 /// # Errors
 ///
 /// `AllocError` where memory ran out, or where the effect has no object: then it has no record.
-pub(crate) fn body_of(alloc: Global, effect: &Effect) -> Result<Vec<u8>, AllocError>
-    ensures body { IfOk result (λ body. body.items ≡ spelled_record effect.now ++ 0 ∷ []) }
+pub(crate) fn body_of(alloc: Global, mode: Mode, effect: &Effect) -> Result<Vec<u8>, AllocError>
+    ensures body { IfOk result (λ body.
+        body.items ≡ spelled_record mode effect.now ++ 0 ∷ []) }
     ensures size { IfOk result (λ body. length body.items ≡ log_record_size effect.now) }
     ensures some { IfOk result (λ _. 0 < length effect.now.objects) }
 {
@@ -85,7 +86,7 @@ pub(crate) fn body_of(alloc: Global, effect: &Effect) -> Result<Vec<u8>, AllocEr
         return Err(AllocError);
     }
     let spelled = write_effect(alloc, effect)?;
-    spell_body(alloc, effect.number, &spelled)
+    spell_body(alloc, effect.number, mode, &spelled)
 }
 
 /// Whether each of the merged objects can be stored: each has fewer than 2^32 pairs or items.

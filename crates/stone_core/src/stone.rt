@@ -425,7 +425,7 @@ impl<K: Keeper + Drop> Stone<K> {
             return Err(AllocError);
         }
         let effect = effect_of(alloc, number, done, merged)?;
-        let body = body_of(alloc, &effect)?;
+        let body = body_of(alloc, done.mode, &effect)?;
         let image = next_image(alloc, &self.image, effect, steps)?;
         self.history.reserve(1)?;
         self.events.reserve(self.locks.count() + 1)?;

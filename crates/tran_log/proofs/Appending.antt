@@ -1,16 +1,18 @@
--- What a crash leaves while a record is added.
-use Rattle.std.proofs.Common.{◌≡◌, ◌⊎◌, ℕ, ◌+◌, ◌≤◌, Bool, true, false, eqb, List, [], ◌∷◌, ◌++◌, length, take, drop, None, Ok, refl, sym, ap, ap₂, ◌∙◌, append_assoc, inl, inr, arith}
+-- What a crash leaves while records are added.
+use Rattle.std.proofs.Common.{◌≡◌, ◌≢◌, ◌⊎◌, ℕ, ◌+◌, ◌≤◌, Bool, true, false, eqb, List, [], ◌∷◌, ◌++◌, length, take, drop, None, Ok, refl, sym, ap, ap₂, ◌∙◌, subst, append_assoc, append-nil, inl, inr, arith}
 use Rattle.std.proofs.lemmas.Bool.{eqb-true}
 use Rattle.std.proofs.lemmas.Bool.Decides.{nat_tests}
 use Rattle.std.proofs.lemmas.List.{take_at, drop_at, drop-drop, take-append-drop, length-append, length-drop}
+use Rattle.gem_record.specs.declared.mode.Mode.{Mode}
 use Rattle.gem_record.specs.declared.effect.Effect.{Effect}
 use Rattle.gem_disk.specs.declared.disk.Which.TheVariants.{Log}
 use Rattle.gem_disk.specs.Disk.{Files, Past, reads, placed, Torn}
 use Rattle.gem_disk.specs.Runs.{LeavesOnly}
 use Rattle.gem_disk.proofs.Moments.{started, and_then, leaves_less}
-use Rattle.tran_log.specs.Log.{spelled_record, chain, AreRecords, log_of}
-use Rattle.tran_log.specs.Resting.{IsAtRest, HoldsEither, IsTornAt, IsWritten, MayAppend}
-use Rattle.tran_log.proofs.Walks.{chain_more, records_more}
+use Rattle.tran_log.specs.declared.logged.Logged.{Logged}
+use Rattle.tran_log.specs.Log.{LogRecord, Format2, spelled, chain, AreRecords, logged_from, last_number, written, log_of}
+use Rattle.tran_log.specs.Resting.{IsAtRest, HoldsEither, ReadsEither, IsTornAt, IsWritten, MayAppend, MayChain, added}
+use Rattle.tran_log.proofs.Walks.{chain_joined, logged_first, records_joined}
 use Rattle.tran_log.proofs.Again.{log_is}
 
 -- ---- torn writes
@@ -48,10 +50,23 @@ placed_behind front rest bytes at place =
 
 -- ---- the two writes
 
-module _ (past : Past) (end : ℕ) (body : List ℕ) (effects : List Effect) (effect : Effect)
-    (may : MayAppend past end body effects effect) where
+-- one record is a chain
+pub one_chain : (past : Past) (end : ℕ) (body : List ℕ) (logged : List Logged) (mode : Mode) (effect : Effect)
+    → MayAppend past end body logged mode effect → MayChain past end body logged ((mode, effect) ∷ [])
+one_chain past end body logged mode effect may = record {
+  at_rest = may.at_rest;
+  next = (may.next, tt);
+  bytes_are = ap (λ (l : List ℕ). 1 ∷ l) (may.body_is
+      ∙ ap (λ (l : List ℕ). l ++ (0 ∷ [])) (sym (append-nil (spelled (Format2 mode effect)))));
+}
+
+module _ (past : Past) (end : ℕ) (bytes : List ℕ) (logged : List Logged) (more : List (Mode × Effect))
+    (may : MayChain past end bytes logged more) where
+  abbrev records : List LogRecord
+  records = may.at_rest.ends.chained
+
   abbrev front : List ℕ
-  front = chain effects
+  front = chain records
 
   -- the front with the gate behind it
   abbrev gated : List ℕ
@@ -69,98 +84,127 @@ module _ (past : Past) (end : ℕ) (body : List ℕ) (effects : List Effect) (ef
   pub inside_first : end + 1 ≤ length (reads past Log)
   inside_first = omega (arith, place_next, ap length file_is, length-append gated may.at_rest.ends.behind)
 
-  holds_before : (c rest : List ℕ) → c ≡ front ++ (may.at_rest.ends.gate ∷ rest) → log_of c ≡ Ok effects
-  holds_before c rest is = ap log_of is ∙ log_is effects may.at_rest.ends.gate rest may.at_rest.ends.records may.at_rest.ends.closed
+  holds_before : (c rest : List ℕ) (gate : ℕ) → c ≡ front ++ (gate ∷ rest) → gate ≢ 1 → log_of c ≡ Ok logged
+  holds_before c rest gate is closed = ap log_of is ∙ log_is records gate rest may.at_rest.ends.records closed
+      ∙ ap (λ (l : List Logged). Ok l) (sym may.at_rest.ends.logged_is)
 
   -- before it
-  pub nothing_added : LeavesOnly past past (HoldsEither past effects effect)
-  nothing_added = started past (HoldsEither past effects effect) (λ images now. inl (record {
-    log = holds_before images.log may.at_rest.ends.behind (may.at_rest.durable images.log now.log ∙ may.at_rest.ends.file);
+  nothing_reads : (c : List ℕ) → c ≡ reads past Log → log_of c ≡ Ok logged
+  nothing_reads c is = holds_before c may.at_rest.ends.behind may.at_rest.ends.gate (is ∙ may.at_rest.ends.file) may.at_rest.ends.closed
+
+  pub nothing_added : LeavesOnly past past (HoldsEither past logged (added end more))
+  nothing_added = started past (HoldsEither past logged (added end more)) (λ images now. inl (record {
+    log = nothing_reads images.log (may.at_rest.durable images.log now.log);
     extent = now.extent;
   }))
 
+  pub reads_nothing : ReadsEither past logged (added end more)
+  reads_nothing = inl (nothing_reads (reads past Log) refl)
+
   -- during the first write
-  pub either_first : (images : Files) → IsTornAt past (end + 1) (length body) images → HoldsEither past effects effect images
-  either_first images torn =
-      let is = torn_front (end + 1) (length body) gated may.at_rest.ends.behind (reads past Log) images.log file_is place_next torn.log in
-      inl (record {
-        log = holds_before images.log (drop (end + 1) images.log) (is ∙ append_assoc front (may.at_rest.ends.gate ∷ []) (drop (end + 1) images.log));
-        extent = torn.extent;
-      })
+  torn_before : (c : List ℕ) → Torn (end + 1) (length bytes) (reads past Log) c → log_of c ≡ Ok logged
+  torn_before c torn =
+      let is = torn_front (end + 1) (length bytes) gated may.at_rest.ends.behind (reads past Log) c file_is place_next torn in
+      holds_before c (drop (end + 1) c) may.at_rest.ends.gate (is ∙ append_assoc front (may.at_rest.ends.gate ∷ []) (drop (end + 1) c))
+      may.at_rest.ends.closed
 
-  module _ (mid : Past) (first : IsWritten (end + 1) body past mid) where
-    -- what stands behind the body
+  either_first : (images : Files) → IsTornAt past (end + 1) (length bytes) images → HoldsEither past logged (added end more) images
+  either_first images torn = inl (record { log = torn_before images.log torn.log; extent = torn.extent })
+
+  pub first_write : (new : Past) → LeavesOnly past new (IsTornAt past (end + 1) (length bytes))
+      → LeavesOnly past new (HoldsEither past logged (added end more))
+  first_write new run =
+      leaves_less past new (IsTornAt past (end + 1) (length bytes)) (HoldsEither past logged (added end more)) either_first run
+
+  pub reads_first : (new : Past) → Torn (end + 1) (length bytes) (reads past Log) (reads new Log)
+      → ReadsEither new logged (added end more)
+  reads_first new torn = inl (torn_before (reads new Log) torn)
+
+  module _ (mid : Past) (first : IsWritten (end + 1) bytes past mid) where
+    -- what stands behind the records
     abbrev tail : List ℕ
-    tail = drop (length body) may.at_rest.ends.behind
+    tail = drop (length bytes) may.at_rest.ends.behind
 
-    mid_is : reads mid Log ≡ front ++ (may.at_rest.ends.gate ∷ (body ++ tail))
-    mid_is = first.log ∙ ap (placed (end + 1) body) file_is
-        ∙ placed_behind gated may.at_rest.ends.behind body (end + 1) place_next
-        ∙ append_assoc front (may.at_rest.ends.gate ∷ []) (body ++ tail)
+    mid_is : reads mid Log ≡ front ++ (may.at_rest.ends.gate ∷ (bytes ++ tail))
+    mid_is = first.log ∙ ap (placed (end + 1) bytes) file_is
+        ∙ placed_behind gated may.at_rest.ends.behind bytes (end + 1) place_next
+        ∙ append_assoc front (may.at_rest.ends.gate ∷ []) (bytes ++ tail)
 
     pub inside_last : end ≤ length (reads mid Log)
-    inside_last = omega (arith, place, ap length mid_is, length-append front (may.at_rest.ends.gate ∷ (body ++ tail)))
+    inside_last = omega (arith, place, ap length mid_is, length-append front (may.at_rest.ends.gate ∷ (bytes ++ tail)))
 
-    opened_is : front ++ (1 ∷ (body ++ tail)) ≡ chain (effects ++ effect ∷ []) ++ (0 ∷ tail)
+    abbrev all : List LogRecord
+    all = records ++ written more
+
+    opened_is : front ++ (1 ∷ (bytes ++ tail)) ≡ chain all ++ (0 ∷ tail)
     opened_is =
-        let record_first : body ++ tail ≡ spelled_record effect ++ (0 ∷ tail) =
-        ap (λ (l : List ℕ). l ++ tail) may.body_is ∙ append_assoc (spelled_record effect) (0 ∷ []) tail in
-        ap (λ (l : List ℕ). front ++ (1 ∷ l)) record_first
-        ∙ sym (append_assoc front (1 ∷ spelled_record effect) (0 ∷ tail))
-        ∙ ap (λ (l : List ℕ). l ++ (0 ∷ tail)) (sym (chain_more effects effect))
+        ap (λ (l : List ℕ). front ++ (l ++ tail)) may.bytes_are
+        ∙ ap (λ (l : List ℕ). front ++ l) (append_assoc (chain (written more)) (0 ∷ []) tail)
+        ∙ sym (append_assoc front (chain (written more)) (0 ∷ tail))
+        ∙ ap (λ (l : List ℕ). l ++ (0 ∷ tail)) (sym (chain_joined records (written more)))
 
-    records_next : AreRecords None (effects ++ effect ∷ [])
-    records_next = records_more None effects effect may.at_rest.ends.records may.next
+    records_next : AreRecords None all
+    records_next = records_joined None 0 records (written more) may.at_rest.ends.records
+        (subst (λ (l : List Logged). AreRecords (last_number None l) (written more)) may.at_rest.ends.logged_is may.next)
 
-    holds_after : (c : List ℕ) → c ≡ front ++ (1 ∷ (body ++ tail)) → log_of c ≡ Ok (effects ++ effect ∷ [])
-    holds_after c is = ap log_of (is ∙ opened_is) ∙ log_is (effects ++ effect ∷ []) 0 tail records_next (λ e. absurd (omega (arith, e)))
+    logged_next : logged ++ added end more ≡ logged_from 0 all
+    logged_next = ap₂ (λ (l : List Logged) (n : ℕ). l ++ logged_from n (written more)) may.at_rest.ends.logged_is place
+        ∙ sym (logged_first records (written more))
 
-    by_byte : (c : List ℕ) (b : ℕ) → c ≡ front ++ (b ∷ (body ++ tail))
-        → (log_of c ≡ Ok effects) ⊎ (log_of c ≡ Ok (effects ++ effect ∷ []))
+    holds_after : (c : List ℕ) → c ≡ front ++ (1 ∷ (bytes ++ tail)) → log_of c ≡ Ok (logged ++ added end more)
+    holds_after c is = ap log_of (is ∙ opened_is) ∙ log_is all 0 tail records_next (λ e. absurd (omega (arith, e)))
+        ∙ ap (λ (l : List Logged). Ok l) (sym logged_next)
+
+    by_byte : (c : List ℕ) (b : ℕ) → c ≡ front ++ (b ∷ (bytes ++ tail))
+        → (log_of c ≡ Ok logged) ⊎ (log_of c ≡ Ok (logged ++ added end more))
     by_byte c b is = by (eqb b 1) refl where
-      by : (open_gate : Bool) → eqb b 1 ≡ open_gate → (log_of c ≡ Ok effects) ⊎ (log_of c ≡ Ok (effects ++ effect ∷ []))
-      by true e = inr (holds_after c (is ∙ ap (λ (n : ℕ). front ++ (n ∷ (body ++ tail))) (eqb-true _ _ e)))
-      by false e = inl (ap log_of is ∙ log_is effects b (body ++ tail) may.at_rest.ends.records (grind (arith, nat_tests, e)))
+      by : (open_gate : Bool) → eqb b 1 ≡ open_gate → (log_of c ≡ Ok logged) ⊎ (log_of c ≡ Ok (logged ++ added end more))
+      by true e = inr (holds_after c (is ∙ ap (λ (n : ℕ). front ++ (n ∷ (bytes ++ tail))) (eqb-true _ _ e)))
+      by false e = inl (holds_before c (bytes ++ tail) b is (grind (arith, nat_tests, e)))
 
     -- during the second
-    pub either_last : (images : Files) → IsTornAt mid end 1 images → HoldsEither past effects effect images
+    torn_last : (c : List ℕ) → Torn end 1 (reads mid Log) c → (log_of c ≡ Ok logged) ⊎ (log_of c ≡ Ok (logged ++ added end more))
+    torn_last c torn =
+        let byte = torn_byte end front may.at_rest.ends.gate (bytes ++ tail) (reads mid Log) c mid_is place torn in
+        by_byte c byte.0 byte.1
+
+    either_last : (images : Files) → IsTornAt mid end 1 images → HoldsEither past logged (added end more) images
     either_last images torn =
         let extent = first.extent images.extent torn.extent in
-        let byte = torn_byte end front may.at_rest.ends.gate (body ++ tail) (reads mid Log) images.log mid_is place torn.log in
-        elim (by_byte images.log byte.0 byte.1) [
+        elim (torn_last images.log torn.log) [
           | inl log ↦ inl (record { log = log; extent = extent })
           | inr log ↦ inr (record { log = log; extent = extent })
         ]
 
-    last_is : placed end (1 ∷ []) (reads mid Log) ≡ front ++ (1 ∷ (body ++ tail))
-    last_is = ap (placed end (1 ∷ [])) mid_is ∙ placed_behind front (may.at_rest.ends.gate ∷ (body ++ tail)) (1 ∷ []) end place
+    last_is : placed end (1 ∷ []) (reads mid Log) ≡ front ++ (1 ∷ (bytes ++ tail))
+    last_is = ap (placed end (1 ∷ [])) mid_is ∙ placed_behind front (may.at_rest.ends.gate ∷ (bytes ++ tail)) (1 ∷ []) end place
 
-    pub rests_again : (new : Past) → IsWritten end (1 ∷ []) mid new → IsAtRest new (effects ++ effect ∷ []) (end + length body)
+    pub reads_last : (new : Past) → Torn end 1 (reads mid Log) (reads new Log) → ReadsEither new logged (added end more)
+    reads_last new torn = torn_last (reads new Log) torn
+
+    pub rests_again : (new : Past) → IsWritten end (1 ∷ []) mid new → IsAtRest new (logged ++ added end more) (end + length bytes)
     rests_again new last = record {
       ends = record {
+        chained = all;
         gate = 0;
         behind = tail;
         file = last.log ∙ last_is ∙ opened_is;
         closed = λ e. absurd (omega (arith, e));
         records = records_next;
+        logged_is = logged_next;
         end_is = omega (
           arith,
           place,
-          ap length (chain_more effects effect),
-          length-append front (1 ∷ spelled_record effect),
-          ap length may.body_is,
-          length-append (spelled_record effect) (0 ∷ []),
+          ap length (chain_joined records (written more)),
+          length-append front (chain (written more)),
+          ap length may.bytes_are,
+          length-append (chain (written more)) (0 ∷ []),
         );
       };
       durable = last.durable;
     }
 
-    pub both_writes : (new : Past) → LeavesOnly past mid (IsTornAt past (end + 1) (length body)) → LeavesOnly mid new (IsTornAt mid end 1)
-        → LeavesOnly past new (HoldsEither past effects effect)
-    both_writes new run more = and_then past mid new (HoldsEither past effects effect)
-        (leaves_less past mid (IsTornAt past (end + 1) (length body)) (HoldsEither past effects effect) either_first run)
-        (leaves_less mid new (IsTornAt mid end 1) (HoldsEither past effects effect) either_last more)
-
-  pub first_write : (new : Past) → LeavesOnly past new (IsTornAt past (end + 1) (length body))
-      → LeavesOnly past new (HoldsEither past effects effect)
-  first_write new run = leaves_less past new (IsTornAt past (end + 1) (length body)) (HoldsEither past effects effect) either_first run
+    pub both_writes : (new : Past) → LeavesOnly past mid (IsTornAt past (end + 1) (length bytes)) → LeavesOnly mid new (IsTornAt mid end 1)
+        → LeavesOnly past new (HoldsEither past logged (added end more))
+    both_writes new run last = and_then past mid new (HoldsEither past logged (added end more)) (first_write mid run)
+        (leaves_less mid new (IsTornAt mid end 1) (HoldsEither past logged (added end more)) either_last last)

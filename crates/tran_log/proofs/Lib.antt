@@ -5,3 +5,5 @@ pub mod Opening
 pub mod Appending
 pub mod Restarting
 pub mod Places
+pub mod OldLogs
+pub mod Bodies

@@ -1,15 +1,16 @@
 -- What a crash leaves while a log is opened.
-use Rattle.std.proofs.Common.{◌≡◌, ℕ, ◌≤◌, List, [], ◌∷◌, ◌++◌, length, drop, Ok, Err, None, Result, sym, ap, subst, ◌∙◌, inl, inr, refl, arith}
-use Rattle.gem_record.specs.declared.effect.Effect.{Effect}
+use Rattle.std.proofs.Common.{◌≡◌, ℕ, ◌≤◌, List, [], ◌∷◌, length, drop, Ok, Err, Result, sym, ap, subst, ◌∙◌, inl, inr, refl, arith}
 use Rattle.gem_disk.specs.declared.disk.Which.TheVariants.{Log}
-use Rattle.gem_disk.specs.Disk.{Files, Synced, Past, reads, stepped, Torn}
+use Rattle.gem_disk.specs.Disk.{Files, Synced, Past, reads, as_read, stepped, CrashImages, Torn}
 use Rattle.gem_disk.specs.Runs.{LeavesOnly}
 use Rattle.gem_disk.proofs.Moments.{started, goes_on, and_then, leaves_less}
+use Rattle.gem_disk.proofs.Leaves.{reads_on}
 use Rattle.tran_log.specs.declared.fault.LogFault.{LogFault}
 use Rattle.tran_log.specs.declared.fault.LogFault.TheVariants.{Disk}
-use Rattle.tran_log.specs.Log.{chain, AreRecords, log_of}
+use Rattle.tran_log.specs.declared.logged.Logged.{Logged}
+use Rattle.tran_log.specs.Log.{log_of}
 use Rattle.tran_log.specs.Reads.{EndsAt}
-use Rattle.tran_log.specs.Resting.{IsDurable, IsAtRest, Holds, IsOldOrRead, AllHold, IsTornAt, IsWritten}
+use Rattle.tran_log.specs.Resting.{StaysHonest, IsDurable, IsAtRest, Holds, IsOldOrRead, AllHold, IsTornAt, IsWritten}
 use Rattle.tran_log.proofs.Again.{small_log}
 
 abbrev failed : {X : Type 0} → LogFault → Result X LogFault
@@ -25,19 +26,21 @@ synced past = stepped past Log Synced (reads past Log)
 pub sync_durable : (past : Past) → IsDurable (synced past)
 sync_durable past image is = is
 
-pub rests : (past : Past) (effects : List Effect) (end : ℕ) → EndsAt (reads past Log) effects end → IsAtRest (synced past) effects end
-rests past effects end ends = record { ends = ends; durable = sync_durable past }
+pub rests : (past : Past) (logged : List Logged) (end : ℕ) → EndsAt (reads past Log) logged end → IsAtRest (synced past) logged end
+rests past logged end ends = record { ends = ends; durable = sync_durable past }
 
-pub rests_empty : (past new : Past) (effects : List Effect) (end : ℕ) → effects ≡ [] → end ≡ 0
-    → IsWritten 0 (0 ∷ []) past new → IsAtRest new effects end
-rests_empty past new effects end none zero written = record {
+pub rests_empty : (past new : Past) (logged : List Logged) (end : ℕ) → logged ≡ [] → end ≡ 0
+    → IsWritten 0 (0 ∷ []) past new → IsAtRest new logged end
+rests_empty past new logged end none zero written = record {
   ends = record {
+    chained = [];
     gate = 0;
     behind = drop 1 (reads past Log);
-    file = written.log ∙ ap (λ (l : List Effect). chain l ++ (0 ∷ drop 1 (reads past Log))) (sym none);
+    file = written.log;
     closed = λ e. absurd (omega (arith, e));
-    records = subst (λ (l : List Effect). AreRecords None l) (sym none) tt;
-    end_is = zero ∙ ap (λ (l : List Effect). length (chain l)) (sym none);
+    records = tt;
+    logged_is = none;
+    end_is = zero;
   };
   durable = written.durable;
 }
@@ -64,14 +67,14 @@ module _ (past : Past) where
     while_closed new run = and_then past (synced past) new (IsOldOrRead past) after_sync
         (leaves_less (synced past) new (IsTornAt (synced past) 0 1) (IsOldOrRead past) torn_reads run)
 
--- where all crashes leave the effects that are read
-module _ (past : Past) (effects : List Effect) (read : log_of (reads past Log) ≡ Ok effects) (all : AllHold past effects) where
-  old_or_read : (images : Files) → IsOldOrRead past images → Holds past effects images
+-- where all crashes leave the records that are read
+module _ (past : Past) (logged : List Logged) (read : log_of (reads past Log) ≡ Ok logged) (all : AllHold past logged) where
+  old_or_read : (images : Files) → IsOldOrRead past images → Holds past logged images
   old_or_read images (inl now) = record { log = all images now; extent = now.extent }
   old_or_read images (inr so) = record { log = so.log ∙ read; extent = so.extent }
 
-  pub all_held : (new : Past) → LeavesOnly past new (IsOldOrRead past) → LeavesOnly past new (Holds past effects)
-  all_held new run = leaves_less past new (IsOldOrRead past) (Holds past effects) old_or_read run
+  pub all_held : (new : Past) → LeavesOnly past new (IsOldOrRead past) → LeavesOnly past new (Holds past logged)
+  all_held new run = leaves_less past new (IsOldOrRead past) (Holds past logged) old_or_read run
 
 -- what the log reads as in the end
 module _ (past new : Past) where
@@ -92,3 +95,12 @@ pub one_gate : (past mid new : Past) → mid ≡ synced past → length (reads p
 one_gate past mid new same small written = written.log
     ∙ ap (λ (p : Past). 0 ∷ drop 1 (reads p Log)) same
     ∙ ap (λ (l : List ℕ). 0 ∷ l) (none_behind (reads past Log) small)
+
+-- ---- a disk as it reads
+
+pub honest_same : (old new : Past) → new ≡ old → StaysHonest old new
+honest_same old new same honest = subst (λ (p : Past). CrashImages p (as_read p)) (sym same) honest
+
+pub honest_after : (old new : Past) → new ≡ synced old → StaysHonest old new
+honest_after old new same honest =
+    honest_same (synced old) new same (reads_on old Log Synced (reads old Log) honest refl)

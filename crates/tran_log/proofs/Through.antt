@@ -1,5 +1,5 @@
 -- What a crash leaves of a log during a write that is brought to the disk.
-use Rattle.std.proofs.Common.{◌≡◌, ◌⊎◌, ℕ, ◌≤◌, List, length, Result, Ok, Err, OnOk, refl, sym, ap, subst, ◌∙◌, inl, inr, arith}
+use Rattle.std.proofs.Common.{◌≡◌, ◌⊎◌, ℕ, ◌≤◌, List, length, Result, Ok, Err, OnOk, refl, sym, ap, subst, ◌∙◌, inl, inr}
 use Rattle.gem_disk.specs.declared.disk.Which.TheVariants.{Extent, Log}
 use Rattle.gem_disk.specs.Disk.{Files, Wrote, Synced, Past, reads, stepped, placed, Torn, FileImages, Syncs}
 use Rattle.gem_disk.specs.Runs.{LeavesOnly}

@@ -2,7 +2,7 @@
 use Rattle.std.specs.Prelude.{ℕ, List, ◌++◌, codes}
 use Rattle.std.specs.Fmt.{decimal}
 use Rattle.tran_log.specs.declared.fault.LogRule.{LogRule}
-use Rattle.tran_log.specs.declared.fault.LogRule.TheVariants.{Length, Number, Effect, Gate}
+use Rattle.tran_log.specs.declared.fault.LogRule.TheVariants.{Length, Number, Effect, Gate, Mode}
 use Rattle.tran_log.specs.declared.fault.LogFault.{LogFault}
 use Rattle.tran_log.specs.declared.fault.LogFault.TheVariants as faults
 use Rattle.tran_log.specs.declared.log.AppendFault.{AppendFault}
@@ -14,6 +14,7 @@ rule_number Length = 1
 rule_number Number = 2
 rule_number Effect = 3
 rule_number Gate = 4
+rule_number Mode = 5
 
 -- the place of a log's first fault, and its rule
 abbrev pub fault_text : LogFault → List ℕ

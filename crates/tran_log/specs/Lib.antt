@@ -2,3 +2,4 @@ pub mod Log
 pub mod Resting
 pub mod Reads
 pub mod FaultText
+pub mod OldLog

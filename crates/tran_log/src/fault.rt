@@ -7,7 +7,8 @@ use std::alloc::{AllocError, AllocFailed};
 use std::error::Error;
 use std::fmt;
 
-/// What a log must keep. The order is that of the numbers, from 1 to 4.
+/// What a log must keep. The numbers are from 1 to 5; of a record's rules L5 is tried between L2 and
+/// L3.
 #[derive(Clone, Copy, Debug, PartialEq, Eq)]
 pub enum LogRule {
     /// L1: a record behind an open gate ends within the log.
@@ -18,12 +19,14 @@ pub enum LogRule {
     Effect = 3,
     /// L4: a byte stands where a gate is due.
     Gate = 4,
+    /// L5: a record of format 2 has a mode, whose byte is 0 or 1.
+    Mode = 5,
 }
 
 impl LogRule {
     ghost use Rattle.tran_log.specs.FaultText.{rule_number};
 
-    /// The number, from 1 to 4.
+    /// The number, from 1 to 5.
     pub fn number(self) -> u8
         ensures { result ≡ rule_number self }
     {

@@ -6,9 +6,11 @@ mod body;
 mod fault;
 pub mod laws;
 mod log;
+mod logged;
 mod read;
 mod writing;
 
-pub use body::spell_body;
+pub use body::{add_body, spell_body};
 pub use fault::{LogFault, LogRule};
 pub use log::{AppendFault, LOG_LIMIT, Log, open_log};
+pub use logged::Logged;

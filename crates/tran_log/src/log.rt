@@ -1,21 +1,23 @@
 //! A log on a disk, and how it is opened.
 ghost use Rattle.std.specs.Prelude.{◌≡◌, ◌↔◌, ◌⊎◌, ◌+◌, ◌<◌, ◌≤◌, ℕ, List, [], ◌∷◌, ◌++◌, length, Ok, Err, IsTrue, IfOk, OnOk, OnErr, IsErrOf};
 ghost use Rattle.gem_io.specs.Faults.{HasRisen, HasCause};
+ghost use Rattle.gem_record.specs.declared.mode.Mode.{Mode};
 ghost use Rattle.gem_record.specs.declared.effect.Effect.{Effect};
 ghost use Rattle.gem_disk.specs.declared.disk.Which.TheVariants as which;
-ghost use Rattle.gem_disk.specs.Disk.{Files, Past, reads, CrashImages};
+ghost use Rattle.gem_disk.specs.Disk.{reads};
 ghost use Rattle.gem_disk.specs.Runs.{LeavesOnly};
 ghost use Rattle.tran_log.specs.declared.fault.LogRule.{LogRule};
-ghost use Rattle.tran_log.specs.Log.{log_of};
-ghost use Rattle.tran_log.specs.Reads.{GivesLog, EndsAt};
-ghost use Rattle.tran_log.specs.Resting.{SameExtent, IsAtRest, Holds, IsOldOrRead, AllHold, MayAppend, HoldsEither, HoldsOrNone};
+ghost use Rattle.tran_log.specs.declared.logged.Logged.{Logged};
+ghost use Rattle.tran_log.specs.Log.{log_of, logged_as};
+ghost use Rattle.tran_log.specs.Reads.{GivesLog};
+ghost use Rattle.tran_log.specs.Resting.{SameExtent, StaysHonest, IsAtRest, Holds, IsOldOrRead, AllHold, MayAppend, MayChain, added, HoldsEither, ReadsEither, HoldsOrNone, ReadsOrNone};
 
 use crate::fault::LogFault;
+use crate::logged::Logged;
 use crate::read::read_log;
 use crate::writing::write_through;
 use gem_disk::{Disk, Which};
 use gem_io::Failed;
-use gem_record::Effect;
 use std::alloc::Global;
 use std::error::Error;
 use std::fmt;
@@ -46,6 +48,7 @@ fn read_all<D: Disk>(alloc: Global, disk: &mut D) -> Result<Vec<u8>, LogFault>
     ensures past { IsTrue D.tells → D.past disk.new ≡ D.past disk.old }
     ensures rule { (at : ℕ) (rule : LogRule) → result ≡ Err (LogFault.NotLog at rule) → ⊥ }
     ensures failed { IsErrOf result LogFault.Disk → HasRisen (D.faults disk.old) (D.faults disk.new) }
+    ensures quiet { OnOk result (D.faults disk.new ≡ D.faults disk.old) }
     ensures later { D.faults disk.old ≤ D.faults disk.new }
 {
     let size = disk.length(Which::Log)?;
@@ -59,7 +62,7 @@ const CLOSED: &[u8] = &[0];
 
 const OPEN: &[u8] = &[1];
 
-/// Opens the log of a disk: gives the effects of its records, in their order. It begins with a
+/// Opens the log of a disk: gives its records, in their order, of either format. It begins with a
 /// sync, and brings a log of one byte at most to the state of one without records. A longer log
 /// reads as before, whatever the answer is.
 ///
@@ -68,15 +71,15 @@ const OPEN: &[u8] = &[1];
 ///
 /// `NotLog`: the bytes are no log; the place and the rule are those of its first fault. `Disk`: the
 /// count of faults rose in this call. `NoMemory` may come in place of any answer.
-pub fn open_log<D: Disk>(alloc: Global, disk: &mut D) -> Result<(Log, Vec<Effect>), LogFault>
+pub fn open_log<D: Disk>(alloc: Global, disk: &mut D) -> Result<(Log, Vec<Logged>), LogFault>
     ensures records { IsTrue D.tells → GivesLog (λ x. x.1.items)
         (log_of (reads (D.past disk.old) which.Log)) result }
     ensures at_rest { IsTrue D.tells → IfOk result (λ x.
         IsAtRest (D.past disk.new) x.1.items x.0) }
-    ensures any_moment { (effects : List Effect) → IsTrue D.tells
-        → log_of (reads (D.past disk.old) which.Log) ≡ Ok effects
-        → AllHold (D.past disk.old) effects
-        → LeavesOnly (D.past disk.old) (D.past disk.new) (Holds (D.past disk.old) effects) }
+    ensures any_moment { (logged : List Logged) → IsTrue D.tells
+        → log_of (reads (D.past disk.old) which.Log) ≡ Ok logged
+        → AllHold (D.past disk.old) logged
+        → LeavesOnly (D.past disk.old) (D.past disk.new) (Holds (D.past disk.old) logged) }
     ensures each_image { IsTrue D.tells → LeavesOnly (D.past disk.old) (D.past disk.new)
         (IsOldOrRead (D.past disk.old)) }
     ensures kept { IsTrue D.tells → 1 < length (reads (D.past disk.old) which.Log)
@@ -86,18 +89,20 @@ pub fn open_log<D: Disk>(alloc: Global, disk: &mut D) -> Result<(Log, Vec<Effect
     ensures closed { IsTrue D.tells → length (reads (D.past disk.old) which.Log) ≤ 1
         → OnOk result (reads (D.past disk.new) which.Log ≡ 0 ∷ []) }
     ensures extent { IsTrue D.tells → SameExtent (D.past disk.old) (D.past disk.new) }
+    ensures honest { IsTrue D.tells → StaysHonest (D.past disk.old) (D.past disk.new) }
     ensures failed { IsErrOf result LogFault.Disk
         → HasRisen (D.faults disk.old) (D.faults disk.new) }
+    ensures quiet { OnOk result (D.faults disk.new ≡ D.faults disk.old) }
     ensures later { D.faults disk.old ≤ D.faults disk.new }
 {
     disk.sync(Which::Log)?;
     let bytes = read_all(alloc, disk)?;
-    let (effects, end) = read_log(alloc, &bytes)?;
+    let (logged, end) = read_log(alloc, &bytes)?;
     if bytes.len() > 1 {
-        return Ok((Log { end }, effects));
+        return Ok((Log { end }, logged));
     }
     write_through(disk, 0, CLOSED)?;
-    Ok((Log { end }, effects))
+    Ok((Log { end }, logged))
 }
 
 /// The greatest length of a log: that of its records and of the gate behind them.
@@ -146,26 +151,44 @@ impl From<Failed> for AppendFault {
 }
 
 impl Log {
+    /// How long the log is: the offset of the gate at which it ends, and one more.
+    pub fn length(&self) -> u64
+        ensures { result ≡ self.now + 1 }
+    {
+        self.end as u64 + 1
+    }
+
     /// Adds the record of this body, which `spell_body` gives for the next number; a body that is
     /// too long for any log may be of anything. It takes no memory, and makes four calls of the
     /// disk where none fails (no clause counts them).
+    ///
+    /// A crash meanwhile leaves the records that were there, or these and the new one, and so does
+    /// a failure in what the log reads as.
     ///
     /// `Full`: exactly where the log's length and the body's exceed `LOG_LIMIT`; no call was made.
     /// `Disk`: the count of faults rose in this call; the log is opened anew before it is used, since
     /// its end is where it was, and the record may be in it.
     pub fn append<D: Disk>(&mut self, disk: &mut D, body: &[u8]) -> Result<(), AppendFault>
         requires { IsTrue D.tells → (LOG_LIMIT < self.old + 1 + length body.now)
-            ⊎ ((effects : List Effect) × (effect : Effect)
-            × MayAppend (D.past disk.old) self.old body.now effects effect) }
-        ensures any_moment { (effects : List Effect) (effect : Effect) → IsTrue D.tells
-            → MayAppend (D.past disk.old) self.old body.now effects effect
-            → LeavesOnly (D.past disk.old) (D.past disk.new)
-            (HoldsEither (D.past disk.old) effects effect) }
-        ensures acknowledged { (effects : List Effect) (effect : Effect) → IsTrue D.tells
-            → MayAppend (D.past disk.old) self.old body.now effects effect
-            → OnOk result (IsAtRest (D.past disk.new) (effects ++ effect ∷ []) self.new) }
+            ⊎ ((logged : List Logged) × (mode : Mode) × (effect : Effect)
+            × MayAppend (D.past disk.old) self.old body.now logged mode effect) }
+        ensures any_moment { (logged : List Logged) (mode : Mode) (effect : Effect)
+            → IsTrue D.tells
+            → MayAppend (D.past disk.old) self.old body.now logged mode effect
+            → LeavesOnly (D.past disk.old) (D.past disk.new) (HoldsEither (D.past disk.old) logged
+            (logged_as self.old mode effect ∷ [])) }
+        ensures acknowledged { (logged : List Logged) (mode : Mode) (effect : Effect)
+            → IsTrue D.tells
+            → MayAppend (D.past disk.old) self.old body.now logged mode effect
+            → OnOk result (IsAtRest (D.past disk.new)
+            (logged ++ logged_as self.old mode effect ∷ []) self.new) }
+        ensures reads { (logged : List Logged) (mode : Mode) (effect : Effect) → IsTrue D.tells
+            → MayAppend (D.past disk.old) self.old body.now logged mode effect
+            → ReadsEither (D.past disk.new) logged (logged_as self.old mode effect ∷ []) }
         ensures extent { IsTrue D.tells
             → SameExtent (D.past disk.old) (D.past disk.new) }
+        ensures honest { IsTrue D.tells
+            → StaysHonest (D.past disk.old) (D.past disk.new) }
         ensures full { (size : ℕ) (bytes : ℕ) → IsErrOf result (AppendFault.Full size bytes)
             ↔ ((LOG_LIMIT < self.old + 1 + length body.now) × (size ≡ self.old + 1)
             × (bytes ≡ length body.now)) }
@@ -175,16 +198,52 @@ impl Log {
         ensures kept { OnErr result (self.new ≡ self.old) }
         ensures failed { IsErrOf result AppendFault.Disk
             → HasRisen (D.faults disk.old) (D.faults disk.new) }
+        ensures quiet { OnOk result (D.faults disk.new ≡ D.faults disk.old) }
         ensures later { D.faults disk.old ≤ D.faults disk.new }
     {
-        let length = self.end as u64 + 1;
+        let length = self.length();
         let size = body.len() as u64;
         if length.saturating_add(size) > LOG_LIMIT {
             return Err(AppendFault::Full { length, size });
         }
-        write_through(disk, length, body)?;
+        self.append_chain(disk, body)?;
+        Ok(())
+    }
+
+    /// Adds one or more records at once: the bodies that `spell_body` gives for the next numbers,
+    /// one behind the other as `add_body` puts them. They fit into the log. It takes no memory, and
+    /// makes four calls of the disk where none fails (no clause counts them).
+    ///
+    /// A crash meanwhile leaves the records that were there, or these and all of the new ones, and
+    /// so does a failure in what the log reads as.
+    ///
+    /// `Failed` tells only that the count of faults rose in this call; the log is opened anew before
+    /// it is used, since its end is where it was, and the new records may be in it.
+    pub fn append_chain<D: Disk>(&mut self, disk: &mut D, chain: &[u8]) -> Result<(), Failed>
+        requires fits { self.old + 1 + length chain.now ≤ LOG_LIMIT }
+        requires bodies { IsTrue D.tells → (logged : List Logged) × (more : List (Mode × Effect))
+            × MayChain (D.past disk.old) self.old chain.now logged more }
+        ensures any_moment { (logged : List Logged) (more : List (Mode × Effect)) → IsTrue D.tells
+            → MayChain (D.past disk.old) self.old chain.now logged more
+            → LeavesOnly (D.past disk.old) (D.past disk.new)
+            (HoldsEither (D.past disk.old) logged (added self.old more)) }
+        ensures acknowledged { (logged : List Logged) (more : List (Mode × Effect))
+            → IsTrue D.tells → MayChain (D.past disk.old) self.old chain.now logged more
+            → OnOk result (IsAtRest (D.past disk.new) (logged ++ added self.old more) self.new) }
+        ensures reads { (logged : List Logged) (more : List (Mode × Effect)) → IsTrue D.tells
+            → MayChain (D.past disk.old) self.old chain.now logged more
+            → ReadsEither (D.past disk.new) logged (added self.old more) }
+        ensures extent { IsTrue D.tells
+            → SameExtent (D.past disk.old) (D.past disk.new) }
+        ensures honest { IsTrue D.tells
+            → StaysHonest (D.past disk.old) (D.past disk.new) }
+        ensures longer { OnOk result (self.new ≡ self.old + length chain.now) }
+        ensures kept { OnErr result (self.new ≡ self.old) }
+        ensures faults { HasCause (D.faults disk.old) (D.faults disk.new) result }
+    {
+        write_through(disk, self.end as u64 + 1, chain)?;
         write_through(disk, self.end as u64, OPEN)?;
-        self.end += body.len();
+        self.end += chain.len();
         Ok(())
     }
 
@@ -194,17 +253,22 @@ impl Log {
     /// `Failed` tells only that the count of faults rose in this call; the log is opened anew before
     /// it is used, since its end is where it was, and its records may be gone.
     pub fn restart_empty<D: Disk>(&mut self, disk: &mut D) -> Result<(), Failed>
-        requires { IsTrue D.tells → (effects : List Effect)
-            × IsAtRest (D.past disk.old) effects self.old }
-        ensures any_moment { (effects : List Effect) → IsTrue D.tells
-            → IsAtRest (D.past disk.old) effects self.old
+        requires { IsTrue D.tells → (logged : List Logged)
+            × IsAtRest (D.past disk.old) logged self.old }
+        ensures any_moment { (logged : List Logged) → IsTrue D.tells
+            → IsAtRest (D.past disk.old) logged self.old
             → LeavesOnly (D.past disk.old) (D.past disk.new)
-            (HoldsOrNone (D.past disk.old) effects) }
-        ensures emptied { (effects : List Effect) → IsTrue D.tells
-            → IsAtRest (D.past disk.old) effects self.old
+            (HoldsOrNone (D.past disk.old) logged) }
+        ensures emptied { (logged : List Logged) → IsTrue D.tells
+            → IsAtRest (D.past disk.old) logged self.old
             → OnOk result (IsAtRest (D.past disk.new) [] self.new) }
+        ensures reads { (logged : List Logged) → IsTrue D.tells
+            → IsAtRest (D.past disk.old) logged self.old
+            → ReadsOrNone (D.past disk.new) logged }
         ensures extent { IsTrue D.tells
             → SameExtent (D.past disk.old) (D.past disk.new) }
+        ensures honest { IsTrue D.tells
+            → StaysHonest (D.past disk.old) (D.past disk.new) }
         ensures untouched { self.old ≡ 0 → disk.new ≡ disk.old }
         ensures empty { OnOk result (self.new ≡ 0) }
         ensures kept { OnErr result (self.new ≡ self.old) }

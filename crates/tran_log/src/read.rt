@@ -3,12 +3,14 @@ ghost use Rattle.std.specs.Prelude.{◌≡◌, ◌≢◌, ◌<◌, ◌≤◌, �
 ghost use Rattle.gem_record.specs.declared.effect.Effect.{Effect};
 ghost use Rattle.body_codec.specs.Whole.{whole_effect};
 ghost use Rattle.tran_log.specs.declared.fault.LogRule.{LogRule};
-ghost use Rattle.tran_log.specs.Log.{follows, length_in, number_in, behind, whole, record_at, walk, log_of};
+ghost use Rattle.tran_log.specs.Log.{follows, word_in, number_in, behind, byte_mode, parts_of, whole, whole_parts, record_at, walk, log_of};
 ghost use Rattle.tran_log.specs.Reads.{GivesRecord, GivesNext, GivesLog, EndsAt};
 
+use crate::body::FORMAT_2;
 use crate::fault::{LogFault, LogRule, ReadError};
+use crate::logged::Logged;
 use body_codec::{BodyFault, read_effect};
-use gem_record::Effect;
+use gem_record::{Effect, Mode};
 use std::alloc::Global;
 
 // Whether a record may have this number behind one of the last number.
@@ -24,25 +26,13 @@ fn follows(last: Option<u64>, number: u64) -> bool
     }
 }
 
-// The effect that the bytes are, whole.
-fn read_whole(alloc: Global, number: u64, bytes: &[u8]) -> Result<Effect, ReadError>
-    ensures { GivesRecord (λ x. x) result (whole (whole_effect number bytes.now)) }
-{
-    match read_effect(alloc, bytes, number) {
-        Ok((effect, size)) if size == bytes.len() => Ok(effect),
-        Ok(_) => Err(ReadError::Rule(LogRule::Effect)),
-        Err(BodyFault::Bad { .. }) => Err(ReadError::Rule(LogRule::Effect)),
-        Err(BodyFault::NoMemory) => Err(ReadError::NoMemory),
-    }
-}
-
-// How long the effect of the record is that begins the bytes.
-fn length_in(bytes: &[u8]) -> usize
+// The length word of the record that begins the bytes.
+fn word_in(bytes: &[u8]) -> u32
     requires { 12 ≤ length bytes.now }
-    ensures { result ≡ length_in bytes.now }
+    ensures { result ≡ word_in bytes.now }
 {
     let (front, _) = bytes.split_at(4);
-    u32::from_le_bytes([front[0], front[1], front[2], front[3]]) as usize
+    u32::from_le_bytes([front[0], front[1], front[2], front[3]])
 }
 
 // Its number.
@@ -57,17 +47,82 @@ fn number_in(bytes: &[u8]) -> u64
     ])
 }
 
-// The effect of the record that begins the bytes, behind a record of this number, and what stands
-// behind it.
+// The mode that a byte stands for.
+fn byte_mode(byte: u8) -> Option<Mode>
+    ensures { result ≡ byte_mode byte }
+{
+    match byte {
+        0 => Some(Mode::Full),
+        1 => Some(Mode::NoRw),
+        _ => None,
+    }
+}
+
+// The mode and the bytes of the effect, in what stands behind the number of a record.
+fn parts_of(of_format_2: bool, content: &[u8]) -> Result<(Mode, &[u8]), ReadError>
+    ensures parts { IfOk result (λ x. parts_of of_format_2 content.now ≡ Some (x.0, x.1.now)) }
+    ensures rule { IfErr result (λ error. (error ≡ ReadError.Rule LogRule.Mode)
+        × (parts_of of_format_2 content.now ≡ None)) }
+{
+    if !of_format_2 {
+        return Ok((Mode::Full, content));
+    }
+    match content.split_first() {
+        Some((byte, effect)) => match byte_mode(*byte) {
+            Some(mode) => Ok((mode, effect)),
+            None => Err(ReadError::Rule(LogRule::Mode)),
+        },
+        None => Err(ReadError::Rule(LogRule::Mode)),
+    }
+}
+
+// The effect that the bytes are, whole, with its mode.
+fn read_whole(
+    alloc: Global,
+    mode: Mode,
+    number: u64,
+    bytes: &[u8],
+) -> Result<(Mode, Effect), ReadError>
+    ensures { GivesRecord (λ x. x) result (whole mode (whole_effect number bytes.now)) }
+{
+    match read_effect(alloc, bytes, number) {
+        Ok((effect, size)) if size == bytes.len() => Ok((mode, effect)),
+        Ok(_) => Err(ReadError::Rule(LogRule::Effect)),
+        Err(BodyFault::Bad { .. }) => Err(ReadError::Rule(LogRule::Effect)),
+        Err(BodyFault::NoMemory) => Err(ReadError::NoMemory),
+    }
+}
+
+// The mode and the effect of a record of this number and format, behind which these bytes stand.
+fn read_content(
+    alloc: Global,
+    number: u64,
+    of_format_2: bool,
+    content: &[u8],
+) -> Result<(Mode, Effect), ReadError>
+    ensures { GivesRecord (λ x. x) result
+        (whole_parts number (parts_of of_format_2 content.now)) }
+{
+    let (mode, effect) = parts_of(of_format_2, content)?;
+    read_whole(alloc, mode, number, effect)
+}
+
+// The mode and the effect of the record that begins the bytes, behind a record of this number, and
+// what stands behind it.
 #[tactic(auto, unfolding(crate::specs::Log::record_at))]
-fn read_record(alloc: Global, last: Option<u64>, bytes: &[u8]) -> Result<(Effect, &[u8]), ReadError>
+fn read_record(
+    alloc: Global,
+    last: Option<u64>,
+    bytes: &[u8],
+) -> Result<((Mode, Effect), &[u8]), ReadError>
     ensures gives { GivesRecord (λ x. x.0) result (record_at last bytes.now) }
     ensures behind { IfOk result (λ x. x.1.now ≡ behind bytes.now) }
 {
     if bytes.len() < 12 {
         return Err(ReadError::Rule(LogRule::Length));
     }
-    let size = length_in(bytes);
+    let word = word_in(bytes);
+    let size = (word % FORMAT_2) as usize;
     let (_, body) = bytes.split_at(12);
     if body.len() < size {
         return Err(ReadError::Rule(LogRule::Length));
@@ -76,44 +131,47 @@ fn read_record(alloc: Global, last: Option<u64>, bytes: &[u8]) -> Result<(Effect
     if !follows(last, number) {
         return Err(ReadError::Rule(LogRule::Number));
     }
-    let (effect, behind) = body.split_at(size);
-    Ok((read_whole(alloc, number, effect)?, behind))
+    let (content, behind) = body.split_at(size);
+    Ok((
+        read_content(alloc, number, word >= FORMAT_2, content)?,
+        behind,
+    ))
 }
 
-// The same, with faults at the offset of the record's gate.
+// The same as a record with its gate at this offset; faults are there, too.
 fn read_next<'a>(
     alloc: Global,
     at: u64,
     last: Option<u64>,
     bytes: &'a [u8],
-) -> Result<(Effect, &'a [u8]), LogFault>
+) -> Result<(Logged, &'a [u8]), LogFault>
     ensures gives { GivesNext at (record_at last bytes.now) result }
     ensures behind { IfOk result (λ x. x.1.now ≡ behind bytes.now) }
 {
     match read_record(alloc, last, bytes) {
-        Ok(read) => Ok(read),
+        Ok(((mode, effect), behind)) => Ok((Logged { at, mode, effect }, behind)),
         Err(ReadError::NoMemory) => Err(LogFault::NoMemory),
         Err(ReadError::Rule(rule)) => Err(LogFault::NotLog { at, rule }),
     }
 }
 
 // The records of these bytes, and the offset of the gate at which they end.
-fn read_chain(alloc: Global, bytes: &[u8]) -> Result<(Vec<Effect>, usize), LogFault>
+fn read_chain(alloc: Global, bytes: &[u8]) -> Result<(Vec<Logged>, usize), LogFault>
     ensures gives { GivesLog (λ x. x.0.items) (walk 0 0 None bytes.now) result }
     ensures no_disk { IfErr result (λ fault. fault ≢ LogFault.Disk) }
     ensures parts { IfOk result (λ x. EndsAt bytes.now x.0.items x.1) }
 {
-    let mut effects = Vec::new(alloc);
+    let mut logged = Vec::new(alloc);
     let mut last = None;
     let mut rest = bytes;
     while let Some((gate, behind)) = rest.split_first() {
         let at = bytes.len() - rest.len();
         if *gate != 1 {
-            return Ok((effects, at));
+            return Ok((logged, at));
         }
-        let (effect, after) = read_next(alloc, at as u64, last, behind)?;
-        last = Some(effect.number);
-        effects.push(effect)?;
+        let (one, after) = read_next(alloc, at as u64, last, behind)?;
+        last = Some(one.effect.number);
+        logged.push(one)?;
         rest = after;
     }
     Err(LogFault::NotLog {
@@ -124,7 +182,7 @@ fn read_chain(alloc: Global, bytes: &[u8]) -> Result<(Vec<Effect>, usize), LogFa
 
 // What the bytes of a log hold, and the offset of the gate at which it ends, where it has more than
 // one byte.
-pub(crate) fn read_log(alloc: Global, bytes: &[u8]) -> Result<(Vec<Effect>, usize), LogFault>
+pub(crate) fn read_log(alloc: Global, bytes: &[u8]) -> Result<(Vec<Logged>, usize), LogFault>
     ensures gives { GivesLog (λ x. x.0.items) (log_of bytes.now) result }
     ensures no_disk { IfErr result (λ fault. fault ≢ LogFault.Disk) }
     ensures empty { length bytes.now ≤ 1 → IfOk result (λ x. (x.0.items ≡ []) × (x.1 ≡ 0)) }

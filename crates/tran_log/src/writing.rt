@@ -4,7 +4,7 @@ ghost use Rattle.gem_io.specs.Faults.{HasCause};
 ghost use Rattle.gem_disk.specs.declared.disk.Which.TheVariants as which;
 ghost use Rattle.gem_disk.specs.Disk.{reads, Torn};
 ghost use Rattle.gem_disk.specs.Runs.{LeavesOnly};
-ghost use Rattle.tran_log.specs.Resting.{SameExtent, IsDurable, IsTornAt, IsWritten};
+ghost use Rattle.tran_log.specs.Resting.{SameExtent, StaysHonest, IsDurable, IsTornAt, IsWritten};
 
 use gem_disk::{Disk, Which};
 use gem_io::Failed;
@@ -20,6 +20,7 @@ pub(crate) fn write_through<D: Disk>(disk: &mut D, at: u64, bytes: &[u8]) -> Res
     ensures torn { IsTrue D.tells → Torn at (length bytes.now)
         (reads (D.past disk.old) which.Log) (reads (D.past disk.new) which.Log) }
     ensures extent { IsTrue D.tells → SameExtent (D.past disk.old) (D.past disk.new) }
+    ensures honest { IsTrue D.tells → StaysHonest (D.past disk.old) (D.past disk.new) }
     ensures faults { HasCause (D.faults disk.old) (D.faults disk.new) result }
 {
     disk.write_at(Which::Log, at, bytes)?;

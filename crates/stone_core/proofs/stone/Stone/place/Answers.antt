@@ -46,6 +46,10 @@ next_image-requires g c =
     (c.images_are_sound.ensures.image more (standing more).number stone.opening consistent.serial
     (number_at_least t.opened more.events) (le_refl (standing more).number)))
 
+pub append-requires-clause-spelled : goal.append-requires-clause-spelled
+append-requires-clause-spelled g c =
+    (c.args.done.now.mode, c.in_ok-effect.effect, c.deref.ensures.value ∙ c.in_ok-body.ensures.body)
+
 pub append-requires-clause-next : goal.append-requires-clause-next
 append-requires-clause-next g c =
     let inside = c.self.inside in
