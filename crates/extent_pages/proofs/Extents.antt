@@ -1,5 +1,8 @@
 -- Leaves and extents that are read part by part.
-use Rattle.std.proofs.Common.{◌≡◌, ℕ, ◌*◌, ◌≤◌, Bool, true, false, cond, List, [], ◌∷◌, ◌++◌, length, Some, None, Result, Ok, Err, refl, sym, ap, subst, ◌∙◌, append_assoc, append-nil, arith}
+use Rattle.std.proofs.Common.{◌≡◌, ℕ, ◌*◌, ◌<◌, ◌≤◌, ◌^◌, Bool, true, false, cond, List, [], ◌∷◌, ◌++◌, length, map, get_or, Some, None, Result, Ok, Err, refl, sym, ap, subst, ◌∙◌, append_assoc, append-nil, arith}
+use Rattle.std.specs.List.{AllByRecursion}
+use Rattle.std.specs.List.Sorted.{IsStrictlySortedBy}
+use Rattle.std.specs.Ordering.{nat_cmp}
 use Rattle.gem_disk.specs.declared.disk.Which.TheVariants as which
 use Rattle.gem_disk.specs.Disk.{Past, reads}
 use Rattle.gem_object.specs.declared.object.Object.{Object}
@@ -9,7 +12,8 @@ use Rattle.extent_pages.specs.declared.fault.PageFault.TheVariants.{NotPages, Di
 use Rattle.extent_pages.specs.declared.root.Root.{Root}
 use Rattle.extent_pages.specs.Pages.{page_size, most_pages, Book, pages_of, Chain, Fault, ◌andthen◌, chain_from}
 use Rattle.extent_pages.specs.Contents.{directory_of, leaf_of}
-use Rattle.extent_pages.specs.Extent.{Leaf, Extent, root_in, root_at, is_counted, leaf_in, leaves_at, extent_at}
+use Rattle.extent_pages.specs.Extent.{Leaf, Extent, first_page, root_in, root_at, is_counted, leaf_in, leaves_at, extent_at}
+use Rattle.extent_pages.specs.Stored.{AreEntries, IsStoredLeaf, AreStored}
 use Rattle.extent_pages.specs.Reads.{IsFault, Marks}
 use Rattle.extent_pages.proofs.Tests.{then_is, then_fails}
 use Rattle.extent_pages.proofs.Ways.{told, from_entries_on, from_chain_on, from_root_on}
@@ -77,6 +81,58 @@ front_fails leaves (NotPages at broken) r is = (is.0, is.1, ap (in_front_of leav
 front_fails leaves Disk r is = tt
 front_fails leaves NoMemory r is = tt
 
+-- ---- leaves that were read can be stored
+
+abbrev numbers_of : List Leaf → List ℕ
+numbers_of leaves = map (λ (leaf : Leaf). leaf.number) leaves
+
+abbrev pub firsts_of : List (ℕ × ℕ) → List ℕ
+firsts_of entries = map (λ (entry : ℕ × ℕ). entry.0) entries
+
+pub first_fits : (pages : List ℕ) → ((k : ℕ) → get_or pages k 0 < 2 ^ 32) → first_page pages < 2 ^ 32
+first_fits [] fits = omega arith
+first_fits (page ∷ pages) fits = fits 0
+
+all_and : (leaves : List Leaf) (leaf : Leaf) → AllByRecursion IsStoredLeaf leaves → IsStoredLeaf leaf
+    → AllByRecursion IsStoredLeaf (leaves ++ leaf ∷ [])
+all_and [] leaf all one = (one, tt)
+all_and (first ∷ leaves) leaf all one = (all.0, all_and leaves leaf all.1 one)
+
+numbers_and : (leaves : List Leaf) (leaf : Leaf) (l : List ℕ)
+    → numbers_of (leaves ++ leaf ∷ []) ++ l ≡ numbers_of leaves ++ leaf.number ∷ l
+numbers_and [] leaf l = refl
+numbers_and (first ∷ leaves) leaf l = ap (λ (x : List ℕ). first.number ∷ x) (numbers_and leaves leaf l)
+
+-- these leaves can be stored, and their numbers are those of the entries that aren't left
+pub record AreStoredSoFar (entries : List (ℕ × ℕ)) (leaves : List Leaf) (rest : List (ℕ × ℕ)) : Type 0 where
+  pub each : AllByRecursion IsStoredLeaf leaves
+  pub numbers : numbers_of leaves ++ firsts_of rest ≡ firsts_of entries
+
+stored_more : (entries : List (ℕ × ℕ)) (leaves : List Leaf) (rest : List (ℕ × ℕ)) (entry : ℕ × ℕ)
+    (behind : List (ℕ × ℕ)) (leaf : Leaf) → rest ≡ entry ∷ behind → AreStoredSoFar entries leaves rest
+    → IsStoredLeaf leaf → leaf.number ≡ entry.0 → AreStoredSoFar entries (leaves ++ leaf ∷ []) behind
+stored_more entries leaves rest entry behind leaf one so stored number = record {
+  each = all_and leaves leaf so.each stored;
+  numbers = numbers_and leaves leaf (firsts_of behind)
+      ∙ ap (λ (n : ℕ). numbers_of leaves ++ n ∷ firsts_of behind) number
+      ∙ ap (λ (l : List (ℕ × ℕ)). numbers_of leaves ++ firsts_of l) (sym one) ∙ so.numbers;
+}
+
+pub numbers_end : (entries : List (ℕ × ℕ)) (leaves : List Leaf) (rest : List (ℕ × ℕ)) → rest ≡ []
+    → AreStoredSoFar entries leaves rest → numbers_of leaves ≡ firsts_of entries
+numbers_end entries leaves rest none so =
+    sym (append-nil (numbers_of leaves)) ∙ ap (λ (l : List (ℕ × ℕ)). numbers_of leaves ++ firsts_of l) (sym none) ∙ so.numbers
+
+-- leaves by the entries of a directory
+pub stored_by : (entries : List (ℕ × ℕ)) (leaves : List Leaf) → AreEntries entries
+    → AllByRecursion IsStoredLeaf leaves → numbers_of leaves ≡ firsts_of entries → AreStored leaves
+stored_by entries leaves are each numbers = record {
+  ascend = subst (IsStrictlySortedBy nat_cmp) (sym numbers) are.ascend;
+  each = each;
+}
+
+-- ---- all leaves in turn
+
 -- these leaves were read, and these entries are left
 pub record LeavesSoFar (book : Book) (taken : List ℕ) (entries : List (ℕ × ℕ)) (marks : List Bool) (leaves : List Leaf)
     (rest : List (ℕ × ℕ)) : Type 0 where
@@ -91,6 +147,7 @@ module _ (tells : Type 0) (before now : Past) (was is : ℕ) (marks_before marks
     pub past : tells → now ≡ before
     pub later : was ≤ is
     pub long : length marks ≡ most_pages
+    pub stored : AreStoredSoFar entries leaves rest
     pub so_far : (taken : List ℕ) → tells → Marks marks_before taken
         → LeavesSoFar (pages_of (reads before which.Extent)) taken entries marks leaves rest
 
@@ -100,6 +157,7 @@ leaves_first tells before was marks entries long = record {
   past = λ tell. refl;
   later = omega arith;
   long = long;
+  stored = record { each = tt; numbers = refl };
   so_far = λ taken tell marked. record {
     used = taken;
     marked = marked;
@@ -146,11 +204,14 @@ module _ (tells : Type 0) (before now : Past) (was is : ℕ) (marks_before marks
         → ((taken : List ℕ) → tells → Marks marks taken → leaf_in (pages_of (reads now which.Extent)) taken entry ≡ Ok leaf)
         → ((taken : List ℕ) → tells → Marks marks taken → Marks marks' (leaf.pages ++ taken))
         → (tells → later ≡ now) → is ≤ then → length marks' ≡ most_pages
+        → IsStoredLeaf leaf × (leaf.number ≡ entry.0)
         → LeavesRun tells before later was then marks_before marks' entries leaves' behind
-    leaves_more leaf marks' leaves' later then leaves_are read marked_new same after long = record {
+    leaves_more leaf marks' leaves' later then leaves_are read marked_new same after long stored = record {
       past = λ tell. same tell ∙ run.past tell;
       later = omega (arith, run.later, after);
       long = long;
+      stored = subst (λ (l : List Leaf). AreStoredSoFar entries l behind) (sym leaves_are)
+          (stored_more entries leaves rest entry behind leaf one run.stored stored.0 stored.1);
       so_far = λ taken tell marked.
           let so = run.so_far taken tell marked in
           let book = pages_of (reads before which.Extent) in

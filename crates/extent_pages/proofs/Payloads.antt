@@ -130,6 +130,11 @@ directory_takes chain entries fits e =
       are = are_entries entries taken.1;
     }
 
+-- entries that were read with nothing behind them
+pub entries_are : (bytes : List ℕ) (entries : List (ℕ × ℕ)) (rest : List ℕ) → IsBytes bytes
+    → long_at entry_at bytes ≡ Ok (entries, rest) → AreEntries entries
+entries_are bytes entries rest fits e = are_entries entries (entries_reads.takes bytes entries rest fits e).1
+
 -- ---- leaves
 
 abbrev last_name : List (ℕ × Object) → Option ℕ
@@ -342,6 +347,12 @@ module _ (leaf : ℕ) where
         };
       } in
       subst (λ l. IsLeaf bytes l) (sym t.are) known
+
+  -- objects that were read with nothing behind them
+  pub objects_are : (bytes : List ℕ) (objects : List (ℕ × Object)) (rest : List ℕ) → IsBytes bytes → rest ≡ []
+      → leaf_at leaf bytes ≡ Ok (objects, rest) → AreOfLeaf leaf objects
+  objects_are bytes objects rest fits none e =
+      (leaf_behind bytes objects fits (subst (λ (l : List ℕ). leaf_at leaf bytes ≡ Ok (objects, l)) none e)).are
 
   pub leaf_takes : (chain : Chain) (objects : List (ℕ × Object)) → IsBytes chain.payload → leaf_of leaf chain ≡ Ok objects
       → IsLeaf chain.payload objects

@@ -10,7 +10,7 @@ use Rattle.body_codec.specs.Stored.{IsStoredAt}
 use Rattle.extent_pages.specs.Pages.{payload_size}
 use Rattle.extent_pages.specs.declared.root.Root.{Root}
 use Rattle.extent_pages.specs.Contents.{leaf_size}
-use Rattle.extent_pages.specs.Extent.{Leaf}
+use Rattle.extent_pages.specs.Extent.{Leaf, first_page}
 
 -- the fields of a root have room in their bytes
 pub record FitsRoot (root : Root) : Type 0 where
@@ -49,7 +49,13 @@ pub record AreOfLeaf (leaf : ℕ) (objects : List (ℕ × Object)) : Type 0 wher
   pub each : All (IsOfLeaf leaf) objects
   pub ascend : AscendByName objects
 
--- leaves that can be stored: their numbers ascend, and the objects of each are of their form
+-- a leaf that can be stored: its objects are of their form, and the number of its first page has room
+-- in an entry of a directory
+pub record IsStoredLeaf (leaf : Leaf) : Type 0 where
+  pub are : AreOfLeaf leaf.number leaf.objects
+  pub first : first_page leaf.pages < 2 ^ 32
+
+-- leaves that can be stored: their numbers ascend
 pub record AreStored (leaves : List Leaf) : Type 0 where
   pub ascend : IsStrictlySortedBy nat_cmp (map (λ (leaf : Leaf). leaf.number) leaves)
-  pub each : AllByRecursion (λ (leaf : Leaf). AreOfLeaf leaf.number leaf.objects) leaves
+  pub each : AllByRecursion IsStoredLeaf leaves

@@ -1,5 +1,5 @@
 //! Chains of pages.
-ghost use Rattle.std.specs.Prelude.{◌≡◌, ◌≤◌, ◌*◌, ℕ, List, ◌++◌, length, get_or, IsTrue, IfOk, IsErrOf};
+ghost use Rattle.std.specs.Prelude.{◌≡◌, ◌≤◌, ◌<◌, ◌*◌, ℕ, List, ◌++◌, length, get_or, IsTrue, IfOk, IsErrOf};
 ghost use Rattle.gem_io.specs.Faults.{HasRisen};
 ghost use Rattle.gem_disk.specs.declared.disk.Which.TheVariants as which;
 ghost use Rattle.gem_disk.specs.Disk.{reads};
@@ -84,6 +84,13 @@ fn page_or_none(pages: &[u32], place: usize) -> u32
     ensures { result ≡ get_or pages.now place 0 }
 {
     pages.get(place).copied().unwrap_or(0)
+}
+
+// Each of these is below 256. This does nothing at run time.
+pub(crate) fn are_bytes(bytes: &[u8])
+    ensures { (place : ℕ) → get_or bytes.now place 0 < 256 }
+{
+    let _bytes = bytes;
 }
 
 // What is told of a field that breaks a rule.

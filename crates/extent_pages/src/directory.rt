@@ -1,10 +1,11 @@
 //! The directory of an extent.
-ghost use Rattle.std.specs.Prelude.{◌≡◌, ◌≢◌, ℕ, [], IfErr, option_map};
+ghost use Rattle.std.specs.Prelude.{◌≡◌, ◌≢◌, ℕ, [], IfOk, IfErr, option_map};
 ghost use Rattle.body_codec.specs.Reading.{items_after, last_of, long_at};
 ghost use Rattle.extent_pages.specs.Contents.{entry_at, directory_of};
+ghost use Rattle.extent_pages.specs.Stored.{AreEntries};
 ghost use Rattle.extent_pages.specs.Reads.{Gives, GivesField, GivesFields};
 
-use crate::chain::{Chain, fault_in};
+use crate::chain::{Chain, are_bytes, fault_in};
 use crate::fault::{FieldError, PageFault, PageRule};
 use crate::field::{read_number_above, read_u32};
 use body_codec::Flaw;
@@ -60,9 +61,12 @@ fn read_all(alloc: Global, bytes: &[u8]) -> Result<(Vec<(u64, u32)>, &[u8]), Fie
 #[tactic(auto, unfolding(crate::specs::Contents::directory_of))]
 pub(crate) fn read_directory(alloc: Global, chain: &Chain) -> Result<Vec<(u64, u32)>, PageFault>
     ensures entries { Gives (λ entries. entries.items) result (directory_of chain.now) }
+    ensures stored { IfOk result (λ entries. AreEntries entries.items) }
     ensures no_disk { IfErr result (λ fault. fault ≢ PageFault.Disk) }
 {
-    match read_all(alloc, &chain.payload) {
+    let payload: &[u8] = &chain.payload;
+    are_bytes(payload);
+    match read_all(alloc, payload) {
         Ok((entries, [])) => Ok(entries),
         Ok((_, rest)) => Err(fault_in(chain, rest.len(), PageRule::Directory)),
         Err(FieldError::Broken(flaw)) => Err(fault_in(chain, flaw.left, PageRule::Directory)),

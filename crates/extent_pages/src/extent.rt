@@ -1,10 +1,12 @@
 //! What a root stands for.
-ghost use Rattle.std.specs.Prelude.{◌≡◌, ◌≤◌, ℕ, List, ◌++◌, length, IsTrue, IfOk, IsErrOf};
+ghost use Rattle.std.specs.Prelude.{◌≡◌, ◌≤◌, ◌<◌, ◌^◌, ℕ, List, ◌++◌, length, map, IsTrue, IfOk, IfSome, IsErrOf};
+ghost use Rattle.std.specs.List.{AllByRecursion};
 ghost use Rattle.gem_io.specs.Faults.{HasRisen};
 ghost use Rattle.gem_disk.specs.declared.disk.Which.TheVariants as which;
 ghost use Rattle.gem_disk.specs.Disk.{reads};
 ghost use Rattle.extent_pages.specs.Pages.{most_pages, pages_of};
-ghost use Rattle.extent_pages.specs.Extent.{root_in, root_page_of, leaf_in, leaves_at, extent_at, extent_of};
+ghost use Rattle.extent_pages.specs.Extent.{first_page, root_in, root_page_of, leaf_in, leaves_at, extent_at, extent_of};
+ghost use Rattle.extent_pages.specs.Stored.{IsStoredLeaf, AreStored};
 ghost use Rattle.extent_pages.specs.Reads.{Gives, Marks, SyncsOnce};
 
 use crate::chain::read_chain;
@@ -45,6 +47,13 @@ impl Model for Extent {
     } };
 }
 
+// The number of the first of these pages has room in four bytes. This does nothing at run time.
+fn first_has_room(pages: &[u32])
+    ensures { first_page pages.now < 2 ^ 32 }
+{
+    let _pages = pages;
+}
+
 // The leaf of an entry of the directory: its number, and its first page. Its pages are taken from
 // then on.
 fn read_leaf_of<D: Disk>(
@@ -61,6 +70,7 @@ fn read_leaf_of<D: Disk>(
         (leaf_in (pages_of (reads (D.past disk.old) which.Extent)) taken entry.now) }
     ensures marked { (taken : List ℕ) → IsTrue D.tells → Marks marks.old.items taken
         → IfOk result (λ leaf. Marks marks.new.items (leaf.pages ++ taken)) }
+    ensures stored { IfOk result (λ leaf. IsStoredLeaf leaf × (leaf.number ≡ entry.now.0)) }
     ensures marks { length marks.new.items ≡ most_pages }
     ensures past { IsTrue D.tells → D.past disk.new ≡ D.past disk.old }
     ensures failed { IsErrOf result PageFault.Disk → HasRisen (D.faults disk.old) (D.faults disk.new) }
@@ -68,6 +78,7 @@ fn read_leaf_of<D: Disk>(
 {
     let chain = read_chain(alloc, disk, size, marks, entry.1)?;
     let objects = read_leaf(alloc, entry.0, &chain)?;
+    first_has_room(&chain.pages);
     Ok(Leaf {
         number: entry.0,
         pages: chain.pages,
@@ -88,6 +99,9 @@ fn read_leaves<D: Disk>(
     ensures leaves { (taken : List ℕ) → IsTrue D.tells → Marks marks.old.items taken
         → Gives (λ leaves. leaves.items) result
         (leaves_at (pages_of (reads (D.past disk.old) which.Extent)) taken entries.now) }
+    ensures stored { IfOk result (λ leaves. AllByRecursion IsStoredLeaf leaves.items) }
+    ensures numbers { IfOk result (λ leaves. map (λ leaf. leaf.number) leaves.items
+        ≡ map (λ entry. entry.0) entries.now) }
     ensures past { IsTrue D.tells → D.past disk.new ≡ D.past disk.old }
     ensures failed { IsErrOf result PageFault.Disk → HasRisen (D.faults disk.old) (D.faults disk.new) }
     ensures later { D.faults disk.old ≤ D.faults disk.new }
@@ -126,6 +140,7 @@ fn read_extent<D: Disk>(
     requires size { IsTrue D.tells → size ≡ length (reads (D.past disk.old) which.Extent) }
     ensures extent { IsTrue D.tells → Gives (λ extent. extent) result
         (extent_at (pages_of (reads (D.past disk.old) which.Extent)) page) }
+    ensures stored { IfOk result (λ extent. AreStored extent.leaves) }
     ensures past { IsTrue D.tells → D.past disk.new ≡ D.past disk.old }
     ensures failed { IsErrOf result PageFault.Disk → HasRisen (D.faults disk.old) (D.faults disk.new) }
     ensures later { D.faults disk.old ≤ D.faults disk.new }
@@ -168,6 +183,7 @@ fn root_page_of(selector: u8) -> u32
 fn find_extent<D: Disk>(alloc: Global, disk: &mut D) -> Result<Option<Extent>, PageFault>
     ensures extent { IsTrue D.tells → Gives (λ extent. extent) result
         (extent_of (reads (D.past disk.old) which.Extent)) }
+    ensures stored { IfOk result (λ found. IfSome found (λ extent. AreStored extent.leaves)) }
     ensures past { IsTrue D.tells → D.past disk.new ≡ D.past disk.old }
     ensures failed { IsErrOf result PageFault.Disk → HasRisen (D.faults disk.old) (D.faults disk.new) }
     ensures later { D.faults disk.old ≤ D.faults disk.new }
@@ -190,11 +206,14 @@ fn find_extent<D: Disk>(alloc: Global, disk: &mut D) -> Result<Option<Extent>, P
 /// It begins with one sync of the extent, which is all that it does to the disk; so the file reads
 /// as before, and where it succeeds a crash leaves what it reads as.
 ///
+/// The leaves can be stored as they are, whether or not the disk tells what its file reads as.
+///
 /// `NotPages`: the bytes are no extent; the page and the rule are those of its first fault. `Disk`:
 /// the count of faults rose in this call. `NoMemory` may come in place of any answer.
 pub fn open_extent<D: Disk>(alloc: Global, disk: &mut D) -> Result<Option<Extent>, PageFault>
     ensures extent { IsTrue D.tells → Gives (λ extent. extent) result
         (extent_of (reads (D.past disk.old) which.Extent)) }
+    ensures stored { IfOk result (λ found. IfSome found (λ extent. AreStored extent.leaves)) }
     ensures past { IsTrue D.tells → SyncsOnce (D.past disk.old) result (D.past disk.new) }
     ensures failed { IsErrOf result PageFault.Disk → HasRisen (D.faults disk.old) (D.faults disk.new) }
     ensures later { D.faults disk.old ≤ D.faults disk.new }

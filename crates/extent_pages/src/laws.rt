@@ -1,11 +1,13 @@
 //! What follows from the definitions alone. Each law is the contract of a function that does
 //! nothing.
-ghost use Rattle.std.specs.Prelude.{◌≡◌, ◌≤◌, ◌<◌, ◌^◌, ℕ, List, ◌∷◌, length, take, All, true, Some, Ok};
+ghost use Rattle.std.specs.Prelude.{◌≡◌, ◌≤◌, ◌<◌, ◌^◌, ◌/◌, ◌+◌, ℕ, List, ◌∷◌, length, take, All, true, Some, Ok};
 ghost use Rattle.gem_object.specs.declared.object.Object.{Object};
-ghost use Rattle.extent_pages.specs.Pages.{page_size, payload_size, Book, pages_of, next_in, payload_in, is_filled, Chain, chain_from};
+ghost use Rattle.gem_record.specs.declared.limits.TheConstants.{PAGE_LIMIT};
+ghost use Rattle.gem_record.specs.Stored.{page_room, leaf_of};
+ghost use Rattle.extent_pages.specs.Pages.{page_size, payload_size, most_pages, Book, pages_of, next_in, payload_in, is_filled, Chain, chain_from};
 ghost use Rattle.extent_pages.specs.declared.root.Root.{Root};
 ghost use Rattle.extent_pages.specs.Spelled.{spelled_page, root_page, spelled_directory, spelled_leaf};
-ghost use Rattle.extent_pages.specs.Contents.{directory_of, leaf_of};
+ghost use Rattle.extent_pages.specs.Contents.{leaf_size, directory_of, leaf_of as objects_of_leaf};
 ghost use Rattle.extent_pages.specs.Extent.{Extent, root_in, first_page, pages_used, extent_at, extent_of};
 ghost use Rattle.extent_pages.specs.Laid.{IsChain, IsLaid, KeepsPages, kept_pages, IsOpen};
 ghost use Rattle.extent_pages.specs.Stored.{FitsRoot, FitsPage, AreEntries, AreOfLeaf};
@@ -64,8 +66,17 @@ pub fn payloads_read_back()
         AreEntries entries × (chain.payload ≡ spelled_directory entries) }
     ensures leaf { (leaf : ℕ) (pages : List ℕ) (objects : List (ℕ × Object)) →
         AreOfLeaf leaf objects →
-        leaf_of leaf (record { pages = pages; payload = spelled_leaf objects }) ≡ Ok objects }
+        objects_of_leaf leaf (record { pages = pages; payload = spelled_leaf objects }) ≡ Ok objects }
     ensures only_leaf { (leaf : ℕ) (chain : Chain) (objects : List (ℕ × Object)) →
-        All (λ byte. byte < 256) chain.payload → leaf_of leaf chain ≡ Ok objects →
+        All (λ byte. byte < 256) chain.payload → objects_of_leaf leaf chain ≡ Ok objects →
         AreOfLeaf leaf objects × (chain.payload ≡ spelled_leaf objects) }
+{}
+
+/// Pages, leaves and what a page holds are as the record of what is stored counts them, and there are
+/// no more pages than it allows.
+pub fn sizes_are_those_that_are_counted()
+    ensures payload { payload_size ≡ page_room }
+    ensures pages { most_pages ≡ PAGE_LIMIT }
+    ensures leaves { (name : ℕ) → name / leaf_size ≡ leaf_of name }
+    ensures next_and_used { page_size ≡ page_room + 8 }
 {}

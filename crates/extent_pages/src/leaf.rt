@@ -5,9 +5,10 @@ ghost use Rattle.body_codec.specs.Reading.{last_of};
 ghost use Rattle.body_codec.specs.ReadingBodies.{object_at};
 ghost use Rattle.extent_pages.specs.declared.fault.PageRule.TheVariants as rule;
 ghost use Rattle.extent_pages.specs.Contents.{with_rule, count_at, leaf_name_at, leaf_object_at, objects_after, leaf_at, leaf_of};
+ghost use Rattle.extent_pages.specs.Stored.{AreOfLeaf};
 ghost use Rattle.extent_pages.specs.Reads.{Gives, GivesPart};
 
-use crate::chain::{Chain, fault_in};
+use crate::chain::{Chain, are_bytes, fault_in};
 use crate::fault::{PageFault, PageRule, PartError};
 use crate::field::{read_byte, read_name_above};
 use body_codec::{BodyFault, read_object};
@@ -179,9 +180,12 @@ pub(crate) fn read_leaf(
     chain: &Chain,
 ) -> Result<Vec<(Oid, Object)>, PageFault>
     ensures objects { Gives (λ objects. objects.items) result (leaf_of leaf chain.now) }
+    ensures stored { IfOk result (λ objects. AreOfLeaf leaf objects.items) }
     ensures no_disk { IfErr result (λ fault. fault ≢ PageFault.Disk) }
 {
-    match read_all(alloc, leaf, &chain.payload) {
+    let payload: &[u8] = &chain.payload;
+    are_bytes(payload);
+    match read_all(alloc, leaf, payload) {
         Ok((objects, [])) => Ok(objects),
         Ok((_, rest)) => Err(fault_in(chain, rest.len(), PageRule::Leaf)),
         Err(PartError::Broken { left, rule }) => Err(fault_in(chain, left, rule)),

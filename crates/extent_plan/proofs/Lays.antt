@@ -164,7 +164,7 @@ Passed kept from old taken = (page : ℕ) → is_one_of page taken ≡ true
 not_both : {G : Type 0} (b : Bool) → b ≡ true → b ≡ false → G
 not_both b yes_is no_is = absurd (false≢true (sym no_is ∙ yes_is))
 
-none_unless : (b : Bool) → (b ≡ true → ⊥) → b ≡ false
+pub none_unless : (b : Bool) → (b ≡ true → ⊥) → b ≡ false
 none_unless true no_is = absurd (no_is refl)
 none_unless false no_is = refl
 

@@ -14,3 +14,5 @@ pub mod Sharing
 pub mod Marking
 pub mod Needs
 pub mod Same
+pub mod Storing
+pub mod Counts

@@ -13,10 +13,10 @@ use Rattle.gem_object.specs.declared.object.Object.{Object}
 use Rattle.gem_image.specs.Image.{Image, contents_of, objects_in}
 use Rattle.extent_pages.specs.Contents.{leaf_size}
 use Rattle.extent_pages.specs.Extent.{Leaf}
-use Rattle.extent_pages.specs.Stored.{IsOfLeaf}
+use Rattle.extent_pages.specs.Stored.{IsOfLeaf, IsStoredLeaf, AreStored}
 use Rattle.extent_plan.specs.Leaves.{name_in, is_later, later_before, is_changed, contents_at, Holds}
 use Rattle.extent_plan.specs.Drafts.{numbers_of, objects_in_all, IsSharable, Sharing}
-use Rattle.extent_plan.specs.Shared.{KeepsHeld, IsStoredLeaf, AreStoredLeaves}
+use Rattle.extent_plan.specs.Shared.{KeepsHeld}
 use Rattle.extent_plan.proofs.Agrees.{other_key, find_behind, find_front}
 
 -- ---- what is found in leaves
@@ -72,7 +72,7 @@ or_none : (a b : Bool) → (a || b) ≡ false → (a ≡ false) × (b ≡ false)
 or_none true b e = absurd (false≢true (sym e))
 or_none false b e = (refl, e)
 
-not_later : (image : Image) (since leaf : ℕ) (before place : ℕ) → place < before → later_before image since leaf before ≡ false
+pub not_later : (image : Image) (since leaf : ℕ) (before place : ℕ) → place < before → later_before image since leaf before ≡ false
     → is_later since (get image (name_in leaf place)) ≡ false
 unfolding later_before
 not_later image since leaf zero place below none = absurd (omega (arith, below))
@@ -124,7 +124,7 @@ module _ (image : Image) (since : ℕ) (old : List Leaf) (keeps : KeepsHeld imag
         ∙ found_in before leaf after name ascend each own in
         unchanged_same leaf name (get image name) refl later found
 
-  all_sharable : (before after : List Leaf) → old ≡ before ++ after → AreStoredLeaves old → AllByRecursion IsStoredLeaf after
+  all_sharable : (before after : List Leaf) → old ≡ before ++ after → AreStored old → AllByRecursion IsStoredLeaf after
       → AllByRecursion (IsSharable image since) after
   all_sharable before [] parts stored each = tt
   all_sharable before (leaf ∷ after) parts stored each = (
@@ -138,5 +138,5 @@ module _ (image : Image) (since : ℕ) (old : List Leaf) (keeps : KeepsHeld imag
   )
 
   -- by the conditions on the images each old leaf may stay in which nothing was changed
-  pub sharing_from : AreStoredLeaves old → Sharing image since old
+  pub sharing_from : AreStored old → Sharing image since old
   sharing_from stored = all_sharable [] old refl stored stored.each

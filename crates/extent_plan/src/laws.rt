@@ -1,18 +1,23 @@
 //! What follows from the definitions alone. Each law is the contract of a function that does
 //! nothing.
-ghost use Rattle.std.specs.Prelude.{◌≡◌, ◌<◌, ℕ, List, length, true};
-ghost use Rattle.std.specs.FinMap.{from_entries};
+ghost use Rattle.std.specs.Prelude.{◌≡◌, ◌<◌, ℕ, List, [], length, true, Some, None};
+ghost use Rattle.std.specs.List.{AllByRecursion};
+ghost use Rattle.std.specs.FinMap.{entries, from_entries};
 ghost use Rattle.gem_object.specs.declared.object.Object.{Object};
-ghost use Rattle.gem_image.specs.Image.{Image};
+ghost use Rattle.gem_image.specs.Image.{Image, AreNamed};
+ghost use Rattle.gem_record.specs.Stored.{Root, pages_over};
 ghost use Rattle.disk_pieces.specs.Pieces.{Piece, Stand};
 ghost use Rattle.extent_pages.specs.Pages.{most_pages, pages_of, is_one_of, Chain};
 ghost use Rattle.extent_pages.specs.Spelled.{spelled_leaf};
 ghost use Rattle.extent_pages.specs.Extent.{Leaf, Extent, pages_of_leaves};
 ghost use Rattle.extent_pages.specs.Laid.{IsChain, LeavesLie, IsLaid};
+ghost use Rattle.extent_pages.specs.Stored.{IsStoredLeaf, AreStored};
+ghost use Rattle.extent_plan.specs.declared.place.LeafPlace.{LeafPlace};
 ghost use Rattle.extent_plan.specs.Pieces.{pages_filled};
-ghost use Rattle.extent_plan.specs.Plan.{Around, IsPlanned};
+ghost use Rattle.extent_plan.specs.Plan.{ArePlaces, Around, IsPlanned};
 ghost use Rattle.extent_plan.specs.Drafts.{objects_in_all, Sharing};
-ghost use Rattle.extent_plan.specs.Shared.{KeepsHeld, AreStoredLeaves, Alike};
+ghost use Rattle.extent_plan.specs.Needed.{checkpoint_pages};
+ghost use Rattle.extent_plan.specs.Shared.{KeepsHeld, Alike};
 
 /// In each file in which the pieces of a plan stand, and in which the old leaves lie in pages that are
 /// kept, the extent of the plan lies, with its root in the plan's page.
@@ -31,8 +36,15 @@ pub fn plans_lie()
 /// image with the same class, segment and body.
 pub fn leaves_may_stay()
     ensures { (image : Image) (since : ℕ) (old : List Leaf) →
-        KeepsHeld image (from_entries (objects_in_all old)) since → AreStoredLeaves old →
+        KeepsHeld image (from_entries (objects_in_all old)) since → AreStored old →
         Sharing image since old }
+{}
+
+/// The leaves of a plan can be stored, where each of the old ones can.
+pub fn planned_leaves_can_be_stored()
+    ensures { (kept : List ℕ) (old : List Leaf) (page : ℕ) (around : Around) (extent : Extent)
+        (pieces : List Piece) → IsPlanned kept old page around extent pieces →
+        AllByRecursion IsStoredLeaf old → AreStored extent.leaves }
 {}
 
 /// A chain that lies in a file has as many pages as its payload fills.
@@ -45,4 +57,17 @@ pub fn pages_by_length()
 pub fn same_objects_same_bytes()
     ensures { (objects others : List (ℕ × Object)) → Alike objects others →
         spelled_leaf objects ≡ spelled_leaf others }
+{}
+
+/// A checkpoint takes as many pages as are counted over the entries of its image, by the current root
+/// where there is one. That is said of leaves that may stay: each name of the root's image is in the
+/// image, and each object that wasn't changed since stands there with the same class, segment and body.
+pub fn pages_are_counted()
+    ensures first { (image : Image) (since : ℕ) → AreNamed image →
+        checkpoint_pages image since [] [] ≡ pages_over None (entries image) }
+    ensures later { (image : Image) (root : Root) (old : List Leaf) (used : List ℕ)
+        (places : List LeafPlace) → AreNamed image → ArePlaces places old → AreStored old →
+        KeepsHeld image (from_entries (objects_in_all old)) root.number →
+        length used ≡ root.pages →
+        checkpoint_pages image root.number used places ≡ pages_over (Some root) (entries image) }
 {}

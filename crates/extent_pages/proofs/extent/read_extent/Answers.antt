@@ -4,7 +4,7 @@ use Rattle.gem_disk.specs.declared.disk.Which.TheVariants as which
 use Rattle.gem_disk.specs.Disk.{reads}
 use Rattle.extent_pages.specs.Pages.{pages_of, Chain}
 use Rattle.extent_pages.specs.Extent.{root_in}
-use Rattle.extent_pages.proofs.Extents.{page_missing, leaves_exit, counts_exit, counts_fault}
+use Rattle.extent_pages.proofs.Extents.{page_missing, leaves_exit, counts_exit, counts_fault, firsts_of, stored_by}
 use Rattle.extent_pages.proofs.extent.read_extent.Goals as goal
 
 pub returns-in_default-clause-extent : goal.returns-in_default-clause-extent
@@ -50,3 +50,8 @@ returns-clause-extent g c tell =
     (c.in_ok-entries.ensures.entries ∙ ap (λ (l : List (ℕ × ℕ)). Ok l) (sym c.deref-2.ensures.value)) tell
     c.in_ok-leaves.leaves.items c.in_ok-leaves.ensures.leaves c.chain.inside.pages.items
     (ap (λ (p : Chain). p.pages) c.chain.view_is) (sym c.is_counted.ensures ∙ c.if-is_counted.false)
+
+pub returns-then-is_counted-clause-stored : goal.returns-then-is_counted-clause-stored
+returns-then-is_counted-clause-stored g c =
+    stored_by c.in_ok-entries.entries.items c.in_ok-leaves.leaves.items c.in_ok-entries.ensures.stored
+    c.in_ok-leaves.ensures.stored (c.in_ok-leaves.ensures.numbers ∙ ap firsts_of c.deref-2.ensures.value)
