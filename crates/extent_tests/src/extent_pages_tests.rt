@@ -76,7 +76,7 @@ fn zeros(alloc: Global, count: usize) -> Result<Vec<u8>, Fail> {
 }
 
 // The small extent, with room for so many pages.
-fn small(alloc: Global, pages: usize) -> Result<Vec<u8>, Fail> {
+pub(crate) fn small(alloc: Global, pages: usize) -> Result<Vec<u8>, Fail> {
     let mut bytes = zeros(alloc, pages.saturating_mul(PAGE_SIZE as usize))?;
     put(&mut bytes, 0, b"\x01\x01");
     put(&mut bytes, ROOT_AT, ROOT);

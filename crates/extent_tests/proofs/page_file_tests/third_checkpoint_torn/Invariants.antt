@@ -1,0 +1,4 @@
+use Rattle.extent_tests.proofs.page_file_tests.third_checkpoint_torn.Given as goal
+
+abbrev pub ghosts-check_crashes : goal.ghosts-check_crashes
+ghosts-check_crashes g a = record { name = a.blank.name; parts = a.blank.parts }

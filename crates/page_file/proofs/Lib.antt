@@ -1,0 +1,12 @@
+mod Files
+mod Images
+mod Bringing
+mod Plans
+mod Planning
+mod Taking
+mod Opened
+mod Few
+mod Counted
+mod Shares
+mod Changes
+mod Rests
