@@ -4,6 +4,7 @@ use Rattle.std.specs.Ordering.{nat_cmp, eq_by_cmp, is_eq}
 use Rattle.std.specs.Cmp.{nat_cmp_total, tied_itself}
 use Rattle.std.specs.FinMap.{get, insert, get-insert}
 use Rattle.std.proofs.lemmas.Bool.{false≢true, le-leb, cases_lt}
+use Rattle.std.proofs.lemmas.List.Sums.{fold_push}
 use Rattle.gem_object.specs.gem_value.Oid.{oid_number}
 use Rattle.gem_image.specs.Image.{Image, IsImage}
 use Rattle.gem_object.specs.declared.object.Object.{Object}
@@ -14,10 +15,9 @@ use Rattle.gem_meaning.specs.commit_check.Conflicts.{changed_of, last_change}
 use Rattle.shell_words.specs.Script.{SessionCommands}
 use Rattle.gem_meaning.specs.declared.event.What.TheVariants.{Held, Dropped, Left, Checked, Halted}
 use Rattle.gem_meaning.specs.Opened.{Opened, base_serial, largest_serial}
-use Rattle.gem_meaning.specs.Events.{Event, Told, Standing, told_more, after_events, standing}
+use Rattle.gem_meaning.specs.Events.{Event, Told, Standing, told_more, after_event, before_events, after_events, standing}
 use Rattle.gem_meaning.specs.Serial.{most_at_opening, CanServe}
 use Rattle.gem_meaning.specs.Locks.{leaving}
-use Rattle.history_laws.proofs.Views.{after_one_more}
 use Rattle.stone_core.specs.declared.port.LockAnswer.{LockAnswer}
 use Rattle.stone_core.specs.declared.port.LockAnswer.TheVariants.{Granted, Denied, NoMemory}
 use Rattle.stone_core.specs.declared.port.CheckAnswer.{CheckAnswer}
@@ -150,6 +150,13 @@ stays_ready : (t : Told) (more : List Event) → (standing (told_more t more)).i
     → IsReady (told_more t more)
 stays_ready t more same ready = record { serves = ready.serves; boxes = subst HasBoxes (sym same) ready.boxes }
 
+-- the image after one event more
+image_one_more : (t : Told) (event : Event)
+    → (standing (told_more t (event ∷ []))).image ≡ (after_event t.opened (standing t) event).image
+unfolding after_events
+image_one_more t event =
+    ap (λ (s : Standing). s.image) (fold_push (after_event t.opened) (before_events t.opened) t.events event)
+
 nothing_more : (t : Told) → (standing (told_more t [])).image ≡ (standing t).image
 nothing_more t = ap (λ es. (after_events t.opened es).image) (append-nil t.events)
 
@@ -157,7 +164,7 @@ pub lock_ready : (t : Told) (session oid : ℕ) (answer : LockAnswer) → IsRead
     → IsReady (told_more t (event_of_lock session oid answer))
 lock_ready t session oid (Granted kind changed) ready =
     stays_ready t ((session, Held oid kind) ∷ [])
-    (ap (λ (s : Standing). s.image) (after_one_more t.opened t.events (session, Held oid kind))) ready
+    (image_one_more t (session, Held oid kind)) ready
 lock_ready t session oid (Denied holder held) ready = stays_ready t [] (nothing_more t) ready
 lock_ready t session oid NoMemory ready = stays_ready t [] (nothing_more t) ready
 
@@ -165,24 +172,24 @@ pub drop_ready : (t : Told) (held : Bool) (session oid : ℕ) → IsReady t
     → IsReady (told_more t (dropping held session oid))
 drop_ready t true session oid ready =
     stays_ready t ((session, Dropped oid) ∷ [])
-    (ap (λ (s : Standing). s.image) (after_one_more t.opened t.events (session, Dropped oid))) ready
+    (image_one_more t (session, Dropped oid)) ready
 drop_ready t false session oid ready = stays_ready t [] (nothing_more t) ready
 
 pub leave_ready : (t : Told) (holds : Bool) (session : ℕ) → IsReady t
     → IsReady (told_more t (leaving holds session))
 leave_ready t true session ready =
     stays_ready t ((session, Left) ∷ [])
-    (ap (λ (s : Standing). s.image) (after_one_more t.opened t.events (session, Left))) ready
+    (image_one_more t (session, Left)) ready
 leave_ready t false session ready = stays_ready t [] (nothing_more t) ready
 
 pub check_ready : (t : Told) (session stands : ℕ) (answer : CheckAnswer) → IsReady t
     → IsReady (told_more t (event_of_check session stands answer))
 check_ready t session stands (check.Made number) ready =
     stays_ready t ((session, Checked) ∷ [])
-    (ap (λ (s : Standing). s.image) (after_one_more t.opened t.events (session, Checked))) ready
+    (image_one_more t (session, Checked)) ready
 check_ready t session stands check.DiskFault ready =
     stays_ready t ((session, Halted stands None) ∷ [])
-    (ap (λ (s : Standing). s.image) (after_one_more t.opened t.events (session, Halted stands None))) ready
+    (image_one_more t (session, Halted stands None)) ready
 check_ready t session stands (check.Halted number) ready = stays_ready t [] (nothing_more t) ready
 check_ready t session stands (check.Full pages) ready = stays_ready t [] (nothing_more t) ready
 check_ready t session stands check.NoMemory ready = stays_ready t [] (nothing_more t) ready

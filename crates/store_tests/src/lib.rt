@@ -6,6 +6,7 @@
 pub mod again;
 #[cfg(test)]
 mod disk_pieces_tests;
+pub mod limits;
 #[cfg(test)]
 mod sink;
 #[cfg(test)]

@@ -1,21 +1,20 @@
-// The log: the example's bytes, appends and openings that stop, an emptied log that is used again,
-// and each byte of a log changed or cut off.
+// The log: the example's bytes, appends, chains and openings that stop, an emptied log that is used
+// again, and each byte of a log of both formats changed or cut off.
 use crate::again::add_two;
 use crate::sink::Sink;
 use crate::untold::Untold;
 use body_codec::read_effect;
 use gem_disk::Pick;
-use gem_record::Effect;
+use gem_record::{Effect, Mode};
 use std::alloc::Global;
 use std::test::Fail;
-use tran_log::{AppendFault, Log, LogFault, LogRule, open_log, spell_body};
+use tran_log::{
+    AppendFault, LOG_LIMIT, Log, LogFault, LogRule, Logged, add_body, open_log, spell_body,
+};
 
 // The effect that sets the counter 1:3, of the class 0:19 and in the segment 0:30, to 20.
 const EFFECT: &[u8] = b"\x01\0\0\0\x03\0\0\x01\0\0\0\0\x13\0\0\0\0\0\0\0\x1e\0\0\0\0\0\0\0\
     \x06\x14\0\0\0\0\0\0\0";
-
-// The size of its record in the log.
-const RECORD: u64 = 50;
 
 // What a log is opened to.
 #[derive(Clone, Copy, Debug, PartialEq, Eq)]
@@ -25,22 +24,50 @@ enum Opened {
     Other,
 }
 
-// A log of this number of records, of the commits from 3 on.
+// The record of this number in format 1, with an open gate before it.
+fn push_old(log: &mut Vec<u8>, number: u64) -> Result<(), Fail> {
+    log.push(1)?;
+    log.extend_from_slice(&(EFFECT.len() as u32).to_le_bytes())?;
+    log.extend_from_slice(&number.to_le_bytes())?;
+    log.extend_from_slice(EFFECT)?;
+    Ok(())
+}
+
+// The record in format 2, in the same way.
+fn push_new(alloc: Global, log: &mut Vec<u8>, number: u64, mode: Mode) -> Result<(), Fail> {
+    let body = spell_body(alloc, number, mode, EFFECT)?;
+    let (_, record) = body.split_last().unwrap_or((&0, &[]));
+    log.push(1)?;
+    log.extend_from_slice(record)?;
+    Ok(())
+}
+
+// A log of this number of records of format 2, of the commits from 3 on.
 fn log_bytes(alloc: Global, records: u64) -> Result<Vec<u8>, Fail> {
-    let mut bytes = vec![in alloc; 0]?;
+    let mut bytes = Vec::new(alloc);
     for number in 3..records.saturating_add(3) {
-        let body = spell_body(alloc, number, EFFECT)?;
-        if let Some(gate) = bytes.last_mut() {
-            *gate = 1;
-        }
-        bytes.extend_from_slice(&body)?;
+        push_new(alloc, &mut bytes, number, Mode::Full)?;
     }
+    bytes.push(0)?;
     Ok(bytes)
+}
+
+// The offsets of the gates of `mixed_log`, and of the gate behind its records.
+const GATES: &[u64] = &[0, 50, 101, 152];
+
+// The commits 3 to 5, the first in format 1, the others in format 2.
+fn mixed_log(alloc: Global) -> Result<Vec<u8>, Fail> {
+    let mut log = Vec::new(alloc);
+    push_old(&mut log, 3)?;
+    push_new(alloc, &mut log, 4, Mode::NoRw)?;
+    push_new(alloc, &mut log, 5, Mode::Full)?;
+    log.push(0)?;
+    Ok(log)
 }
 
 fn open_disk(alloc: Global, disk: &mut Untold) -> Opened {
     match open_log(alloc, disk) {
-        Ok((_, effects)) => Opened::Records(effects.len() as u64),
+        Ok((_, logged)) => Opened::Records(logged.len() as u64),
         Err(LogFault::NotLog { at, rule }) => Opened::Bad(at, rule),
         Err(_) => Opened::Other,
     }
@@ -55,69 +82,143 @@ fn open_bytes(alloc: Global, log: Vec<u8>) -> Opened {
 fn example_bytes(rt: HostRuntime) -> Result<(), Fail> {
     let alloc = rt.alloc();
     let bytes = log_bytes(alloc, 1)?;
-    let head = b"\x01\x25\0\0\0\x03\0\0\0\0\0\0\0".as_slice();
-    assert_eq!(rt; bytes.len() as u64, RECORD + 1);
+    let head = b"\x01\x26\0\0\x80\x03\0\0\0\0\0\0\0\0".as_slice();
+    assert_eq!(rt; bytes.len(), 52);
     assert!(rt; bytes.starts_with(head));
     assert!(rt; bytes.ends_with(b"\0"));
     Ok(())
 }
 
-// What a cut to so many bytes, of 151, leaves.
+// Whether the records of a log are at these offsets, in these modes.
+fn are_logged(found: &[Logged], wanted: &[(u64, Mode)]) -> bool {
+    found.len() == wanted.len()
+        && found
+            .iter()
+            .zip(wanted.iter())
+            .all(|(one, (at, mode))| one.at == *at && one.mode == *mode)
+}
+
+// Whether `mixed_log` is opened to its records and its length.
+fn opens_mixed(alloc: Global) -> Result<bool, Fail> {
+    let mut disk = Untold::new(mixed_log(alloc)?, Vec::new(alloc));
+    let wanted = [(0, Mode::Full), (50, Mode::NoRw), (101, Mode::Full)];
+    match open_log(alloc, &mut disk) {
+        Ok((log, logged)) => Ok(are_logged(&logged, &wanted) && log.length() == 153),
+        Err(_) => Ok(false),
+    }
+}
+
+#[test]
+fn both_formats(rt: HostRuntime) -> Result<(), Fail> {
+    assert!(rt; opens_mixed(rt.alloc())?);
+    Ok(())
+}
+
+// How many gates stand before this offset.
+fn gates_before(at: u64) -> usize {
+    GATES.iter().take_while(|gate| **gate < at).count()
+}
+
+// What a cut of `mixed_log` to so many bytes leaves.
 fn after_cut(size: u64) -> Opened {
     if size <= 1 {
-        Opened::Records(0)
-    } else if size == 3 * RECORD + 1 {
-        Opened::Records(3)
-    } else if size % RECORD == 0 {
+        return Opened::Records(0);
+    }
+    if size == 153 {
+        return Opened::Records(3);
+    }
+    let gate = GATES.get(gates_before(size).saturating_sub(1)).copied();
+    if GATES.contains(&size) {
         Opened::Bad(size, LogRule::Gate)
     } else {
-        Opened::Bad(size - size % RECORD, LogRule::Length)
+        Opened::Bad(gate.unwrap_or(0), LogRule::Length)
     }
 }
 
 fn is_cut_so(alloc: Global, size: u64) -> Result<bool, Fail> {
-    let mut log = log_bytes(alloc, 3)?;
+    let mut log = mixed_log(alloc)?;
     log.truncate(size as usize);
     Ok(open_bytes(alloc, log) == after_cut(size))
 }
 
 #[test]
 fn each_cut(rt: HostRuntime) -> Result<(), Fail> {
-    for size in 0..=3 * RECORD + 1 {
+    for size in 0..=153 {
         assert!(rt; is_cut_so(rt.alloc(), size)?, "{size}");
     }
     Ok(())
 }
 
-// What a change of the byte at this place of a record, whose gate is at an offset, leaves of three
-// records.
-fn after_flip(gate: u64, place: u64) -> Opened {
+// What a change of the byte at this place of an effect leaves of three records: the count of
+// objects, numbers of names past 2^48, and the tag of the body are told.
+fn after_change(gate: u64, place: u64) -> Opened {
     match place {
-        0 => Opened::Records(gate / RECORD),
-        1..=4 => Opened::Bad(gate, LogRule::Length),
-        // another number is one that the next record doesn't follow
-        5..=11 if gate == 0 => Opened::Bad(RECORD, LogRule::Number),
-        5..=12 => Opened::Bad(gate, LogRule::Number),
-        // the count of objects, numbers of names past 2^48, and the tag of the body
-        13..=16 | 23..=24 | 31..=32 | 39..=41 => Opened::Bad(gate, LogRule::Effect),
+        0..=3 | 10..=11 | 18..=19 | 26..=28 => Opened::Bad(gate, LogRule::Effect),
         _ => Opened::Records(3),
     }
 }
 
+// What a change of the byte at this place of a record leaves, where its gate is at an offset.
+fn after_flip(index: u64, gate: u64, place: u64) -> Opened {
+    match place {
+        0 => Opened::Records(index),
+        1..=4 => Opened::Bad(gate, LogRule::Length),
+        // another number is one that the next record doesn't follow
+        5..=11 if index == 0 => Opened::Bad(50, LogRule::Number),
+        5..=12 => Opened::Bad(gate, LogRule::Number),
+        13 if index > 0 => Opened::Bad(gate, LogRule::Mode),
+        _ if index == 0 => after_change(gate, place.saturating_sub(13)),
+        _ => after_change(gate, place.saturating_sub(14)),
+    }
+}
+
 fn is_flipped_so(alloc: Global, at: u64) -> Result<bool, Fail> {
-    let mut log = log_bytes(alloc, 3)?;
+    let mut log = mixed_log(alloc)?;
     if let Some(byte) = log.get_mut(at as usize) {
         *byte = 255 - *byte;
     }
-    let place = at % RECORD;
-    Ok(open_bytes(alloc, log) == after_flip(at - place, place))
+    let index = gates_before(at.saturating_add(1)).saturating_sub(1);
+    let gate = GATES.get(index).copied().unwrap_or(0);
+    Ok(open_bytes(alloc, log) == after_flip(index as u64, gate, at.saturating_sub(gate)))
 }
 
 #[test]
 fn each_flip(rt: HostRuntime) -> Result<(), Fail> {
-    for at in 0..=3 * RECORD {
+    for at in 0..=152 {
         assert!(rt; is_flipped_so(rt.alloc(), at)?, "{at}");
     }
+    Ok(())
+}
+
+// What a log of one record of format 2 is opened to, where these bytes stand at an offset.
+fn with_bytes(alloc: Global, at: usize, bytes: &[u8]) -> Result<Opened, Fail> {
+    let mut log = log_bytes(alloc, 1)?;
+    for (index, byte) in bytes.iter().enumerate() {
+        if let Some(place) = log.get_mut(at.saturating_add(index)) {
+            *place = *byte;
+        }
+    }
+    Ok(open_bytes(alloc, log))
+}
+
+// The number comes before the mode, and the mode before the effect; a record without a byte for
+// its mode has none.
+#[test]
+fn modes(rt: HostRuntime) -> Result<(), Fail> {
+    let alloc = rt.alloc();
+    let bad_mode = Opened::Bad(0, LogRule::Mode);
+    assert_eq!(rt; with_bytes(alloc, 13, &[1])?, Opened::Records(1));
+    assert_eq!(rt; with_bytes(alloc, 13, &[2])?, bad_mode);
+    assert_eq!(rt; with_bytes(alloc, 13, &[2, 9])?, bad_mode);
+    assert_eq!(rt;
+        with_bytes(alloc, 12, &[128, 2])?,
+        Opened::Bad(0, LogRule::Number)
+    );
+    assert_eq!(rt; with_bytes(alloc, 1, &[0])?, bad_mode);
+    assert_eq!(rt;
+        with_bytes(alloc, 4, &[0])?,
+        Opened::Bad(0, LogRule::Effect)
+    );
     Ok(())
 }
 
@@ -127,36 +228,58 @@ fn is_added(disk: &mut Untold, log: &mut Log, body: &[u8], calls: u64) -> bool {
     log.append(disk, body).is_ok()
 }
 
-// The same to the log of a disk.
-fn is_added_to(alloc: Global, disk: &mut Untold, body: &[u8], calls: u64) -> bool {
+// The same of a chain of records.
+fn is_chained(disk: &mut Untold, log: &mut Log, chain: &[u8], calls: u64) -> bool {
+    if log.length().saturating_add(chain.len() as u64) > LOG_LIMIT {
+        return false;
+    }
+    disk.stop_after(calls);
+    log.append_chain(disk, chain).is_ok()
+}
+
+// The bodies of so many records, of the commits from 4 on.
+fn chain_of(alloc: Global, records: u64) -> Result<Vec<u8>, Fail> {
+    let mut chain = Vec::new(alloc);
+    for number in 4..records.saturating_add(4) {
+        add_body(&mut chain, &spell_body(alloc, number, Mode::NoRw, EFFECT)?)?;
+    }
+    Ok(chain)
+}
+
+// Adds so many records at once to the log of a disk, by so many calls; one record is added alone.
+fn is_added_to(alloc: Global, disk: &mut Untold, records: u64, calls: u64) -> Result<bool, Fail> {
+    let chain = chain_of(alloc, records)?;
     match open_log(alloc, disk) {
         Ok(opened) => {
             let mut log = opened.0;
-            is_added(disk, &mut log, body, calls)
+            if records == 1 {
+                return Ok(is_added(disk, &mut log, &chain, calls));
+            }
+            Ok(is_chained(disk, &mut log, &chain, calls))
         }
-        Err(_) => false,
+        Err(_) => Ok(false),
     }
 }
 
-// How many records a log of one has after a second was added, in so many calls, and a crash.
-fn after_append(alloc: Global, calls: u64, pick: Pick) -> Result<Opened, Fail> {
+// How many records a log of one has after others were added, in so many calls, and a crash.
+fn after_append(alloc: Global, records: u64, calls: u64, pick: Pick) -> Result<Opened, Fail> {
     let mut disk = Untold::new(log_bytes(alloc, 1)?, Vec::new(alloc));
-    let body = spell_body(alloc, 4, EFFECT)?;
-    if is_added_to(alloc, &mut disk, &body, calls) != (calls >= 4) {
+    if is_added_to(alloc, &mut disk, records, calls)? != (calls >= 4) {
         return Ok(Opened::Other);
     }
     let images = disk.crash(pick)?;
     Ok(open_bytes(alloc, images.log))
 }
 
-// Only once the gate is open the second record is there, and until then none of it.
-fn is_all_or_none(alloc: Global, calls: u64) -> Result<bool, Fail> {
-    let open = if calls >= 3 { 2 } else { 1 };
-    let synced = if calls >= 4 { 2 } else { 1 };
-    let old = after_append(alloc, calls, Pick::Old)?;
-    let new = after_append(alloc, calls, Pick::New)?;
-    let torn = after_append(alloc, calls, Pick::Torn(7))?;
-    let torn_open = after_append(alloc, calls, Pick::Torn(1))?;
+// Only once the first gate is open the new records are there, all of them, and until then none.
+fn is_all_or_none(alloc: Global, records: u64, calls: u64) -> Result<bool, Fail> {
+    let all = records.saturating_add(1);
+    let open = if calls >= 3 { all } else { 1 };
+    let synced = if calls >= 4 { all } else { 1 };
+    let old = after_append(alloc, records, calls, Pick::Old)?;
+    let new = after_append(alloc, records, calls, Pick::New)?;
+    let torn = after_append(alloc, records, calls, Pick::Torn(7))?;
+    let torn_open = after_append(alloc, records, calls, Pick::Torn(1))?;
     Ok(
         old == Opened::Records(synced)
             && new == Opened::Records(open)
@@ -168,7 +291,24 @@ fn is_all_or_none(alloc: Global, calls: u64) -> Result<bool, Fail> {
 #[test]
 fn appends_that_stop(rt: HostRuntime) -> Result<(), Fail> {
     for calls in 0..=4 {
-        assert!(rt; is_all_or_none(rt.alloc(), calls)?, "{calls}");
+        assert!(rt; is_all_or_none(rt.alloc(), 1, calls)?, "{calls}");
+    }
+    Ok(())
+}
+
+#[test]
+fn chains_that_stop(rt: HostRuntime) -> Result<(), Fail> {
+    for calls in 0..=4 {
+        assert!(rt; is_all_or_none(rt.alloc(), 3, calls)?, "{calls}");
+    }
+    Ok(())
+}
+
+// A thousand records are added by four calls, and by no fewer.
+#[test]
+fn long_chain(rt: HostRuntime) -> Result<(), Fail> {
+    for calls in 3..=4 {
+        assert!(rt; is_all_or_none(rt.alloc(), 1000, calls)?, "{calls}");
     }
     Ok(())
 }
@@ -206,11 +346,11 @@ fn small_logs(rt: HostRuntime) -> Result<(), Fail> {
     Ok(())
 }
 
-// Whether a log of two records, once emptied, holds none, and after an append over the first of
+// Whether a log of three records, once emptied, holds none, and after an append over the first of
 // them that one alone.
 fn is_used_again(alloc: Global) -> Result<bool, Fail> {
-    let mut disk = Untold::new(log_bytes(alloc, 2)?, Vec::new(alloc));
-    let body = spell_body(alloc, 9, EFFECT)?;
+    let mut disk = Untold::new(mixed_log(alloc)?, Vec::new(alloc));
+    let body = spell_body(alloc, 9, Mode::Full, EFFECT)?;
     let Ok(opened) = open_log(alloc, &mut disk) else {
         return Ok(false);
     };
@@ -240,7 +380,7 @@ fn with_two(alloc: Global, one: u64, two: u64) -> Option<usize> {
     let mut disk = Untold::new(Vec::new(alloc), Vec::new(alloc));
     let one = effect_of(alloc, one)?;
     let two = effect_of(alloc, two)?;
-    let found = add_two(alloc, &mut disk, &one, &two).ok()?;
+    let found = add_two(alloc, &mut disk, Mode::NoRw, &one, &two).ok()?;
     Some(found.len())
 }
 

@@ -28,6 +28,11 @@ impl Untold {
         self.disk.stop_after(calls.saturating_mul(2));
     }
 
+    // Makes the call with this number, from now on, fail with nothing done.
+    pub(crate) fn fail_at(&mut self, call: u64) {
+        self.disk.fail_at(call.saturating_mul(2));
+    }
+
     pub(crate) fn crash(self, pick: Pick) -> Result<Images, AllocError> {
         self.disk.crash(pick)
     }
