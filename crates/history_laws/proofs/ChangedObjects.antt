@@ -1,27 +1,29 @@
--- What comes among the changes of a run, and isn't made in it, its user might write in a moment of it.
-use Rattle.std.proofs.Common.{◌≡◌, ℕ, zero, suc, ◌≤◌, Bool, true, false, nat_le, nat_lt, ◌⊎◌, inl, inr, List, [], ◌∷◌, ◌++◌, length, Option, Some, None, is_some, refl, sym, ap, ◌∙◌, arith}
+-- What comes among the changes of a run, and isn't made in it, comes there by a write that is allowed.
+use Rattle.std.proofs.Common.{◌≡◌, ◌≢◌, ℕ, zero, suc, ◌≤◌, ◌+◌, Bool, true, false, cond, ◌&&◌, nat_le, nat_lt, ◌⊎◌, inl, inr, List, [], ◌∷◌, Option, Some, None, is_some, refl, sym, ap, ◌∙◌, arith}
 use Rattle.std.specs.FinMap.{get}
-use Rattle.std.proofs.lemmas.Bool.{false≢true, and_parts, and_from, lt-ltb, ltb-true}
+use Rattle.std.proofs.lemmas.Bool.{false≢true, and_parts, and_from, cases_eq, cases_Bool, lt-ltb, ltb-true}
+use Rattle.gem_meaning.proofs.radix_pages_lemmas.Tables.{get-insert_same, get-insert_other}
 use Rattle.gem_meaning.specs.texts.Bytes.{Bytes as Text}
+use Rattle.gem_meaning.specs.gem_object.Kinds.{is_shared}
+use Rattle.gem_meaning.specs.gem_object.declared.body.Body.{Body}
+use Rattle.gem_meaning.specs.gem_update.Update.{updated}
+use Rattle.gem_meaning.specs.gem_update.declared.update.Update.{Update}
 use Rattle.gem_meaning.specs.gem_image.Image.{Contents}
-use Rattle.gem_meaning.specs.gem_world.World.{Setting, World, name_of, is_drawn, is_made, touch}
-use Rattle.gem_meaning.specs.gem_world.Access.{a_read, a_write, is_allowed}
+use Rattle.gem_meaning.specs.gem_world.World.{Setting, World, name_of, is_drawn, is_made, shown, touch}
+use Rattle.gem_meaning.specs.gem_world.Changes.{with_body, in_segment, put, make, note}
+use Rattle.gem_meaning.specs.gem_world.Access.{a_read, a_write, is_allowed, touches_of, with_touches, after_allowed, accessed}
 use Rattle.gem_meaning.specs.object_programs.Budget.{Budget}
-use Rattle.gem_meaning.specs.object_programs.Guard.{Parts}
-use Rattle.gem_meaning.specs.object_programs.Atom.{Atom, Ask, Own, Kind, Made, Who, Put, Move, Note, Names, Make, Tick, Room, Show, done, named_where, ticked, spent_where, shown_where, touch_missing}
-use Rattle.gem_meaning.specs.object_programs.Run.{give, atom, and_then, Ending, gives, returns, fails, State, onward, perform, end_of}
+use Rattle.gem_meaning.specs.object_programs.Guard.{Parts, may_change, may_replace, may_make}
+use Rattle.gem_meaning.specs.object_programs.Atom.{Atom, Ask, Own, Kind, Made, Who, Put, Move, Note, Names, Make, Tick, Room, Show, done, MakeCheck, too_large, no_name, no_space, no_fault, make_check, with_new, made_where, made_by, named_where, ticked, spent_where, shown_where, touch_missing, replaced_where, edited_at, edited, updated_by, updated_at, updated_where, after_update}
+use Rattle.gem_meaning.specs.object_programs.Run.{atom}
 use Rattle.gem_meaning.specs.object_programs.Local.{nothing}
-use Rattle.gem_meaning.specs.object_programs.Steps.{Step, reading, writing, placing, shifting, noting, making, only, steps_program}
 use Rattle.gem_meaning.specs.object_programs.Laws.{Falls}
 use Rattle.gem_meaning.proofs.object_programs_lemmas.Kept.{kept}
 use Rattle.gem_meaning.proofs.object_programs_lemmas.Falling as falling
-use Rattle.gem_meaning.proofs.object_programs_lemmas.Written.{Had, steps_add}
-use Rattle.history_laws.proofs.Gains.{Gains}
-
--- an object of this name is among the changes, and wasn't made in the transaction
-abbrev pub IsChanged : ℕ → Setting → World → Type 0
-IsChanged name setting world =
-    (is_some (get world.changes name) ≡ true) × (is_made name setting world ≡ false)
+use Rattle.gem_meaning.proofs.object_programs_lemmas.Told.{make_elsewhere, now_made}
+use Rattle.gem_meaning.proofs.object_programs_lemmas.Worlds.{make_next, misses_next}
+use Rattle.history_laws.specs.Accesses.{asked_by, IsChanged}
+use Rattle.history_laws.proofs.Gains.{IsWrite, Gains}
 
 module _ (name : ℕ) (setting : Setting) where
   -- what was made stays so, as names are drawn one after the other
@@ -29,7 +31,8 @@ module _ (name : ℕ) (setting : Setting) where
       → is_some (get world.changes name) ≡ true → IsChanged name setting later
       → IsChanged name setting world
   unfolding is_made
-  unmade_before world later grows some changed = (some, by (is_made name setting world) refl)
+  unmade_before world later grows some changed =
+      record { there = some; old = by (is_made name setting world) refl }
     where
       by : (made : Bool) → is_made name setting world ≡ made → made ≡ false
       by false made = refl
@@ -40,95 +43,181 @@ module _ (name : ℕ) (setting : Setting) where
           let below = ltb-true name (name_of setting world.next) drawn.1 in
           let still : nat_lt name (name_of setting later.next) ≡ true
           = lt-ltb name (name_of setting later.next) (omega (arith, below, grows)) in
-          absurd (false≢true (sym changed.1 ∙ and_from _ _ (and_from _ _ drawn.0 still) changed.0))
+          absurd (false≢true (sym changed.old ∙ and_from _ _ (and_from _ _ drawn.0 still) changed.there))
 
   falls_of : {A : Type 0} (one : Atom A) (world : World) (budget : Budget)
       → world.next ≤ (done one setting world budget).world.next
   falls_of one world budget = (kept setting Falls (falling.budgets_fall setting) (atom one)
       (record { world = world; budget = budget; local = nothing (Unit {0}) })).next
 
-  -- a list of one command
-  one_step : (step : Step) (world later : World) (budget : Budget) → setting.first ≤ world.next
-      → (perform (steps_program (step ∷ [])) setting
-      (record { world = world; budget = budget; local = nothing (Unit {0}) })).state.world ≡ later
-      → IsChanged name setting later → get world.changes name ≡ None
-      → is_allowed a_write name setting world ≡ true
-  one_step step world later budget begun is changed none =
-      by (steps_add setting name (step ∷ []) state begun none
-      (ap (λ (w : World). is_some (get w.changes name)) is ∙ changed.0))
-    where
-      state : State (Unit {0})
-      state = record { world = world; budget = budget; local = nothing (Unit {0}) }
+  -- ---- what stands among the changes after each atom
 
-      -- nothing stands before the only command
-      alone : (before : List Step) (other : Step) (rest : List Step) → step ∷ [] ≡ before ++ other ∷ rest
-          → is_allowed a_write name setting (perform (steps_program before) setting state).state.world ≡ true
-          → is_allowed a_write name setting world ≡ true
-      alone [] other rest are allowed = allowed
-      alone (first ∷ []) other rest are allowed = absurd (omega (arith, ap length are))
-      alone (first ∷ second ∷ before) other rest are allowed = absurd (omega (arith, ap length are))
+  abbrev SameAt : World → World → Type 0
+  SameAt world later = get later.changes name ≡ get world.changes name
 
-      by : (is_made name setting (perform (steps_program (step ∷ [])) setting state).state.world ≡ true)
-          ⊎ Had setting name (step ∷ []) state → is_allowed a_write name setting world ≡ true
-      by (inl made) = absurd (false≢true (sym changed.1 ∙ (sym (ap (is_made name setting) is) ∙ made)))
-      by (inr had) = alone had.0 had.1 had.2 had.3 had.4
-
-  -- by what the changes had before
-  changed_where : (world later : World) → world.next ≤ later.next
-      → (get world.changes name ≡ None → is_allowed a_write name setting world ≡ true)
-      → IsChanged name setting later
-      → IsChanged name setting world ⊎ (is_allowed a_write name setting world ≡ true)
-  changed_where world later grows new changed = by (get world.changes name) refl
-    where
-      by : (found : Option Contents) → get world.changes name ≡ found
-          → IsChanged name setting world ⊎ (is_allowed a_write name setting world ≡ true)
-      by None is = inr (new is)
-      by (Some object) is = inl (unmade_before world later grows (ap is_some is) changed)
-
-  -- an atom that changes nothing
-  quiet : (world later : World) → is_some (get later.changes name) ≡ is_some (get world.changes name)
-      → IsChanged name setting later → get world.changes name ≡ None
-      → is_allowed a_write name setting world ≡ true
-  quiet world later same changed none =
-      absurd (false≢true (sym (ap is_some none) ∙ (sym same ∙ changed.0)))
-
-  end_world : {C : Type 0} (end : Ending C) (state : State (Unit {0}))
-      → (onward {A = Unit {0}} end state (λ answer after. perform (give tt) setting after)).state.world
-      ≡ state.world
-  end_world (gives answer) state = refl
-  end_world (returns value home) state = refl
-  end_world (fails fault) state = refl
-
-  abbrev start : World → Budget → State (Unit {0})
-  start world budget = record { world = world; budget = budget; local = nothing (Unit {0}) }
-
-  -- what an atom leaves as a list of one command, without its answer, or as it is
-  only_atom : {A : Type 0} (one : Atom A) (world : World) (budget : Budget)
-      → (perform (and_then (only (atom one)) (λ ended. steps_program [])) setting (start world budget)).state.world
-      ≡ (done one setting world budget).world
-  only_atom one world budget =
-      let first = perform (only (atom one)) setting (start world budget) in
-      end_world first.end first.state
-      ∙ end_world (end_of (done one setting world budget).answer)
-      (perform (atom one) setting (start world budget)).state
-
-  bare_atom : (one : Atom (Unit {0})) (world : World) (budget : Budget)
-      → (perform (and_then (atom one) (λ ended. steps_program [])) setting (start world budget)).state.world
-      ≡ (done one setting world budget).world
-  bare_atom one world budget =
-      let first = perform (atom one) setting (start world budget) in
-      end_world first.end first.state
-
-  pub touch_keys : (other : ℕ) (world : World) → get (touch other setting world).changes name ≡ get world.changes name
+  touch_keys : (other : ℕ) (world : World) → SameAt world (touch other setting world)
   unfolding touch
   touch_keys other world = refl
 
-  pub misses_keys : (parts : Parts) (names : List ℕ) (world : World)
-      → get (touch_missing parts names world).changes name ≡ get world.changes name
+  misses_keys : (parts : Parts) (names : List ℕ) (world : World)
+      → SameAt world (touch_missing parts names world)
   unfolding touch_missing
   misses_keys parts names world = refl
 
-  pub named_quiet : (enough : Bool) (world : World) (budget : Budget) → (named_where enough world budget).world ≡ world
+  note_keys : (at : ℕ) (update : Update) (world : World) → SameAt world (note at update setting world)
+  unfolding note
+  note_keys at update world = refl
+
+  put_keys : (at : ℕ) (new : Contents) (world : World) → name ≢ at → SameAt world (put at new world)
+  unfolding put
+  put_keys at new world apart = get-insert_other world.changes at new name apart
+
+  put_known : (at : ℕ) (old new : Contents) (world : World) → get world.changes at ≡ Some old
+      → is_some (get (put at new world).changes name) ≡ is_some (get world.changes name)
+  unfolding put
+  put_known at old new world there = elim (cases_eq name at) [
+    | inl same ↦ ap is_some (get-insert_same world.changes at new name same)
+        ∙ sym (ap is_some (ap (get world.changes) same ∙ there))
+    | inr apart ↦ ap is_some (get-insert_other world.changes at new name apart)
+  ]
+
+  among_keys : (at : ℕ) (found : Option Contents) (world : World)
+      → SameAt world (touches_of at found setting world)
+  unfolding touch
+  among_keys at None world = refl
+  among_keys at (Some object) world = refl
+
+  asked_keys : (at : ℕ) (world : World) → SameAt world (with_touches at setting world)
+  unfolding with_touches
+  asked_keys at world = among_keys at (shown at setting world) world
+
+  held_keys : (shared : Bool) (at : ℕ) (object : Contents) (world : World) → name ≢ at
+      → SameAt world (cond shared world (put at object world))
+  held_keys true at object world apart = refl
+  held_keys false at object world apart = put_keys at object world apart
+
+  allowed_keys : (at : ℕ) (found : Option Contents) (world : World) → name ≢ at
+      → SameAt world (after_allowed a_write at found world)
+  allowed_keys at None world apart = refl
+  allowed_keys at (Some object) world apart = held_keys (is_shared object.body) at object world apart
+
+  read_keys_by : (allowed : Bool) (at : ℕ) (world : World)
+      → SameAt world (cond allowed (with_touches at setting world) (with_touches at setting world))
+  read_keys_by true at world = asked_keys at world
+  read_keys_by false at world = asked_keys at world
+
+  read_keys : (at : ℕ) (world : World) → SameAt world (accessed a_read at setting world)
+  unfolding accessed
+  read_keys at world = read_keys_by (is_allowed a_read at setting world) at world
+
+  write_keys_by : (allowed : Bool) (at : ℕ) (world : World) → (name ≢ at) ⊎ (allowed ≡ false)
+      → SameAt world (cond allowed
+      (after_allowed a_write at (shown at setting world) (with_touches at setting world))
+      (with_touches at setting world))
+  write_keys_by false at world given = asked_keys at world
+  write_keys_by true at world (inl apart) =
+      allowed_keys at (shown at setting world) (with_touches at setting world) apart ∙ asked_keys at world
+  write_keys_by true at world (inr refused) = absurd (false≢true (sym refused))
+
+  write_keys : (at : ℕ) (world : World)
+      → (name ≢ at) ⊎ (is_allowed a_write at setting world ≡ false)
+      → SameAt world (accessed a_write at setting world)
+  unfolding accessed
+  write_keys at world given = write_keys_by (is_allowed a_write at setting world) at world given
+
+  replaced_keys : (may : Bool) (at : ℕ) (old new : Contents) (world : World)
+      → get world.changes at ≡ Some old
+      → is_some (get (replaced_where may at None new setting world).changes name)
+      ≡ is_some (get world.changes name)
+  replaced_keys true at old new world there = put_known at old new world there
+  replaced_keys false at old new world there = ap is_some (misses_keys _ _ world)
+
+  edited_keys_at : (at : ℕ) (edit : Contents → Contents) (found : Option Contents) (world : World)
+      → get world.changes at ≡ found
+      → is_some (get (edited_at at edit found setting world).changes name)
+      ≡ is_some (get world.changes name)
+  edited_keys_at at edit None world there = refl
+  edited_keys_at at edit (Some old) world there = replaced_keys
+      (may_change at old setting world && may_replace at old (edit old) setting world) at old (edit old)
+      world there
+
+  edited_keys : (at : ℕ) (edit : Contents → Contents) (world : World)
+      → is_some (get (edited at edit setting world).changes name) ≡ is_some (get world.changes name)
+  unfolding edited
+  edited_keys at edit world = edited_keys_at at edit (get world.changes at) world refl
+
+  replaced_apart : (may : Bool) (at : ℕ) (update : Update) (new : Contents) (world : World) → name ≢ at
+      → SameAt world (replaced_where may at (Some update) new setting world)
+  replaced_apart true at update new world apart =
+      put_keys at new (note at update setting world) apart ∙ note_keys at update world
+  replaced_apart false at update new world apart = misses_keys _ _ world
+
+  updated_apart_by : (at : ℕ) (update : Update) (old : Contents) (found : Option Body) (world : World)
+      → name ≢ at → SameAt world (updated_by at update old found setting world)
+  updated_apart_by at update old None world apart = refl
+  updated_apart_by at update old (Some body) world apart = replaced_apart
+      (may_replace at old (with_body body old) setting world) at update (with_body body old) world apart
+
+  updated_apart : (at : ℕ) (update : Update) (found : Option Contents) (world : World) → name ≢ at
+      → SameAt world (updated_at at update found setting world)
+  updated_apart at update None world apart = refl
+  updated_apart at update (Some old) world apart =
+      updated_apart_by at update old (updated update old.body) world apart
+
+  update_keys_by : (allowed : Bool) (at : ℕ) (update : Update) (world : World)
+      → (name ≢ at) ⊎ (allowed ≡ false)
+      → SameAt world (updated_where allowed at update setting (with_touches at setting world))
+  update_keys_by false at update world given = asked_keys at world
+  update_keys_by true at update world (inl apart) =
+      let now = with_touches at setting world in
+      updated_apart at update (shown at setting now) now apart ∙ asked_keys at world
+  update_keys_by true at update world (inr refused) = absurd (false≢true (sym refused))
+
+  update_keys : (at : ℕ) (update : Update) (world : World)
+      → (name ≢ at) ⊎ (is_allowed a_write at setting world ≡ false)
+      → SameAt world (after_update at update setting world)
+  unfolding after_update
+  update_keys at update world given =
+      update_keys_by (is_allowed a_write at setting world) at update world given
+
+  -- what is made in the transaction isn't among these
+  new_kept : (objects : List Contents) (world : World) → setting.first ≤ world.next
+      → IsChanged name setting (with_new objects setting world) → IsChanged name setting world
+  new_kept [] world begun changed = changed
+  new_kept (object ∷ rest) world begun changed =
+      let made = make object setting world in
+      let next : made.next ≡ world.next + 1 = make_next object setting world in
+      let then = new_kept rest made (omega (arith, begun, next)) changed in
+      elim (cases_eq name (name_of setting world.next)) [
+        | inl same ↦ absurd (false≢true (sym then.old
+            ∙ (ap (λ asked. is_made asked setting made) same ∙ now_made setting object world begun)))
+        | inr apart ↦ unmade_before world made (omega (arith, next))
+            (sym (ap is_some (make_elsewhere setting name object world apart)) ∙ then.there) then
+      ]
+
+  fit_kept : (fits : Bool) (objects : List Contents) (world : World) (budget : Budget)
+      → setting.first ≤ world.next
+      → IsChanged name setting (made_where fits objects setting world budget).world
+      → IsChanged name setting world
+  fit_kept true objects world budget begun changed = new_kept objects world begun changed
+  fit_kept false objects world budget begun changed =
+      let later = (made_where false objects setting world budget).world in
+      let next : later.next ≡ world.next = misses_next _ _ world in
+      unmade_before world later (omega (arith, next))
+      (sym (ap is_some (misses_keys _ _ world)) ∙ changed.there) changed
+
+  make_kept : (found : MakeCheck) (objects : List Contents) (world : World) (budget : Budget)
+      → setting.first ≤ world.next
+      → IsChanged name setting (made_by found objects setting world budget).world
+      → IsChanged name setting world
+  make_kept too_large objects world budget begun changed = changed
+  make_kept no_name objects world budget begun changed = changed
+  make_kept no_space objects world budget begun changed = changed
+  make_kept no_fault objects world budget begun changed =
+      fit_kept (may_make objects setting world) objects world budget begun changed
+
+  pub named_quiet : (enough : Bool) (world : World) (budget : Budget)
+      → (named_where enough world budget).world ≡ world
   named_quiet true world budget = refl
   named_quiet false world budget = refl
 
@@ -147,54 +236,64 @@ module _ (name : ℕ) (setting : Setting) where
   show_quiet true false text world budget = refl
   show_quiet true true text world budget = refl
 
+  -- ---- each atom
+
+  -- what it leaves, and how it is called by `Gains`
+  abbrev Gained : {A : Type 0} → Atom A → World → Budget → Type 0
+  Gained one world budget = IsChanged name setting (done one setting world budget).world
+      → IsChanged name setting world ⊎ IsWrite name setting (asked_by one) world
+
+  -- an atom that adds nothing
+  unmoved : {A : Type 0} (one : Atom A) (world : World) (budget : Budget)
+      → is_some (get (done one setting world budget).world.changes name)
+      ≡ is_some (get world.changes name) → Gained one world budget
+  unmoved one world budget same changed = inl (unmade_before world (done one setting world budget).world
+      (falls_of one world budget) (sym same ∙ changed.there) changed)
+
+  -- a write
+  written : {A : Type 0} (one : Atom A) (at : ℕ) (world : World) (budget : Budget)
+      → asked_by one ≡ Some (a_write, at)
+      → ((name ≢ at) ⊎ (is_allowed a_write at setting world ≡ false)
+      → SameAt world (done one setting world budget).world)
+      → Gained one world budget
+  written one at world budget asked same changed = elim (cases_eq name at) [
+    | inl here ↦ elim (cases_Bool (is_allowed a_write at setting world)) [
+      | inl allowed ↦ inr (
+        asked ∙ ap (λ other. Some (a_write, other)) (sym here),
+        ap (λ other. is_allowed a_write other setting world) here ∙ allowed,
+      )
+      | inr refused ↦ unmoved one world budget (ap is_some (same (inr refused))) changed
+    ]
+    | inr apart ↦ unmoved one world budget (ap is_some (same (inl apart))) changed
+  ]
+
   same_keys : (world later : World) → later ≡ world
       → is_some (get later.changes name) ≡ is_some (get world.changes name)
   same_keys world later is = ap (λ (w : World). is_some (get w.changes name)) is
 
-  -- an atom that is a command, and one that changes nothing
-  gained : {A : Type 0} (one : Atom A) (step : Step) (world : World) (budget : Budget)
-      → setting.first ≤ world.next
-      → (perform (steps_program (step ∷ [])) setting (start world budget)).state.world
-      ≡ (done one setting world budget).world
-      → IsChanged name setting (done one setting world budget).world
-      → IsChanged name setting world ⊎ (is_allowed a_write name setting world ≡ true)
-  gained one step world budget begun is changed =
-      let later = (done one setting world budget).world in
-      changed_where world later (falls_of one world budget)
-      (one_step step world later budget begun is changed) changed
-
-  unmoved : {A : Type 0} (one : Atom A) (world : World) (budget : Budget)
-      → is_some (get (done one setting world budget).world.changes name)
-      ≡ is_some (get world.changes name)
-      → IsChanged name setting (done one setting world budget).world
-      → IsChanged name setting world ⊎ (is_allowed a_write name setting world ≡ true)
-  unmoved one world budget same changed =
-      let later = (done one setting world budget).world in
-      changed_where world later (falls_of one world budget) (quiet world later same changed) changed
-
-  pub changed_step : {A : Type 0} (one : Atom A) (world : World) (budget : Budget)
-      → setting.first ≤ world.next → IsChanged name setting (done one setting world budget).world
-      → IsChanged name setting world ⊎ (is_allowed a_write name setting world ≡ true)
-  changed_step (Ask a_read at) world budget begun changed = gained (Ask a_read at) (reading at) world
-      budget begun (only_atom (Ask a_read at) world budget) changed
-  changed_step (Ask a_write at) world budget begun changed = gained (Ask a_write at) (writing at)
-      world budget begun (only_atom (Ask a_write at) world budget) changed
+  changed_step : {A : Type 0} (one : Atom A) (world : World) (budget : Budget)
+      → setting.first ≤ world.next → Gained one world budget
+  changed_step (Ask a_read at) world budget begun changed =
+      unmoved (Ask a_read at) world budget (ap is_some (read_keys at world)) changed
+  changed_step (Ask a_write at) world budget begun changed =
+      written (Ask a_write at) at world budget refl (write_keys at world) changed
   changed_step Own world budget begun changed =
       unmoved Own world budget (ap is_some (touch_keys setting.user world)) changed
   changed_step (Kind at) world budget begun changed =
       unmoved (Kind at) world budget (ap is_some (misses_keys _ _ world)) changed
   changed_step (Made at) world budget begun changed = inl changed
   changed_step Who world budget begun changed = inl changed
-  changed_step (Put at body) world budget begun changed = gained (Put at body) (placing at body) world
-      budget begun (bare_atom (Put at body) world budget) changed
-  changed_step (Move at segment) world budget begun changed = gained (Move at segment)
-      (shifting at segment) world budget begun (bare_atom (Move at segment) world budget) changed
-  changed_step (Note at update) world budget begun changed = gained (Note at update)
-      (noting at update) world budget begun (bare_atom (Note at update) world budget) changed
+  changed_step (Put at body) world budget begun changed =
+      unmoved (Put at body) world budget (edited_keys at (with_body body) world) changed
+  changed_step (Move at segment) world budget begun changed =
+      unmoved (Move at segment) world budget (edited_keys at (in_segment segment) world) changed
+  changed_step (Note at update) world budget begun changed =
+      written (Note at update) at world budget refl (update_keys at update world) changed
   changed_step (Names count) world budget begun changed = unmoved (Names count) world budget
       (same_keys world _ (named_quiet _ world budget)) changed
-  changed_step (Make objects_at) world budget begun changed = gained (Make objects_at)
-      (making objects_at) world budget begun (only_atom (Make objects_at) world budget) changed
+  changed_step (Make objects_at) world budget begun changed =
+      let objects = objects_at (name_of setting world.next) in
+      inl (make_kept (make_check objects world budget) objects world budget begun changed)
   changed_step Tick world budget begun changed =
       unmoved Tick world budget (same_keys world _ (tick_quiet budget.units world budget)) changed
   changed_step (Room slots) world budget begun changed = unmoved (Room slots) world budget
@@ -202,7 +301,18 @@ module _ (name : ℕ) (setting : Setting) where
   changed_step (Show text) world budget begun changed = unmoved (Show text) world budget
       (same_keys world _ (show_quiet _ _ text world budget)) changed
 
+  -- whether it is so can be told
+  changed_told : (world : World) → IsChanged name setting world ⊎ (IsChanged name setting world → ⊥)
+  changed_told world = elim (cases_Bool (is_some (get world.changes name))) [
+    | inl there ↦ elim (cases_Bool (is_made name setting world)) [
+      | inl made ↦ inr (λ changed. false≢true (sym changed.old ∙ made))
+      | inr old ↦ inl (record { there = there; old = old })
+    ]
+    | inr none ↦ inr (λ changed. false≢true (sym none ∙ changed.there))
+  ]
+
   pub changed_gains : Gains name setting (IsChanged name setting)
   changed_gains = record {
     step = λ {A} one world budget begun changed. changed_step one world budget begun changed;
+    told = changed_told;
   }

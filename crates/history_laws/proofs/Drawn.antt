@@ -2,14 +2,14 @@
 use Rattle.std.proofs.Common.{◌≡◌, ℕ, ◌-◌, ◌≤◌, ◌<◌, Bool, true, false, not, cond, ◌⊎◌, inl, inr, ⊎_elim, List, [], ◌∷◌, filter, Option, Some, None, is_some, option_map, refl, sym, ap, ◌∙◌, arith}
 use Rattle.std.specs.Ordering.{nat_cmp, eq_by_cmp, is_eq}
 use Rattle.std.specs.Cmp.{nat_cmp_total, tied_itself}
-use Rattle.std.specs.FinMap.{get, entries, get-entries, get-empty}
+use Rattle.std.specs.FinMap.{get, entries, get-entries}
 use Rattle.std.specs.FinMap.Entries.{find}
 use Rattle.std.proofs.lemmas.Bool.{false≢true, and_parts, and_from, leb-true, ltb-true}
 use Rattle.gem_meaning.specs.gem_value.Oid.{oid_number}
 use Rattle.gem_meaning.specs.gem_object.declared.object.Object.{Object}
 use Rattle.gem_meaning.specs.gem_image.Image.{Contents, contents_of, objects_in}
 use Rattle.gem_meaning.specs.gem_record.declared.record.Entry.{Entry}
-use Rattle.gem_meaning.specs.gem_world.World.{Setting, World, untouched, as_of, is_drawn, is_made}
+use Rattle.gem_meaning.specs.gem_world.World.{Setting, World, as_of, is_drawn, is_made}
 use Rattle.gem_meaning.specs.gem_world.Changes.{was_made, was_written, made_objects, written_objects}
 use Rattle.gem_meaning.specs.object_programs.Laws.{IsInReach}
 use Rattle.gem_meaning.specs.gem_record.Record.{all_uncommitted, record_of}

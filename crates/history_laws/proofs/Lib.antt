@@ -17,8 +17,15 @@ pub mod Locked
 pub mod Clean
 pub mod Merges
 pub mod Shown
-pub mod Rights
 pub mod Gains
 pub mod ChangedObjects
 pub mod NotedObjects
 pub mod Writes
+pub mod Unseen
+pub mod Obeys
+pub mod ObeyedNotes
+pub mod ObeyedParts
+pub mod ObeyedFirst
+pub mod ObeyedLater
+pub mod ObeyedTrees
+pub mod Obeyed

@@ -1,7 +1,7 @@
--- What a run notes an update of its user might write in a moment of it.
+-- What a run notes an update of is noted by a write that is allowed.
 use Rattle.std.proofs.Common.{◌≡◌, ◌≢◌, ℕ, ◌≤◌, Bool, true, false, ◌&&◌, ◌||◌, cond, nat_eq, ◌⊎◌, inl, inr, List, [], ◌∷◌, ◌++◌, map, Option, Some, None, refl, sym, ap, ◌∙◌}
 use Rattle.std.specs.FinMap.{get}
-use Rattle.std.proofs.lemmas.Bool.{cases_eq, ne_eqb}
+use Rattle.std.proofs.lemmas.Bool.{false≢true, cases_eq, cases_Bool, ne_eqb}
 use Rattle.std.proofs.lemmas.List.{map-append}
 use Rattle.std.proofs.lemmas.List.Folds.{list_any-append}
 use Rattle.gem_meaning.specs.gem_object.Kinds.{is_shared}
@@ -15,24 +15,20 @@ use Rattle.gem_meaning.specs.gem_world.Access.{Access, a_read, a_write, is_allow
 use Rattle.gem_meaning.specs.object_programs.Budget.{Budget}
 use Rattle.gem_meaning.specs.object_programs.Guard.{Parts, may_change, may_replace, may_make}
 use Rattle.gem_meaning.specs.object_programs.Atom.{Atom, Ask, Own, Kind, Made, Who, Put, Move, Note, Names, Make, Tick, Room, Show, done, MakeCheck, too_large, no_name, no_space, no_fault, make_check, with_new, made_where, made_by, touch_missing, replaced_where, edited_at, edited, updated_by, updated_at, updated_where, after_update}
-use Rattle.history_laws.proofs.Gains.{Gains}
+use Rattle.history_laws.specs.Accesses.{asked_by, IsNoted}
+use Rattle.history_laws.proofs.Gains.{IsWrite, Gains}
 use Rattle.history_laws.proofs.ChangedObjects.{named_quiet, tick_quiet, room_quiet, show_quiet}
 
-abbrev pub noted_names : World → List ℕ
+abbrev noted_names : World → List ℕ
 noted_names world = map (λ entry. entry.0) world.updates
-
--- an update of this name was noted
-abbrev pub IsNoted : ℕ → World → Type 0
-IsNoted name world = is_among name (noted_names world) ≡ true
 
 module _ (name : ℕ) (setting : Setting) where
   abbrev NotesSame : World → World → Type 0
   NotesSame world later = later.updates ≡ world.updates
 
-  notes_by : (world later : World) → NotesSame world later → IsNoted name later
-      → IsNoted name world ⊎ (is_allowed a_write name setting world ≡ true)
+  notes_by : (world later : World) → NotesSame world later → IsNoted name later → IsNoted name world
   notes_by world later same noted =
-      inl (sym (ap (λ us. is_among name (map (λ entry. entry.0) us)) same) ∙ noted)
+      sym (ap (λ us. is_among name (map (λ entry. entry.0) us)) same) ∙ noted
 
   touch_notes : (at : ℕ) (world : World) → NotesSame world (touch at setting world)
   unfolding touch
@@ -73,10 +69,12 @@ module _ (name : ℕ) (setting : Setting) where
       (after_allowed access at (shown at setting world) (with_touches at setting world))
       (with_touches at setting world))
   access_notes_by true access at world =
-      allowed_notes access at (shown at setting world) (with_touches at setting world) ∙ asked_notes at world
+      allowed_notes access at (shown at setting world) (with_touches at setting world)
+      ∙ asked_notes at world
   access_notes_by false access at world = asked_notes at world
 
-  access_notes : (access : Access) (at : ℕ) (world : World) → NotesSame world (accessed access at setting world)
+  access_notes : (access : Access) (at : ℕ) (world : World)
+      → NotesSame world (accessed access at setting world)
   unfolding accessed
   access_notes access at world = access_notes_by (is_allowed access at setting world) access at world
 
@@ -165,19 +163,23 @@ module _ (name : ℕ) (setting : Setting) where
   update_gains : (allowed : Bool) (at : ℕ) (update : Update) (world : World)
       → is_allowed a_write at setting world ≡ allowed
       → IsNoted name (updated_where allowed at update setting (with_touches at setting world))
-      → IsNoted name world ⊎ (is_allowed a_write name setting world ≡ true)
+      → IsNoted name world ⊎ IsWrite name setting (Some (a_write, at)) world
   update_gains false at update world is noted =
-      notes_by world (with_touches at setting world) (asked_notes at world) noted
+      inl (notes_by world (with_touches at setting world) (asked_notes at world) noted)
   update_gains true at update world is noted =
       let now = with_touches at setting world in
       elim (cases_eq name at) [
-        | inl same ↦ inr (ap (λ asked. is_allowed a_write asked setting world) same ∙ is)
-        | inr apart ↦ notes_by world now (asked_notes at world)
-            (sym (updated_apart at update (shown at setting now) now apart) ∙ noted)
+        | inl same ↦ inr (
+          ap (λ asked. Some (a_write, asked)) (sym same),
+          ap (λ asked. is_allowed a_write asked setting world) same ∙ is,
+        )
+        | inr apart ↦ inl (notes_by world now (asked_notes at world)
+            (sym (updated_apart at update (shown at setting now) now apart) ∙ noted))
       ]
 
-  note_gains : (at : ℕ) (update : Update) (world : World) → IsNoted name (after_update at update setting world)
-      → IsNoted name world ⊎ (is_allowed a_write name setting world ≡ true)
+  note_gains : (at : ℕ) (update : Update) (world : World)
+      → IsNoted name (after_update at update setting world)
+      → IsNoted name world ⊎ IsWrite name setting (Some (a_write, at)) world
   unfolding after_update
   note_gains at update world noted =
       update_gains (is_allowed a_write at setting world) at update world refl noted
@@ -189,13 +191,13 @@ module _ (name : ℕ) (setting : Setting) where
   unnoted : {A : Type 0} (one : Atom A) (world : World) (budget : Budget)
       → NotesSame world (done one setting world budget).world
       → IsNoted name (done one setting world budget).world
-      → IsNoted name world ⊎ (is_allowed a_write name setting world ≡ true)
+      → IsNoted name world ⊎ IsWrite name setting (asked_by one) world
   unnoted one world budget same noted =
-      notes_by world (done one setting world budget).world same noted
+      inl (notes_by world (done one setting world budget).world same noted)
 
   noted_step : {A : Type 0} (one : Atom A) (world : World) (budget : Budget)
       → setting.first ≤ world.next → IsNoted name (done one setting world budget).world
-      → IsNoted name world ⊎ (is_allowed a_write name setting world ≡ true)
+      → IsNoted name world ⊎ IsWrite name setting (asked_by one) world
   noted_step (Ask access at) world budget begun noted =
       unnoted (Ask access at) world budget (access_notes access at world) noted
   noted_step Own world budget begun noted =
@@ -225,4 +227,8 @@ module _ (name : ℕ) (setting : Setting) where
   pub noted_gains : Gains name setting (IsNoted name)
   noted_gains = record {
     step = λ {A} one world budget begun noted. noted_step one world budget begun noted;
+    told = λ world. elim (cases_Bool (is_among name (noted_names world))) [
+      | inl noted ↦ inl noted
+      | inr none ↦ inr (λ noted. false≢true (sym none ∙ noted))
+    ];
   }

@@ -3,11 +3,12 @@
 ghost use Rattle.std.specs.Prelude.{◌≡◌, ◌≢◌, ◌⊎◌, ◌≤◌, ◌<◌, ◌+◌, ◌∷◌, ◌++◌, [], ℕ, List, length, Option, None, Some, IsSome};
 ghost use Rattle.std.specs.FinMap.{get};
 ghost use Rattle.std.specs.List.{AllByRecursion, Contains};
-ghost use Rattle.gem_meaning.specs.gem_image.Image.{IsImage};
+ghost use Rattle.gem_meaning.specs.gem_image.Image.{Image, IsImage};
 ghost use Rattle.gem_meaning.specs.gem_value.Conflict.{kind_number};
 ghost use Rattle.gem_meaning.specs.gem_value.declared.conflict.Conflict.{Conflict};
 ghost use Rattle.gem_meaning.specs.gem_value.declared.conflict.ConflictKind.TheVariants.{WriteReadLock, WriteWriteLock};
 ghost use Rattle.gem_meaning.specs.gem_record.History.{entry_of};
+ghost use Rattle.gem_meaning.specs.gem_record.Record.{record_of};
 ghost use Rattle.gem_meaning.specs.gem_record.declared.record.TxnRecord.{TxnRecord};
 ghost use Rattle.gem_meaning.specs.gem_record.declared.record.Entry.{Entry};
 ghost use Rattle.gem_meaning.specs.gem_record.declared.mode.Mode.TheVariants.{Full, NoRw};
@@ -17,14 +18,19 @@ ghost use Rattle.gem_meaning.specs.lock_table.Locks.{kind_held, denied_for};
 ghost use Rattle.gem_meaning.specs.lock_table.declared.lock.LockKind.{LockKind};
 ghost use Rattle.gem_meaning.specs.commit_check.Conflicts.{last_change};
 ghost use Rattle.gem_meaning.specs.commit_check.Table.{IsTouched, IsWritten, IsUpdated};
+ghost use Rattle.gem_meaning.specs.gem_world.World.{Setting, World};
+ghost use Rattle.gem_meaning.specs.gem_world.Access.{Access, with_touches};
+ghost use Rattle.gem_meaning.specs.object_programs.Atom.{access_fault};
 ghost use Rattle.gem_meaning.specs.object_programs.Laws.{Stays};
+ghost use Rattle.gem_meaning.specs.gem_language.Commands.{Command, failed, reply_of};
+ghost use Rattle.gem_meaning.specs.gem_language.Transaction.{command_outcome};
 ghost use Rattle.gem_meaning.specs.declared.event.What.TheVariants.{Placed, Held, Dropped, Left, Checked, Halted};
 ghost use Rattle.gem_meaning.specs.Opened.{Opened, entry_setting, run_at};
 ghost use Rattle.gem_meaning.specs.Effect.{MergesFit, effect_at};
 ghost use Rattle.gem_meaning.specs.Events.{Event, Told, Standing, told_more, image_at, next_counter, NamesAreFree, ordinary_at, record_at_place, effect_of, after_events, standing, events_of, conflicts_at, IsRunning, HasHaltedAt, run_at_place};
 ghost use Rattle.gem_meaning.specs.After.{stored_with, stored_after};
 ghost use Rattle.gem_meaning.specs.Serial.{IsPlaced, IsOfScript, IsConsistent, IsSerial, IsRecorded, HoldsSome, CanServe};
-ghost use Rattle.history_laws.specs.Accesses.{IsAllowed, MightWrite, moments_at_place};
+ghost use Rattle.history_laws.specs.Accesses.{Moment, moments_of, moments_at, moments_at_place, IsRefused, IsChanged, IsNoted, BeginsByWrite, DifferUnseen};
 ghost use Rattle.history_laws.specs.Clean.{IsHeldClean};
 ghost use Rattle.history_laws.specs.Halts.{IsOfLocks};
 
@@ -237,14 +243,48 @@ pub fn shown_after_view()
     commits_keep_images_sound();
 }
 
-/// An access that is asked for is allowed to the user, by what is seen when it comes, or is refused
-/// (E10, E11); this holds of moments of any kind. And a transaction at its place writes and updates
-/// no object that the user might not write in one of the moments of this run.
+/// Which accesses there are, and what the others come to. Each is judged by the objects that are
+/// seen when it comes.
+///
+/// `refused_ends`: an access that isn't allowed is the last moment of its command, wherever the
+/// command runs: the command's reply is the access's error, E10 or E11, and it leaves the objects as
+/// they are in that moment, but for the touches of the access.
+///
+/// `unseen_is_unknown`: whoever runs a transaction learns nothing of an object to which no access was
+/// made that was allowed, but what is open to everybody: its class, its segment, the kind of its
+/// body, what of a class is fixed, and the rights of a segment. Images that differ from place and
+/// view only in more than that, at such names, and not in the user's own profile, give the same
+/// replies and changes, after the same moments (`same_moments`), and the same record (`same_record`).
+///
+/// `written`, `updated`: each object that a transaction at its place writes or updates is one that it
+/// begins to change, or to update, by a write that is asked for and allowed at that moment.
 pub fn accesses_are_allowed()
-    ensures each { (o : Opened) (s : Standing) (e : Entry) → AllByRecursion
-        (IsAllowed (entry_setting o e (ordinary_at s e) (image_at s e.view))) (moments_at_place o s e) }
-    ensures changed { (o : Opened) (s : Standing) (e : Entry) (name : ℕ)
-        → IsWritten (record_at_place o s e) name ⊎ IsUpdated (record_at_place o s e) name
-        → MightWrite name (entry_setting o e (ordinary_at s e) (image_at s e.view))
-        (moments_at_place o s e) }
+    ensures refused_ends { (command : Command) (setting : Setting) (world : World)
+        (before later : List Moment) (moment : Moment) (access : Access) (name : ℕ)
+        → moments_of command setting world ≡ before ++ moment ∷ later
+        → IsRefused access name setting moment
+        → (later ≡ [])
+        × (reply_of (command_outcome command setting world).end
+        ≡ failed (access_fault access name))
+        × ((command_outcome command setting world).state.world
+        ≡ with_touches name setting moment.world) }
+    ensures unseen_is_unknown { (o : Opened) (e : Entry) (place view other seen : Image)
+        → DifferUnseen other seen (entry_setting o e place view) (moments_at o e place view)
+        → run_at o e other seen ≡ run_at o e place view }
+    ensures same_moments { (o : Opened) (e : Entry) (place view other seen : Image)
+        → DifferUnseen other seen (entry_setting o e place view) (moments_at o e place view)
+        → moments_at o e other seen ≡ moments_at o e place view }
+    ensures same_record { (o : Opened) (e : Entry) (place view other seen : Image)
+        → DifferUnseen other seen (entry_setting o e place view) (moments_at o e place view)
+        → record_of e (entry_setting o e other seen) (run_at o e other seen).world
+        ≡ record (record_of e (entry_setting o e place view) (run_at o e place view).world)
+        { base = seen } }
+    ensures written { (o : Opened) (s : Standing) (e : Entry) (name : ℕ)
+        → let setting = entry_setting o e (ordinary_at s e) (image_at s e.view) in
+        IsWritten (record_at_place o s e) name
+        → BeginsByWrite name (IsChanged name setting) setting (moments_at_place o s e) }
+    ensures updated { (o : Opened) (s : Standing) (e : Entry) (name : ℕ)
+        → IsUpdated (record_at_place o s e) name
+        → BeginsByWrite name (IsNoted name)
+        (entry_setting o e (ordinary_at s e) (image_at s e.view)) (moments_at_place o s e) }
 {}

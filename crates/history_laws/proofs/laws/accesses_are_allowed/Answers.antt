@@ -1,13 +1,22 @@
-use Rattle.gem_meaning.specs.Opened.{entry_setting}
-use Rattle.gem_meaning.specs.Events.{image_at, ordinary_at}
-use Rattle.history_laws.specs.Accesses.{moments_at_place}
-use Rattle.history_laws.proofs.Rights.{all_judged}
-use Rattle.history_laws.proofs.Writes.{might_write}
+use Rattle.history_laws.proofs.Writes.{written_by_write, updated_by_write}
+use Rattle.history_laws.proofs.Unseen.{same_run, same_moments, same_record}
+use Rattle.history_laws.proofs.Obeyed.{refused_ends}
 use Rattle.history_laws.proofs.laws.accesses_are_allowed.Goals as goal
 
-pub returns-clause-each : goal.returns-clause-each
-returns-clause-each c o s e =
-    all_judged (entry_setting o e (ordinary_at s e) (image_at s e.view)) (moments_at_place o s e)
+pub returns-clause-refused_ends : goal.returns-clause-refused_ends
+returns-clause-refused_ends c = refused_ends
 
-pub returns-clause-changed : goal.returns-clause-changed
-returns-clause-changed c = might_write
+pub returns-clause-unseen_is_unknown : goal.returns-clause-unseen_is_unknown
+returns-clause-unseen_is_unknown c = same_run
+
+pub returns-clause-same_moments : goal.returns-clause-same_moments
+returns-clause-same_moments c = same_moments
+
+pub returns-clause-same_record : goal.returns-clause-same_record
+returns-clause-same_record c = same_record
+
+pub returns-clause-written : goal.returns-clause-written
+returns-clause-written c = written_by_write
+
+pub returns-clause-updated : goal.returns-clause-updated
+returns-clause-updated c = updated_by_write
