@@ -1,5 +1,5 @@
 -- A session's commits and aborts.
-use Rattle.std.proofs.Common.{◌≡◌, ◌∙◌, refl, sym, ap, subst, ℕ, ◌+◌, ◌-◌, ◌≤◌, true, false, true≢false, Some, IsSome, List, [], ◌∷◌, ◌++◌, arith, append-nil}
+use Rattle.std.proofs.Common.{◌≡◌, ◌∙◌, refl, sym, ap, subst, ℕ, ◌+◌, ◌-◌, ◌≤◌, true, false, true≢false, Some, IsSome, List, [], ◌∷◌, ◌++◌, arith, append-nil, inr}
 use Rattle.std.specs.List.{AllByRecursion, slice_get}
 use Rattle.gem_image.specs.Image.{objects_in}
 use Rattle.gem_sound.specs.Parts.{user_at}
@@ -20,9 +20,10 @@ use Rattle.gem_meaning.specs.Opened.{Opened, commands_of, record_on}
 use Rattle.gem_meaning.specs.Events.{Event, Told, next_counter, after_events, events_of, Extends, OthersCame, run_on_view, conflicts_at, effect_of, standing, IsRunning, HasHaltedAt}
 use Rattle.gem_meaning.specs.After.{record_size, log_after}
 use Rattle.gem_meaning.specs.Serial.{IsSerialFrom, IsSerial, IsRecorded, EndedBefore, EndsTransaction, CanServe}
-use Rattle.gem_meaning.specs.State.{SessionState, entry_to, next_transaction, record_to}
+use Rattle.gem_meaning.specs.State.{SessionState, CommandPlace, entry_to, next_transaction, record_to}
 use Rattle.gem_meaning.specs.Runs.{setting_of}
-use Rattle.gem_meaning.specs.Commits.{SeesNumber, IsClear, size_found, MayCommit}
+use Rattle.gem_meaning.specs.Commits.{SeesNumber, IsClear, size_found, MayCommit, CommitReply}
+use Rattle.gem_meaning.specs.Session.{CommandSays}
 use Rattle.stone_core.specs.Port.{PortState, CommitSays, GoesOn, event_of_answer, size_at, IsFree, MayPlace}
 use Rattle.stone_core.specs.declared.port.CommitAnswer.{CommitAnswer}
 use Rattle.stone_core.specs.declared.port.CommitAnswer.TheVariants.{Halted as HaltedAt, ReadOnly, Conflicts, LogFull, DiskFault, Placed as PlacedAt, NoMemory as ShortOfMemory}
@@ -30,7 +31,7 @@ use Rattle.history_laws.proofs.Apart.{records_stay}
 use Rattle.history_laws.proofs.Halts.{runs_front}
 use Rattle.history_laws.proofs.OneMore.{serial_front}
 use Rattle.gem_session.specs.declared.session.Session.{Session}
-use Rattle.gem_session.specs.Running.{ends_transaction, commit_line, session_state, IsCommandNumber, StandsBefore, ComesTo, HasEnded, Begins, Replied}
+use Rattle.gem_session.specs.Running.{ends_transaction, commit_line, session_state, IsCommandNumber, StandsBefore, ComesTo, HasEnded, Begins, Replied, FallsShort}
 use Rattle.gem_session.proofs.Others.{nobody_came, came_and_came, extends_by, number_on}
 use Rattle.gem_session.proofs.Apart.{apart_both, apart_later, apart_of_others}
 use Rattle.gem_session.proofs.Counters.{next_of_placed}
@@ -273,61 +274,58 @@ module _ (o : Opened) (es : List Event) (number : ℕ) (s : Session) (stands : S
         stands = stands_kept o es es' number s Commit is tt refl (λ m. refl) stands (pass_others o s.session es es' came);
       }
 
-  pub commit_unchanged : (es' es'' : List Event) (at : ℕ) (s' : Session) → s.spoiled ≡ false → CommitSays o es es' (record_with number s) (ReadOnly at) →
-      Begins o es' es'' (λ view. next_transaction St view number) s' → Replied o number es es'' s Commit (Unchanged at s'.number ∷ []) s'
-  commit_unchanged es' es'' at s' calm says begins =
-      let same = begins_session o es' es'' number s s' begins in
+  -- ---- what is said of a commit that ended its transaction, where the next one sees this number
+
+  abbrev place : List Event → CommandPlace
+  place es'' = record { opened = o; number = number; before = es; after = es'' }
+
+  unchanged_told : (es' es'' : List Event) (at view : ℕ) → s.spoiled ≡ false → CommitSays o es es' (record_with number s) (ReadOnly at)
+      → SeesNumber o s.session es' es'' view → CommitReply (place es'') St (Unchanged at view) (next_transaction St view number)
+  unchanged_told es' es'' at view calm says sees =
       let came = (others_before es' (ReadOnly at) (λ stood. refl) says).0 in
-      let sees : SeesNumber o s.session es' es'' s'.number = subst (λ (n : ℕ). SeesNumber o n es' es'' s'.number) same begins.sees in
-      let all : OthersCame s.session es es'' = came_and_came s.session es es' es'' came sees.0 in
-      record {
-        of_session = same;
-        says = (
-          Unchanged at s'.number,
-          refl,
-          (
-            calm,
-            says.fits.1 ∙ view_is number s,
-            (all, sees.1),
-            subst IsUnchanged (record_when es'' (extends_by s.session es es'' all) calm) says.fits.0,
-            begins.carries,
-            runs_front es says.others says.fits.2,
-          ),
-        );
-        stands = begins_stands o es' es'' number s s' begins;
-      }
+      let all : OthersCame s.session es es'' = came_and_came s.session es es' es'' came sees.0 in (
+        calm,
+        says.fits.1 ∙ view_is number s,
+        (all, sees.1),
+        subst IsUnchanged (record_when es'' (extends_by s.session es es'' all) calm) says.fits.0,
+        refl,
+        runs_front es says.others says.fits.2,
+      )
 
   placed_events : (es' : List Event) (at : ℕ) → (says : CommitSays o es es' (record_with number s) (PlacedAt at)) →
       es' ≡ (es ++ says.others) ++ (s.session, Placed (entry_to number St)) ∷ []
   unfolding record_of
   placed_events es' at says = says.events
 
-  pub commit_placed : (es' es'' : List Event) (at : ℕ) (s' : Session) → EffectsAre → CanServe o → IsSerial (At o es') → s.spoiled ≡ false → CommitSays o es es' (record_with number s) (PlacedAt at) →
-      Begins o es' es'' (λ view. next_transaction St view number) s' → Replied o number es es'' s Commit (Committed at s'.number ∷ []) s'
-  commit_placed es' es'' at s' effects serves serial calm says begins =
-      let same = begins_session o es' es'' number s s' begins in
+  placed_told : (es' es'' : List Event) (at view : ℕ) → EffectsAre → CanServe o → IsSerial (At o es') → s.spoiled ≡ false
+      → CommitSays o es es' (record_with number s) (PlacedAt at) → SeesNumber o s.session es' es'' view
+      → CommitReply (place es'') St (Committed at view) (next_transaction St view number)
+  placed_told es' es'' at view effects serves serial calm says sees =
       let own = own_others es' (PlacedAt at) says in
-      let there = serial_before es' says.others (s.session, Placed (entry_to number St)) (placed_events es' at says) serial in
-      record {
-        of_session = same;
-        says = (
-          Committed at s'.number,
-          refl,
-          (
-            calm,
-            record {
-              others = says.others;
-              are_others = own;
-              may = may_commit effects serves says.others own there calm says.fits.0.free says.fits.0;
-              number_is = says.fits.1;
-              sees = subst (λ x. SeesNumber o s.session x es'' s'.number) (placed_events es' at says)
-                  (subst (λ (n : ℕ). SeesNumber o n es' es'' s'.number) same begins.sees);
-            },
-            begins.carries,
-          ),
-        );
-        stands = begins_stands o es' es'' number s s' begins;
-      }
+      let there = serial_before es' says.others (s.session, Placed (entry_to number St)) (placed_events es' at says) serial in (
+        calm,
+        record {
+          others = says.others;
+          are_others = own;
+          may = may_commit effects serves says.others own there calm says.fits.0.free says.fits.0;
+          number_is = says.fits.1;
+          sees = subst (λ x. SeesNumber o s.session x es'' view) (placed_events es' at says) sees;
+        },
+        refl,
+      )
+
+  pub commit_told : (es' es'' : List Event) (answer : CommitAnswer) (view : ℕ) → EffectsAre → CanServe o → IsSerial (At o es') →
+      ends_transaction answer ≡ true → s.spoiled ≡ false → CommitSays o es es' (record_with number s) answer → SeesNumber o s.session es' es'' view →
+      CommandSays (place es'') St Commit (commit_line answer view ∷ []) (next_transaction St view number)
+  commit_told es' es'' (HaltedAt at) view effects serves serial ends calm says sees = absurd (true≢false (sym ends))
+  commit_told es' es'' (ReadOnly at) view effects serves serial ends calm says sees =
+      (Unchanged at view, refl, unchanged_told es' es'' at view calm says sees)
+  commit_told es' es'' (Conflicts found) view effects serves serial ends calm says sees = absurd (true≢false (sym ends))
+  commit_told es' es'' (LogFull length size) view effects serves serial ends calm says sees = absurd (true≢false (sym ends))
+  commit_told es' es'' DiskFault view effects serves serial ends calm says sees = absurd (true≢false (sym ends))
+  commit_told es' es'' (PlacedAt at) view effects serves serial ends calm says sees =
+      (Committed at view, refl, placed_told es' es'' at view effects serves serial calm says sees)
+  commit_told es' es'' ShortOfMemory view effects serves serial ends calm says sees = absurd (true≢false (sym ends))
 
   -- ---- the end of the transaction
 
@@ -409,14 +407,28 @@ module _ (o : Opened) (es : List Event) (number : ℕ) (s : Session) (stands : S
       ends_transaction answer ≡ true → s.spoiled ≡ false →
       CommitSays o es es' (record_with number s) answer → Begins o es' es'' (λ view. next_transaction St view number) s' →
       Replied o number es es'' s Commit (commit_line answer s'.number ∷ []) s'
-  commit_ended es' es'' (HaltedAt at) s' effects serves serial ends calm says begins = absurd (true≢false (sym ends))
-  commit_ended es' es'' (ReadOnly at) s' effects serves serial ends calm says begins = commit_unchanged es' es'' at s' calm says begins
-  commit_ended es' es'' (Conflicts found) s' effects serves serial ends calm says begins = absurd (true≢false (sym ends))
-  commit_ended es' es'' (LogFull length size) s' effects serves serial ends calm says begins = absurd (true≢false (sym ends))
-  commit_ended es' es'' DiskFault s' effects serves serial ends calm says begins = absurd (true≢false (sym ends))
-  commit_ended es' es'' (PlacedAt at) s' effects serves serial ends calm says begins =
-      commit_placed es' es'' at s' effects serves serial calm says begins
-  commit_ended es' es'' ShortOfMemory s' effects serves serial ends calm says begins = absurd (true≢false (sym ends))
+  commit_ended es' es'' answer s' effects serves serial ends calm says begins =
+      let same = begins_session o es' es'' number s s' begins in
+      record {
+        of_session = same;
+        says = subst (CommandSays (place es'') St Commit (commit_line answer s'.number ∷ [])) (sym begins.carries)
+            (commit_told es' es'' answer s'.number effects serves serial ends calm says
+            (subst (λ (n : ℕ). SeesNumber o n es' es'' s'.number) same begins.sees));
+        stands = begins_stands o es' es'' number s s' begins;
+      }
+
+  -- the next transaction didn't begin
+  pub commit_cut : (es' es'' : List Event) (answer : CommitAnswer) → EffectsAre → CanServe o → IsSerial (At o es') →
+      ends_transaction answer ≡ true → s.spoiled ≡ false →
+      CommitSays o es es' (record_with number s) answer → OthersCame s.session es' es'' → FallsShort o number es es'' s Commit
+  commit_cut es' es'' answer effects serves serial ends calm says came =
+      let view = (after_events o es'').number in
+      inr (record {
+        lines = commit_line answer view ∷ [];
+        next = next_transaction St view number;
+        of_session = refl;
+        says = commit_told es' es'' answer view effects serves serial ends calm says (came, refl);
+      })
 
   -- a commit after which the transaction goes on
   pub commit_goes_on : (es' : List Event) (answer : CommitAnswer) (view : ℕ) → EffectsAre → CanServe o → IsSerial (At o es') →
@@ -509,3 +521,8 @@ module _ (p q : PortState) (number : ℕ) (s : Session) (comes : ComesTo p numbe
       → Replied p.told.opened number p.told.events q.told.events s Commit (commit_line answer view ∷ []) s
   replied_going_on effects view stays = commit_goes_on p.told.opened p.told.events number s comes.stands comes.command q.told.events answer view
       effects comes.opened serial_as stays calm says_as
+
+  pub fell_short : EffectsAre → (r : PortState) → ends_transaction answer ≡ true → OthersCame s.session q.told.events r.told.events
+      → FallsShort p.told.opened number p.told.events r.told.events s Commit
+  fell_short effects r ends came = commit_cut p.told.opened p.told.events number s comes.stands comes.command q.told.events r.told.events answer
+      effects comes.opened serial_as ends calm says_as came

@@ -17,3 +17,4 @@ mod Serving
 mod Refusals
 mod Logins
 mod Unlocked
+mod CutShort

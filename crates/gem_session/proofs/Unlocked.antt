@@ -13,7 +13,7 @@ use Rattle.gem_meaning.specs.Serial.{HoldsSome}
 use Rattle.gem_meaning.specs.Locks.{leaving}
 use Rattle.stone_core.specs.Port.{LogoutSays}
 use Rattle.gem_session.specs.Running.{HoldsNone}
-use Rattle.history_laws.proofs.Views.{after_one_more}
+use Rattle.history_laws.proofs.Views.{after_one_more, after_more}
 use Rattle.gem_session.proofs.Apart.{not_taken}
 
 other_kind : (o : Opened) (s : Standing) (event : Event) (session oid : ℕ) → (event.0 == session) ≡ false
@@ -45,6 +45,16 @@ nothing_held o events session oid none =
 pub fresh_holds_none : (t : Told) (session : ℕ) → events_of session t.events ≡ [] → HoldsNone t session
 fresh_holds_none t session none (oid, some) =
     false≢true (sym (ap (λ (kind : Option LockKind). is_some kind) (nothing_held t.opened t.events session oid none)) ∙ some)
+
+-- nor does one when others' events have come
+pub holds_none_still : (o : Opened) (events others : List Event) (session : ℕ) → events_of session others ≡ [] →
+    HoldsNone (record { opened = o; events = events }) session → HoldsNone (record { opened = o; events = events ++ others }) session
+holds_none_still o events others session own none (oid, some) =
+    none (
+      oid,
+      ap (λ (kind : Option LockKind). is_some kind) (sym (ap (λ (s : Standing). kind_held s.locks session oid) (after_more o events others)
+          ∙ kinds_from o (after_events o events) others session oid own)) ∙ some,
+    )
 
 left_none : (o : Opened) (events : List Event) (session oid : ℕ) → kind_held (after_events o (events ++ (session, Left) ∷ [])).locks session oid ≡ None
 left_none o events session oid =

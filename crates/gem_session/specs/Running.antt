@@ -1,5 +1,5 @@
 -- What the fields of a running session stand for, and what each of its commands does to them.
-use Rattle.std.specs.Prelude.{◌≡◌, ℕ, ◌+◌, ◌-◌, ◌≤◌, ◌<◌, ◌⊎◌, Bool, true, false, not, ◌||◌, nat_le, List, [], ◌∷◌, length, Some, IsSome, is_some}
+use Rattle.std.specs.Prelude.{◌≡◌, ℕ, ◌+◌, ◌-◌, ◌≤◌, ◌<◌, ◌⊎◌, Bool, true, false, not, ◌||◌, nat_le, List, [], ◌∷◌, length, take, Some, IsSome, is_some}
 use Rattle.std.specs.List.{AllByRecursion, slice_get}
 use Rattle.std.specs.FinMap.{get}
 use Rattle.shell_words.specs.Script.{SessionCommands, is_logout}
@@ -9,18 +9,19 @@ use Rattle.gem_image.specs.Image.{objects_in}
 use Rattle.gem_sound.specs.Parts.{user_at}
 use Rattle.gem_replies.specs.declared.reply.Line.{Line}
 use Rattle.gem_replies.specs.declared.reply.Line.TheVariants.{NoMemory, Unchanged, Refused, Committed, Locked, Denied, NotHeld, Unlocked, Halted as HaltedLine, LogFull as LogFullLine, DiskFault as DiskFaultLine, ExtentFull, Checkpoint}
+use Rattle.gem_replies.specs.declared.reply.Reply.{Reply}
 use Rattle.gem_replies.specs.declared.reply.Transcript.{Transcript}
 use Rattle.running_objects.specs.Seen.{IsSoundState, Keeps, with_whole_budget}
 use Rattle.gem_meaning.specs.Commands.{object_command}
 use Rattle.gem_meaning.specs.Opened.{Opened, session_serial, commands_of, entry_commands, mode_at}
 use Rattle.gem_meaning.specs.Names.{user_in}
-use Rattle.gem_meaning.specs.Events.{Event, Told, image_at, next_counter, standing, events_of}
+use Rattle.gem_meaning.specs.Events.{Event, Told, image_at, next_counter, standing, after_events, events_of, OthersCame}
 use Rattle.gem_meaning.specs.Serial.{EndsTransaction, MayGoOn, EndedBefore, HoldsSome, CanServe, IsConsistent}
 use Rattle.gem_meaning.specs.State.{SessionState, first_transaction, entry_to, run_so_far}
 use Rattle.gem_meaning.specs.Runs.{setting_of}
 use Rattle.gem_meaning.specs.Commits.{SeesNumber}
-use Rattle.gem_meaning.specs.Session.{CommandSays, Says}
-use Rattle.stone_core.specs.Port.{PortState}
+use Rattle.gem_meaning.specs.Session.{CommandSays, until_logout, SaysOf, Says}
+use Rattle.stone_core.specs.Port.{PortState, LogoutSays}
 use Rattle.stone_core.specs.declared.port.CommitAnswer.{CommitAnswer}
 use Rattle.stone_core.specs.declared.port.CommitAnswer.TheVariants.{Halted, ReadOnly, Conflicts, LogFull, DiskFault, Placed, NoMemory as ShortOfMemory}
 use Rattle.stone_core.specs.declared.port.CheckAnswer.{CheckAnswer}
@@ -227,3 +228,45 @@ pub record HasLoggedIn (t : Told) (script : SessionCommands) (s : Session) : Typ
   pub view : s.number ≡ (standing t).number
   pub carries : session_state s ≡ first_transaction s.session s.view.state.seen.setting.user s.number
   pub stands : StandsBefore t 1 s
+
+-- ---- where memory runs out
+
+-- The command was done, by the events that came, as with a reply that the session would have given.
+pub record IsDone (o : Opened) (number : ℕ) (before after : List Event) (s : Session) (c : Command)
+    : Type 0 where
+  pub lines : List Line
+  pub next : SessionState
+  pub of_session : next.session ≡ s.session
+  pub says : CommandSays (record { opened = o; number = number; before = before; after = after })
+      (session_state s) c lines next
+
+-- what became of a command for whose reply there was no memory: nothing, or it was done
+abbrev pub FallsShort : Opened → (number : ℕ) → (before after : List Event) → Session → Command
+    → Type 0
+FallsShort o number before after s c =
+    OthersCame s.session before after ⊎ IsDone o number before after s c
+
+-- the same between these states of the session's port
+abbrev pub FallsShortBy : (p q : PortState) → (number : ℕ) → Session → Command → Type 0
+FallsShortBy p q number s c = FallsShort p.told.opened number p.told.events q.told.events s c
+
+-- What a session did for which memory ran out, by all events: it logged in, as one does that
+-- began when the first `seen` events had come, did the first `count` of its commands, each as with
+-- a reply that it might have given, and logged out. It made no other event.
+pub record WasCutShort (t : Told) (session seen : ℕ) (script : SessionCommands) : Type 0 where
+  pub of_script : slice_get t.opened.script (session - 1) ≡ Some script
+  pub count : ℕ
+  pub replies : List Reply
+  pub point : ℕ
+  pub view : ℕ
+  pub saw : seen ≤ point
+  pub within : point ≤ length t.events
+  pub sees : SeesNumber t.opened session [] (take point t.events) view
+  pub says : SaysOf (user_in (after_events t.opened (take point t.events)).image script.user)
+      t session point view (until_logout (take count script.commands)) replies
+
+-- It will have been cut short when it is logged out, whatever others do until then.
+abbrev pub IsToBeCutShort : Told → (session seen : ℕ) → SessionCommands → Type 0
+IsToBeCutShort t session seen script = (after : List Event)
+    → LogoutSays t.opened t.events after session
+    → WasCutShort (record t { events = after }) session seen script

@@ -1,5 +1,5 @@
 //! A session from its login to its logout.
-ghost use Rattle.std.specs.Prelude.{◌≡◌, ℕ, ◌+◌, ◌-◌, ◌≤◌, [], ◌∷◌, ◌++◌, true, Some, IfOk, length, take};
+ghost use Rattle.std.specs.Prelude.{◌≡◌, ℕ, ◌+◌, ◌-◌, ◌≤◌, [], ◌∷◌, ◌++◌, true, Some, IfOk, OnErr, length, take};
 ghost use Rattle.std.specs.List.{prefix_len, slice_get};
 ghost use Rattle.shell_words.specs.declared.script.Command.TheVariants.{Logout};
 ghost use Rattle.gem_replies.specs.declared.reply.Line.TheVariants.{NoUser};
@@ -8,7 +8,7 @@ ghost use Rattle.gem_meaning.specs.Events.{standing, events_of};
 ghost use Rattle.gem_meaning.specs.Serial.{CanServe, IsConsistent};
 ghost use Rattle.gem_meaning.specs.Session.{until_logout, reply_with, not_logged_in, Says};
 ghost use Rattle.stone_core.specs.Port.{GoesOn};
-ghost use Rattle.gem_session.specs.Running.{goes_on, HoldsNone, Arrives, HasLoggedIn, IsTranscriptSince};
+ghost use Rattle.gem_session.specs.Running.{goes_on, HoldsNone, Arrives, HasLoggedIn, IsTranscriptSince, WasCutShort, IsToBeCutShort};
 
 use crate::names::user_in;
 use crate::session::Session;
@@ -33,7 +33,8 @@ use stone_core::StonePort;
 ///
 /// `AllocError` where memory ran out for the look-up of the user, of the name that a lock or an
 /// unlock gives, or for the replies, or where a transaction could not be begun. What the session
-/// has committed by then stays, and its locks are given back.
+/// has committed by then stays, and its locks are given back: its events are those of a session that
+/// does so many of the commands, from the first on, and then logs out.
 pub fn run_session<P: StonePort>(
     alloc: Global,
     port: &mut P,
@@ -44,6 +45,8 @@ pub fn run_session<P: StonePort>(
     requires arrives { Arrives (P.state port.old) session serial script.now }
     ensures says { IfOk result (λ transcript. IsTranscriptSince (P.state port.new).told session
         (length (P.state port.old).told.events) script.now transcript) }
+    ensures cut_short { OnErr result (WasCutShort (P.state port.new).told session
+        (length (P.state port.old).told.events) script.now) }
     ensures unlocked { HoldsNone (P.state port.new).told session }
     ensures port { GoesOn session (P.state port.old) (P.state port.new) }
 {
@@ -69,6 +72,8 @@ fn all_replies<P: StonePort>(
     requires arrives { Arrives (P.state port.old) session serial script.now }
     ensures says { IfOk result (λ replies. Says (P.state port.new).told session
         (length (P.state port.old).told.events) script.now replies.items) }
+    ensures cut_short { OnErr result (IsToBeCutShort (P.state port.new).told session
+        (length (P.state port.old).told.events) script.now) }
     ensures unlocked { IfOk result (λ replies. HoldsNone (P.state port.new).told session) }
     ensures port { GoesOn session (P.state port.old) (P.state port.new) }
 {
@@ -99,6 +104,8 @@ fn serve<P: StonePort>(
     requires logged_in { HasLoggedIn (P.state port.old).told script.now running }
     ensures says { IfOk result (λ replies. Says (P.state port.new).told running.session
         (length (P.state port.old).told.events) script.now replies.items) }
+    ensures cut_short { OnErr result (IsToBeCutShort (P.state port.new).told running.session
+        (length (P.state port.old).told.events) script.now) }
     ensures unlocked { IfOk result
         (λ replies. HoldsNone (P.state port.new).told running.session) }
     ensures port { GoesOn running.session (P.state port.old) (P.state port.new) }

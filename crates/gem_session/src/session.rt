@@ -1,16 +1,17 @@
 //! A running session: what it carries from command to command, and its answer to each.
-ghost use Rattle.std.specs.Prelude.{◌≡◌, ◌+◌, ◌∷◌, [], true, false, IfOk, OnOk};
+ghost use Rattle.std.specs.Prelude.{◌≡◌, ◌+◌, ◌∷◌, [], true, false, IfOk, OnOk, OnErr};
 ghost use Rattle.shell_words.specs.declared.script.Command.TheVariants.{Abort};
 ghost use Rattle.gem_image.specs.Image.{objects_in};
 ghost use Rattle.gem_sound.specs.Sound.{IsSoundFor};
 ghost use Rattle.plain_state.specs.State.{begun};
 ghost use Rattle.gem_record.specs.declared.mode.Mode.TheVariants.{Full};
 ghost use Rattle.gem_meaning.specs.Commands.{is_run, mode_of};
+ghost use Rattle.gem_meaning.specs.Events.{OthersCame};
 ghost use Rattle.gem_meaning.specs.State.{next_transaction};
 ghost use Rattle.stone_core.specs.Port.{GoesOn};
 ghost use Rattle.running_objects.specs.Seen.{IsSoundState};
 ghost use Rattle.gem_session.specs.Answer.{lines_of};
-ghost use Rattle.gem_session.specs.Running.{goes_on, session_state, ComesTo, HasEnded, Begins, Ran, RepliedBy};
+ghost use Rattle.gem_session.specs.Running.{goes_on, session_state, ComesTo, HasEnded, Begins, Ran, RepliedBy, FallsShortBy};
 
 use crate::answer::Answer;
 use crate::known_view::KnownView;
@@ -105,7 +106,7 @@ impl Session {
     /// # Errors
     ///
     /// `AllocError` where memory ran out for the answer, or no transaction could be begun for want
-    /// of it.
+    /// of it. Then nothing was done, or the command was, and the answer alone is lost.
     pub(crate) fn reply<P: StonePort>(
         &mut self,
         alloc: Global,
@@ -117,6 +118,8 @@ impl Session {
         requires goes_on { goes_on command.now ≡ true }
         ensures replied { IfOk result (λ answer. RepliedBy (P.state port.old) (P.state port.new)
             number self.old command.now (lines_of answer) self.new) }
+        ensures fell_short { OnErr result (FallsShortBy (P.state port.old) (P.state port.new) number
+            self.old command.now) }
         ensures port { GoesOn self.old.session (P.state port.old) (P.state port.new) }
     {
         if is_run(command) {
@@ -139,6 +142,8 @@ impl Session {
         requires line { is_run command.now ≡ false }
         ensures replied { IfOk result (λ line. RepliedBy (P.state port.old) (P.state port.new)
             number self.old command.now (line ∷ []) self.new) }
+        ensures fell_short { OnErr result (FallsShortBy (P.state port.old) (P.state port.new) number
+            self.old command.now) }
         ensures port { GoesOn self.old.session (P.state port.old) (P.state port.new) }
     {
         match command {
@@ -178,6 +183,8 @@ impl Session {
         requires comes { ComesTo (P.state port.old) number self.old Abort }
         ensures replied { IfOk result (λ line. RepliedBy (P.state port.old) (P.state port.new)
             number self.old Abort (line ∷ []) self.new) }
+        ensures starved { OnErr result (OthersCame self.old.session
+            (P.state port.old).told.events (P.state port.new).told.events) }
         ensures port { GoesOn self.old.session (P.state port.old) (P.state port.new) }
     {
         self.begin_next(alloc, port, number)?;
@@ -189,7 +196,7 @@ impl Session {
     ///
     /// # Errors
     ///
-    /// `AllocError` where memory ran out.
+    /// `AllocError` where memory ran out. The session has no event then either.
     pub(crate) fn begin_next<P: StonePort>(
         &mut self,
         alloc: Global,
@@ -201,6 +208,8 @@ impl Session {
             (Begins (P.state port.old).told.opened (P.state port.old).told.events
             (P.state port.new).told.events
             (λ view. next_transaction (session_state self.old) view number) self.new) }
+        ensures starved { OnErr result (OthersCame self.old.session
+            (P.state port.old).told.events (P.state port.new).told.events) }
         ensures port { GoesOn self.old.session (P.state port.old) (P.state port.new) }
     {
         images_are_sound();
@@ -234,7 +243,7 @@ fn start_view(
 {
     begins_on_sound_images();
     standing.image.invariant();
-    let view = View::start(alloc, standing.image, standing.number, serial, next, user)?;
+    let view = View::start(alloc, standing.image, serial, next, user)?;
     Ok(KnownView::of(alloc, view))
 }
 

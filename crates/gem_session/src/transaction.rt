@@ -1,10 +1,11 @@
 //! The commands of a session that end its transaction, are about locks, or store the image.
-ghost use Rattle.std.specs.Prelude.{◌≡◌, ◌∷◌, [], IfOk};
+ghost use Rattle.std.specs.Prelude.{◌≡◌, ◌∷◌, [], IfOk, OnErr};
 ghost use Rattle.shell_words.specs.declared.script.Command.TheVariants.{Commit, Lock, Unlock, Checkpoint};
 ghost use Rattle.gem_record.specs.Record.{record_of};
+ghost use Rattle.gem_meaning.specs.Events.{OthersCame};
 ghost use Rattle.gem_meaning.specs.State.{entry_to};
 ghost use Rattle.stone_core.specs.Port.{GoesOn};
-ghost use Rattle.gem_session.specs.Running.{ends_transaction, commit_line, check_line, lock_line, unlock_line, may_ask, session_state, ComesTo, RepliedBy};
+ghost use Rattle.gem_session.specs.Running.{ends_transaction, commit_line, check_line, lock_line, unlock_line, may_ask, session_state, ComesTo, RepliedBy, FallsShortBy};
 
 use crate::session::Session;
 use crate::targets::{Target, kind_asked, lock_target, unlock_target};
@@ -21,7 +22,8 @@ impl Session {
     ///
     /// # Errors
     ///
-    /// `AllocError` where the next transaction could not be begun for want of memory.
+    /// `AllocError` where the next transaction could not be begun for want of memory. The commit
+    /// stands then.
     pub(crate) fn commit<P: StonePort>(
         &mut self,
         alloc: Global,
@@ -31,6 +33,8 @@ impl Session {
         requires comes { ComesTo (P.state port.old) number self.old Commit }
         ensures replied { IfOk result (λ line. RepliedBy (P.state port.old) (P.state port.new)
             number self.old Commit (line ∷ []) self.new) }
+        ensures fell_short { OnErr result (FallsShortBy (P.state port.old) (P.state port.new) number
+            self.old Commit) }
         ensures port { GoesOn self.old.session (P.state port.old) (P.state port.new) }
     {
         placed_as_recorded();
@@ -64,22 +68,22 @@ impl Session {
         ensures { IfOk result (λ done. done ≡ record_of (entry_to number (session_state self.now))
             self.now.view.state.seen.setting self.now.view.state.seen.world) }
     {
-        let mut done = self.view.view().finish(
+        self.view.view().finish(
             self.session,
             self.transaction,
             self.first_command,
             number,
+            self.number,
             self.mode,
-        )?;
-        done.view = self.number;
-        Ok(done)
+        )
     }
 
     /// Locks the object that the name refers to.
     ///
     /// # Errors
     ///
-    /// `AllocError` where memory ran out for the look-up of the name or for the reply.
+    /// `AllocError` where memory ran out for the look-up of the name or for the reply. The session
+    /// has no event then.
     pub(crate) fn lock<P: StonePort>(
         &mut self,
         port: &mut P,
@@ -90,6 +94,8 @@ impl Session {
         requires comes { ComesTo (P.state port.old) number self.old (Lock write name.now) }
         ensures replied { IfOk result (λ line. RepliedBy (P.state port.old) (P.state port.new)
             number self.old (Lock write name.now) (line ∷ []) self.new) }
+        ensures starved { OnErr result (OthersCame self.old.session
+            (P.state port.old).told.events (P.state port.new).told.events) }
         ensures port { GoesOn self.old.session (P.state port.old) (P.state port.new) }
     {
         let kind = kind_asked(write);
@@ -118,7 +124,8 @@ impl Session {
     ///
     /// # Errors
     ///
-    /// `AllocError` where memory ran out for the look-up of the name or for the reply.
+    /// `AllocError` where memory ran out for the look-up of the name or for the reply. The session
+    /// has no event then.
     pub(crate) fn unlock<P: StonePort>(
         &mut self,
         port: &mut P,
@@ -128,6 +135,8 @@ impl Session {
         requires comes { ComesTo (P.state port.old) number self.old (Unlock name.now) }
         ensures replied { IfOk result (λ line. RepliedBy (P.state port.old) (P.state port.new)
             number self.old (Unlock name.now) (line ∷ []) self.new) }
+        ensures starved { OnErr result (OthersCame self.old.session
+            (P.state port.old).told.events (P.state port.new).told.events) }
         ensures port { GoesOn self.old.session (P.state port.old) (P.state port.new) }
     {
         match unlock_target(self.view.view(), name)? {

@@ -41,7 +41,7 @@ impl Begins for PlainState {
 
 impl Begins for View {
     fn over(alloc: Global, image: Image, first: u32) -> Result<View, AllocError> {
-        View::start(alloc, image, 0, SERIAL, first, curator())
+        View::start(alloc, image, SERIAL, first, curator())
     }
 }
 

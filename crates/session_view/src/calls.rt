@@ -30,7 +30,6 @@ impl View {
         ensures fault { fault_in result ≡ look_fault oid self.old.state.seen }
         ensures seen { self.new.state.seen ≡ asked oid self.old.state.seen }
         ensures room { self.old.state.spare ≤ self.new.state.spare + 3 }
-        ensures number { self.new.number ≡ self.old.number }
     {
         self.read(oid)
     }
@@ -48,7 +47,6 @@ impl View {
         ensures fault { fault_in result ≡ look_fault oid self.old.state.seen }
         ensures seen { self.new.state.seen ≡ asked oid self.old.state.seen }
         ensures room { self.old.state.spare ≤ self.new.state.spare + 3 }
-        ensures number { self.new.number ≡ self.old.number }
     {
         self.read(oid)
     }
@@ -61,7 +59,6 @@ impl View {
         ensures fault { fault_in result ≡ look_fault oid self.old.state.seen }
         ensures seen { self.new.state.seen ≡ asked oid self.old.state.seen }
         ensures room { self.old.state.spare ≤ self.new.state.spare + 3 }
-        ensures number { self.new.number ≡ self.old.number }
     {
         let allowed = self.state.may_read(oid);
         self.state.ask(oid);
@@ -85,7 +82,6 @@ impl View {
         ensures ends { EndsBy (change_due oid body self.old.state.seen) self.old.state.seen
             (asked oid self.old.state.seen) (changed_to oid body self.old.state.seen) result
             self.new.state.seen }
-        ensures number { self.new.number ≡ self.old.number }
     {
         self.state.reserve(3)?;
         if !self.state.may_write(oid) {
@@ -114,7 +110,6 @@ impl View {
         ensures ends { EndsBy (move_due oid segment self.old.state.seen) self.old.state.seen
             (asked segment (asked oid self.old.state.seen))
             (moved_to oid segment self.old.state.seen) result self.new.state.seen }
-        ensures number { self.new.number ≡ self.old.number }
     {
         self.state.reserve(6)?;
         if !self.state.may_write(oid) {
@@ -145,7 +140,6 @@ impl View {
             self.old.state.seen) result self.new.state.seen }
         ensures name { IfOk result (λ oid.
             oid ≡ next_name self.old.state.seen.setting self.old.state.seen.world) }
-        ensures number { self.new.number ≡ self.old.number }
     {
         if !is_small(&body) {
             return Err(ViewFault::TooLarge);
@@ -174,7 +168,6 @@ impl View {
         ensures ends { EndsBy (update_due oid update self.old.state.seen) self.old.state.seen
             (asked oid self.old.state.seen) (updated oid update self.old.state.seen) result
             self.new.state.seen }
-        ensures number { self.new.number ≡ self.old.number }
     {
         self.state.reserve(3)?;
         if !self.state.may_write(oid) {

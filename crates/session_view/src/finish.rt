@@ -14,8 +14,8 @@ use std::alloc::AllocError;
 
 impl View {
     /// The record of the transaction, which ran these commands of this session, for its commit in
-    /// this mode.
-    /// Objects are copied, with 0 as the number of their last commit.
+    /// this mode. `view` is the number of commits in the image that the view is over, which the view
+    /// itself doesn't hold. Objects are copied, with 0 as the number of their last commit.
     ///
     /// # Errors
     ///
@@ -27,6 +27,7 @@ impl View {
         transaction: u32,
         first_command: u32,
         last_command: u32,
+        view: u64,
         mode: Mode,
     ) -> Result<TxnRecord, AllocError>
         ensures { IfOk result (λ finished. finished ≡ record_of (record {
@@ -36,7 +37,7 @@ impl View {
           first_command = first_command;
           last_command = last_command;
           first_name = self.now.state.seen.setting.first;
-          view = self.now.number;
+          view = view;
           mode = mode;
         }) self.now.state.seen.setting self.now.state.seen.world) }
     {
@@ -47,7 +48,7 @@ impl View {
             first_command,
             last_command,
             first_name: self.state.first_counter(),
-            view: self.number,
+            view,
             mode,
             base: self.state.view()?,
             touched: touched(&self.state)?,

@@ -1,4 +1,4 @@
-//! The view: a plain state over one image, with the number of commits in the image.
+//! The view: a plain state over one image.
 ghost use Rattle.std.specs.Prelude.{◌≡◌, ◌≤◌, ◌<◌, ℕ, true, option_map, option_copied, IfOk, OnOk};
 ghost use Rattle.gem_image.specs.Image.{contents_of};
 ghost use Rattle.gem_record.specs.gem_world.World.{is_made};
@@ -25,12 +25,11 @@ use std::alloc::{AllocError, Global};
 #[derive(Drop)]
 pub struct View {
     pub(crate) state: PlainState,
-    pub(crate) number: u64,
 }
 
 impl View {
-    /// The view of a transaction of this user over an image with so many commits, before anything
-    /// is done. The names that it draws are of this serial, and the first of them has this counter.
+    /// The view of a transaction of this user over an image, before anything is done. The names that
+    /// it draws are of this serial, and the first of them has this counter.
     ///
     /// # Errors
     ///
@@ -38,7 +37,6 @@ impl View {
     pub fn start(
         alloc: Global,
         image: Image,
-        number: u64,
         serial: u32,
         next: u32,
         user: Oid,
@@ -46,12 +44,10 @@ impl View {
         requires { BeginsSound image image user serial next }
         ensures seen { IfOk result (λ view.
             view.state.seen ≡ begun image image user serial next) }
-        ensures number { IfOk result (λ view. view.number ≡ number) }
     {
         let place = image.share()?;
         Ok(View {
             state: PlainState::start(alloc, place, image, user, serial, next),
-            number,
         })
     }
 
@@ -65,7 +61,6 @@ impl View {
         ensures unchanged { self.new.state.seen ≡ self.old.state.seen }
         ensures made { OnOk result (touches ≤ self.new.state.spare) }
         ensures room { self.old.state.spare ≤ self.new.state.spare }
-        ensures number { self.new.number ≡ self.old.number }
     {
         self.state.reserve(touches)
     }
@@ -74,7 +69,6 @@ impl View {
     /// It takes no memory.
     pub fn begin_chunk(&mut self)
         ensures begun { self.new.state.seen ≡ with_whole_budget self.old.state.seen }
-        ensures number { self.new.number ≡ self.old.number }
     {
         self.state.begin_chunk();
     }

@@ -171,8 +171,8 @@ fn has_touched(record: &TxnRecord) -> bool {
 
 /// Whether the record has what was done.
 fn finishes(view: &View) -> Result<bool, AllocError> {
-    let record = view.finish(1, 1, 1, 2, Mode::Full)?;
-    Ok(has_changes(&record) && has_touched(&record))
+    let record = view.finish(1, 1, 1, 2, 5, Mode::Full)?;
+    Ok(record.view == 5 && has_changes(&record) && has_touched(&record))
 }
 
 /// Notes a call that doesn't answer as it should.

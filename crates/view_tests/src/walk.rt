@@ -346,7 +346,7 @@ fn check_walk(alloc: Global, both: &mut Both, wrong: &mut String) -> Result<(), 
         let line = format!(in alloc; "step {step}")?;
         return wrong.push_str(line.as_str());
     }
-    let record = both.view.finish(1, 1, 1, 2, Mode::Full)?;
+    let record = both.view.finish(1, 1, 1, 2, 0, Mode::Full)?;
     note_unless(wrong, "an empty list", has_all(&record))?;
     compare_all(alloc, both, &record, wrong)
 }

@@ -4,11 +4,12 @@ use Rattle.gem_meaning.specs.Names.{user_in}
 use Rattle.gem_meaning.specs.Session.{Says}
 use Rattle.stone_core.specs.Port.{GoesOn, BeginSays}
 use Rattle.gem_session.specs.declared.session.Session.{Session}
-use Rattle.gem_session.specs.Running.{HoldsNone, Arrives}
+use Rattle.gem_session.specs.Running.{HoldsNone, Arrives, IsToBeCutShort}
 use Rattle.gem_session.proofs.Others.{longer}
 use Rattle.gem_session.proofs.Logins.{fresh_still, sound_at_login, has_logged_in, saw_less, refused_when}
 use Rattle.gem_session.proofs.Serving.{goes_on_as}
 use Rattle.gem_session.proofs.Unlocked.{fresh_holds_none}
+use Rattle.gem_session.proofs.CutShort.{gave_up, cut_unbegun, cut_saw_less, cut_as}
 use Rattle.gem_session.proofs.run.all_replies.Goals as goal
 
 pub login-requires : goal.login-requires
@@ -81,3 +82,40 @@ returns-in_ok-replies-in-None-clause-unlocked g c =
     let q = g.P.StonePort.state c.begin.new.self in
     fresh_holds_none q.told c.args.session
     (fresh_still p.told.opened c.args.session p.told.events q.told.events _ _ c.requires.arrives.fresh c.in_ok-begun.ensures.begun)
+
+pub returns-in_err-begun-clause-cut_short : goal.returns-in_err-begun-clause-cut_short
+returns-in_err-begun-clause-cut_short g c =
+    let t = (g.P.StonePort.state c.args.port.now).told in
+    let now = (g.P.StonePort.state c.begin.new.self).told in
+    gave_up _ (cut_as t now c.args.session (length t.events) c.args.script.now c.begin.ensures.port.opened
+    (cut_unbegun t c.args.session c.args.script.now now.events c.requires.arrives.of_script c.requires.arrives.fresh c.in_err-begun.ensures.starved))
+
+pub returns-in_err-user-clause-cut_short : goal.returns-in_err-user-clause-cut_short
+returns-in_err-user-clause-cut_short g c =
+    let t = (g.P.StonePort.state c.args.port.now).told in
+    let now = (g.P.StonePort.state c.begin.new.self).told in
+    gave_up _ (cut_as t now c.args.session (length t.events) c.args.script.now c.begin.ensures.port.opened
+    (cut_unbegun t c.args.session c.args.script.now now.events c.requires.arrives.of_script c.requires.arrives.fresh c.in_ok-begun.ensures.begun.others_came))
+
+pub returns-in_err-running-in-Some-clause-cut_short : goal.returns-in_err-running-in-Some-clause-cut_short
+returns-in_err-running-in-Some-clause-cut_short g c =
+    let t = (g.P.StonePort.state c.args.port.now).told in
+    let now = (g.P.StonePort.state c.begin.new.self).told in
+    gave_up _ (cut_as t now c.args.session (length t.events) c.args.script.now c.begin.ensures.port.opened
+    (cut_unbegun t c.args.session c.args.script.now now.events c.requires.arrives.of_script c.requires.arrives.fresh c.in_ok-begun.ensures.begun.others_came))
+
+pub returns-in_err-replies-in-None-clause-cut_short : goal.returns-in_err-replies-in-None-clause-cut_short
+returns-in_err-replies-in-None-clause-cut_short g c =
+    let t = (g.P.StonePort.state c.args.port.now).told in
+    let now = (g.P.StonePort.state c.begin.new.self).told in
+    gave_up _ (cut_as t now c.args.session (length t.events) c.args.script.now c.begin.ensures.port.opened
+    (cut_unbegun t c.args.session c.args.script.now now.events c.requires.arrives.of_script c.requires.arrives.fresh c.in_ok-begun.ensures.begun.others_came))
+
+pub returns-in_err-replies-in-Some-clause-cut_short : goal.returns-in_err-replies-in-Some-clause-cut_short
+returns-in_err-replies-in-Some-clause-cut_short g c =
+    let p = (g.P.StonePort.state c.args.port.now).told in
+    let q = (g.P.StonePort.state c.begin.new.self).told in
+    let now = (g.P.StonePort.state c.serve.new.port).told in
+    let session = ap (λ (s : Session). s.session) c.in_ok-running-in-Some.ensures.fields in
+    gave_up _ (cut_saw_less now c.args.session (length q.events) (length p.events) c.args.script.now (longer p.events q.events c.begin.ensures.port.extends)
+    (subst (λ (n : ℕ). IsToBeCutShort now n (length q.events) c.args.script.now) session c.in_err-replies-in-Some.ensures.cut_short))

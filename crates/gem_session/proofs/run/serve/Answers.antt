@@ -1,13 +1,15 @@
-use Rattle.std.proofs.Common.{◌≡◌, ◌∙◌, ◌+◌, ◌++◌, ◌∷◌, [], refl, sym, ap, subst, ℕ, length, arith}
+use Rattle.std.proofs.Common.{◌≡◌, ◌∙◌, ◌+◌, ◌++◌, ◌∷◌, [], refl, sym, ap, subst, ℕ, take, length, arith}
+use Rattle.std.specs.List.{prefix_len}
 use Rattle.std.proofs.lemmas.Option.{slice_get_read}
 use Rattle.gem_replies.specs.declared.reply.Line.TheVariants.{Login, Logout}
 use Rattle.gem_meaning.specs.Session.{reply_with, replies_with, until_logout, Says}
 use Rattle.stone_core.specs.Port.{LogoutSays}
 use Rattle.gem_session.specs.Answer.{lines_of}
-use Rattle.gem_session.specs.Running.{Replied}
-use Rattle.gem_session.proofs.Others.{goes_on_none}
+use Rattle.gem_session.specs.Running.{goes_on, Replied, FallsShort}
+use Rattle.gem_session.proofs.Others.{nobody_came, goes_on_none}
 use Rattle.gem_session.proofs.Serving.{HasServed, front_of, goes_on_at, comes_next, goes_on_as, nothing_served, one_served, all_served}
 use Rattle.gem_session.proofs.Unlocked.{left_holds_none}
+use Rattle.gem_session.proofs.CutShort.{gave_up, cut_unbegun, cut_in, cut_telling, replied_done, cut_at_end, cut_as}
 use Rattle.gem_session.proofs.run.serve.Goals as goal
 
 pub loop-command-init : goal.loop-command-init
@@ -95,3 +97,58 @@ returns-clause-unlocked g c =
     left_holds_none now.opened before.events now.events c.args.running.session
     (subst (λ (n : ℕ). LogoutSays now.opened before.events now.events n) c.loop-command.invariant.served.of_session
     (subst (λ o. LogoutSays o before.events now.events c.loop-command.running.session) (sym c.logout.ensures.port.opened) c.logout.ensures.says))
+
+pub returns-in_err-push-clause-cut_short : goal.returns-in_err-push-clause-cut_short
+returns-in_err-push-clause-cut_short g c =
+    let t = (g.P.StonePort.state c.args.port.now).told in
+    let l = c.requires.logged_in in
+    gave_up _ (cut_unbegun t c.args.running.session c.args.script.now t.events l.of_script l.fresh (nobody_came _ t.events))
+
+pub returns-in_err-answer-clause-cut_short : goal.returns-in_err-answer-clause-cut_short
+returns-in_err-answer-clause-cut_short g c =
+    let i = c.loop-command.invariant in
+    let b = c.before_logout-command-items in
+    let t = (g.P.StonePort.state c.args.port.now).told in
+    let before = (g.P.StonePort.state c.loop-command.port).told.events in
+    let now = (g.P.StonePort.state c.reply.new.port).told in
+    let body = b.result.now in
+    let item = slice_get_read body (length body) c.loop-command.command-index c.command-item.result refl c.loop-command-test.true c.command-item.is in
+    let fell : FallsShort t.opened (c.loop-command.command-index + 1) before now.events c.loop-command.running c.command-item.result =
+    subst (λ (n : ℕ). FallsShort t.opened (n + 1) before now.events c.loop-command.running c.command-item.result) i.counted
+    (subst (λ x. FallsShort x (c.loop-command.number + 1) before now.events c.loop-command.running c.command-item.result) i.port.opened c.in_err-answer.ensures.fell_short) in
+    gave_up _ (cut_as t now c.args.running.session (length t.events) c.args.script.now (c.reply.ensures.port.opened ∙ i.port.opened)
+    (cut_in t before now.events c.args.script.now body c.loop-command.command-index c.args.running c.loop-command.running c.loop-command.replies.items c.command-item.result
+    c.requires.logged_in (b.ensures.prefix ∙ ap (λ xs. take (prefix_len goes_on xs) xs) c.commands.ensures.commands) item c.loop-command-test.true i.port.extends i.served
+    c.reply.ensures.port.extends fell))
+
+pub returns-in_err-push-2-clause-cut_short : goal.returns-in_err-push-2-clause-cut_short
+returns-in_err-push-2-clause-cut_short g c =
+    let i = c.loop-command.invariant in
+    let b = c.before_logout-command-items in
+    let t = (g.P.StonePort.state c.args.port.now).told in
+    let before = (g.P.StonePort.state c.loop-command.port).told.events in
+    let now = (g.P.StonePort.state c.reply.new.port).told in
+    let body = b.result.now in
+    let lines = lines_of c.in_ok-answer.answer in
+    let item = slice_get_read body (length body) c.loop-command.command-index c.command-item.result refl c.loop-command-test.true c.command-item.is in
+    let replied : Replied t.opened (c.loop-command.command-index + 1) before now.events c.loop-command.running c.command-item.result lines c.reply.new.self =
+    subst (λ (n : ℕ). Replied t.opened (n + 1) before now.events c.loop-command.running c.command-item.result lines c.reply.new.self) i.counted
+    (subst (λ x. Replied x (c.loop-command.number + 1) before now.events c.loop-command.running c.command-item.result lines c.reply.new.self) i.port.opened c.in_ok-answer.ensures.replied) in
+    gave_up _ (cut_as t now c.args.running.session (length t.events) c.args.script.now (c.reply.ensures.port.opened ∙ i.port.opened)
+    (cut_telling t before now.events c.args.script.now body c.loop-command.command-index c.args.running c.loop-command.running c.loop-command.replies.items c.command-item.result
+    c.requires.logged_in (b.ensures.prefix ∙ ap (λ xs. take (prefix_len goes_on xs) xs) c.commands.ensures.commands) item c.loop-command-test.true i.port.extends i.served
+    c.reply.ensures.port.extends (replied_done replied)))
+
+pub returns-in_err-push-3-clause-cut_short : goal.returns-in_err-push-3-clause-cut_short
+returns-in_err-push-3-clause-cut_short g c =
+    let i = c.loop-command.invariant in
+    let b = c.before_logout-command-items in
+    let t = (g.P.StonePort.state c.args.port.now).told in
+    let events = (g.P.StonePort.state c.loop-command.port).told.events in
+    let now = (g.P.StonePort.state c.logout.new.self).told in
+    let left : LogoutSays t.opened events now.events c.args.running.session =
+    subst (λ (n : ℕ). LogoutSays t.opened events now.events n) i.served.of_session
+    (subst (λ o. LogoutSays o events now.events c.loop-command.running.session) i.port.opened c.logout.ensures.says) in
+    gave_up _ (cut_as t now c.args.running.session (length t.events) c.args.script.now (c.logout.ensures.port.opened ∙ i.port.opened)
+    (cut_at_end t events now.events c.args.script.now b.result.now c.loop-command.command-index c.args.running c.loop-command.running c.loop-command.replies.items
+    c.requires.logged_in (b.ensures.prefix ∙ ap (λ xs. take (prefix_len goes_on xs) xs) c.commands.ensures.commands) c.loop-command-test.false i.port.extends i.served left))

@@ -2,7 +2,8 @@ use Rattle.std.proofs.Common.{◌≡◌, ◌∙◌, sym, ap, subst, ℕ, true}
 use Rattle.gem_record.specs.declared.record.TxnRecord.{TxnRecord}
 use Rattle.gem_meaning.specs.Serial.{IsRecorded}
 use Rattle.gem_session.proofs.Others.{goes_on_twice, nobody_came}
-use Rattle.gem_session.proofs.Commits.{session_is, recorded, commit_spoiled, commit_short, goes_as, commit_next, replied_ended, replied_going_on}
+use Rattle.gem_session.proofs.Commits.{session_is, recorded, commit_spoiled, commit_short, goes_as, commit_next, replied_ended, fell_short, replied_going_on}
+use Rattle.gem_session.proofs.CutShort.{gave_up}
 use Rattle.gem_session.proofs.session.Session.commit.Goals as goal
 
 pub returns-then-self-clause-replied : goal.returns-then-self-clause-replied
@@ -65,3 +66,9 @@ pub commit-answer-requires-clause-serves : goal.commit-answer-requires-clause-se
 commit-answer-requires-clause-serves g c =
     subst (λ (n : ℕ). (g.P.StonePort.state c.args.port.now).serves n ≡ true)
     (sym (session_is c.args.number c.args.self.now) ∙ sym (ap (λ (x : TxnRecord). x.session) c.in-Ok.ensures)) c.requires.comes.serves
+
+pub returns-in_err-begin_next-clause-fell_short : goal.returns-in_err-begin_next-clause-fell_short
+returns-in_err-begin_next-clause-fell_short g c =
+    let ends = sym c.ends_transaction.ensures ∙ c.if-ends_transaction.true in
+    gave_up _ (fell_short _ _ c.args.number c.args.self.now c.requires.comes c.in-Ok.done c.in-Ok.ensures c.commit-answer.result c.if-self.false
+    c.commit-answer.ensures.port c.commit-answer.ensures.says c.placed_as_recorded.ensures.effect (g.P.StonePort.state c.begin_next.new.port) ends c.in_err-begin_next.ensures.starved)

@@ -9,25 +9,28 @@ use Rattle.session_view.specs.Calls.{segment_due}
 use Rattle.session_view.proofs.Ends.{write_refused, write_allowed, writable_there, segment_refused, segment_allowed}
 use Rattle.session_view.proofs.view.View.move_to.Goals as goal
 
-pub returns-in_err-reserve-clause-ends : goal.returns-in_err-reserve-clause-ends
-returns-in_err-reserve-clause-ends c =
-    let p = err_from_is_err_and c.from_residual.result c.from_residual.ensures.1 in
-    rw (p.1, p.2) (inl c.reserve.ensures.unchanged)
+pub returns-in_err-reserve : goal.returns-in_err-reserve
+returns-in_err-reserve c = record {
+  ends = let p = err_from_is_err_and c.from_residual.result c.from_residual.ensures.1 in
+      rw (p.1, p.2) (inl c.reserve.ensures.unchanged);
+}
 
-pub returns-then-not-may_write-clause-ends : goal.returns-then-not-may_write-clause-ends
-returns-then-not-may_write-clause-ends c =
-    let x = c.args.self.now.state.seen in
-    write_refused x c.reserve.new.self.seen c.reserve.ensures.unchanged c.args.oid c.may_write.result c.may_write.ensures
-    (segment_due c.args.oid c.args.segment x) c.ask.new.self.seen c.if-not-may_write.true c.ask.ensures.asked
+pub returns-then-not-may_write : goal.returns-then-not-may_write
+returns-then-not-may_write c = record {
+  ends = let x = c.args.self.now.state.seen in
+      write_refused x c.reserve.new.self.seen c.reserve.ensures.unchanged c.args.oid c.may_write.result c.may_write.ensures
+      (segment_due c.args.oid c.args.segment x) c.ask.new.self.seen c.if-not-may_write.true c.ask.ensures.asked;
+}
 
-pub returns-then-not-may_write-2-clause-ends : goal.returns-then-not-may_write-2-clause-ends
-returns-then-not-may_write-2-clause-ends c =
-    let x = c.args.self.now.state.seen in
-    write_allowed x c.reserve.new.self.seen c.reserve.ensures.unchanged c.args.oid c.may_write.result c.may_write.ensures
-    (segment_due c.args.oid c.args.segment x) c.if-not-may_write.false
-    ∙ segment_refused x c.reserve.new.self.seen c.reserve.ensures.unchanged c.args.oid c.args.segment c.right_in.result
-    c.right_in.ensures c.may_write-2.result c.may_write-2.ensures.value c.ask-then-not-may_write-2-2.new.self.seen c.if-not-may_write-2.true
-    (c.ask-then-not-may_write-2-2.ensures.asked ∙ ap (asked c.args.segment) c.ask-then-not-may_write-2.ensures.asked)
+pub returns-then-not-may_write-2 : goal.returns-then-not-may_write-2
+returns-then-not-may_write-2 c = record {
+  ends = let x = c.args.self.now.state.seen in
+      write_allowed x c.reserve.new.self.seen c.reserve.ensures.unchanged c.args.oid c.may_write.result c.may_write.ensures
+      (segment_due c.args.oid c.args.segment x) c.if-not-may_write.false
+      ∙ segment_refused x c.reserve.new.self.seen c.reserve.ensures.unchanged c.args.oid c.args.segment c.right_in.result
+      c.right_in.ensures c.may_write-2.result c.may_write-2.ensures.value c.ask-then-not-may_write-2-2.new.self.seen c.if-not-may_write-2.true
+      (c.ask-then-not-may_write-2-2.ensures.asked ∙ ap (asked c.args.segment) c.ask-then-not-may_write-2.ensures.asked);
+}
 
 pub change_segment-requires-clause-allowed : goal.change_segment-requires-clause-allowed
 change_segment-requires-clause-allowed c =
@@ -42,18 +45,20 @@ pub change_segment-requires-clause-segment : goal.change_segment-requires-clause
 change_segment-requires-clause-segment c =
     ap (λ (s : Seen). is_segment_at (fixed_by s.setting s.world) c.args.segment) c.reserve.ensures.unchanged ∙ c.requires.segment
 
-pub returns-in_err-change_segment-clause-ends : goal.returns-in_err-change_segment-clause-ends
-returns-in_err-change_segment-clause-ends c =
-    let p = err_from_is_err_and c.from_residual-in_err-change_segment.result c.from_residual-in_err-change_segment.ensures.1 in
-    rw (p.1, p.2) (inr (c.in_err-change_segment.ensures.asked
-    ∙ ap (λ (s : Seen). asked c.args.segment (asked c.args.oid s)) c.reserve.ensures.unchanged))
+pub returns-in_err-change_segment : goal.returns-in_err-change_segment
+returns-in_err-change_segment c = record {
+  ends = let p = err_from_is_err_and c.from_residual-in_err-change_segment.result c.from_residual-in_err-change_segment.ensures.1 in
+      rw (p.1, p.2) (inr (c.in_err-change_segment.ensures.asked
+      ∙ ap (λ (s : Seen). asked c.args.segment (asked c.args.oid s)) c.reserve.ensures.unchanged));
+}
 
-pub returns-clause-ends : goal.returns-clause-ends
-returns-clause-ends c =
-    let x = c.args.self.now.state.seen in (
-      write_allowed x c.reserve.new.self.seen c.reserve.ensures.unchanged c.args.oid c.may_write.result c.may_write.ensures
-          (segment_due c.args.oid c.args.segment x) c.if-not-may_write.false
-          ∙ segment_allowed x c.reserve.new.self.seen c.reserve.ensures.unchanged c.args.oid c.args.segment c.right_in.result
-          c.right_in.ensures c.may_write-2.result c.may_write-2.ensures.value c.if-not-may_write-2.false,
-      c.in_ok-change_segment.ensures.changed ∙ ap (moved_to c.args.oid c.args.segment) c.reserve.ensures.unchanged,
-    )
+pub returns : goal.returns
+returns c = record {
+  ends = let x = c.args.self.now.state.seen in (
+    write_allowed x c.reserve.new.self.seen c.reserve.ensures.unchanged c.args.oid c.may_write.result c.may_write.ensures
+        (segment_due c.args.oid c.args.segment x) c.if-not-may_write.false
+        ∙ segment_allowed x c.reserve.new.self.seen c.reserve.ensures.unchanged c.args.oid c.args.segment c.right_in.result
+        c.right_in.ensures c.may_write-2.result c.may_write-2.ensures.value c.if-not-may_write-2.false,
+    c.in_ok-change_segment.ensures.changed ∙ ap (moved_to c.args.oid c.args.segment) c.reserve.ensures.unchanged,
+  );
+}
