@@ -72,6 +72,7 @@ fn box_and_cup(alloc: Global) -> Result<OidList, AllocError> {
 
 // What session 2 asks to commit at view 1.
 fn record(
+    mode: Mode,
     base: Image,
     touched: OidList,
     written: ByName<Object>,
@@ -86,7 +87,7 @@ fn record(
         last_command: 2,
         first_name: 1,
         view: 1,
-        mode: Mode::Full,
+        mode,
         base,
         touched,
         written,
@@ -98,6 +99,7 @@ fn record(
 // A commit of session 2 that wrote the box: what it meets, and what stands against it.
 #[derive(Clone, Copy)]
 struct Write<'a> {
+    mode: Mode,
     // The commits that changed the box and the cup last.
     changed: (u64, u64),
     // Whether the session read the cup too.
@@ -109,8 +111,9 @@ struct Write<'a> {
 }
 
 macro_rules! writes {
-    ($($changed:expr, $reads_cup:expr, $holders:expr => $want:expr;)*) => {
+    ($mode:expr; $($changed:expr, $reads_cup:expr, $holders:expr => $want:expr;)*) => {
         [$(Write {
+            mode: $mode,
             changed: $changed,
             reads_cup: $reads_cup,
             holders: $holders,
@@ -139,14 +142,15 @@ fn boxes<L: Ledger>(
     Ok(image)
 }
 
-fn write_of_box<R: Abort>(rt: &R, alloc: Global, reads_cup: bool) -> Result<TxnRecord, Fail> {
+fn write_of_box<R: Abort>(rt: &R, alloc: Global, row: &Write) -> Result<TxnRecord, Fail> {
     let written = vec![in alloc; (name(BOX), object(1, plain(alloc)))]?;
-    let touched = if reads_cup {
+    let touched = if row.reads_cup {
         box_and_cup(alloc)
     } else {
         box_alone(alloc)
     };
     Ok(record(
+        row.mode,
         Image::empty(),
         touched?,
         by_name(rt, written),
@@ -171,10 +175,22 @@ fn is_met<R: Abort, L: Ledger>(
     steps: &mut Steps<L>,
 ) -> Result<bool, Fail> {
     let image = boxes(alloc, row.changed, steps)?;
-    let transaction = write_of_box(rt, alloc, row.reads_cup)?;
+    let transaction = write_of_box(rt, alloc, row)?;
     let locks = locks_of(alloc, row.holders);
     let judgement = conflicts(alloc, &image, &transaction, &locks)?;
     Ok(are_conflicts(judgement.conflicts.as_slice(), row.want))
+}
+
+fn check_rows<R: Abort, L: Ledger>(
+    rt: &R,
+    alloc: Global,
+    rows: &[Write],
+    steps: &mut Steps<L>,
+) -> Result<(), Fail> {
+    for (number, row) in rows.iter().enumerate() {
+        assert!(rt; is_met(rt, alloc, row, steps)?, "row {number}");
+    }
+    Ok(())
 }
 
 fn check_writes<R: Abort, L: Ledger>(rt: &R, alloc: Global, blank: Blank) -> Result<(), Fail>
@@ -184,6 +200,7 @@ fn check_writes<R: Abort, L: Ledger>(rt: &R, alloc: Global, blank: Blank) -> Res
 {
     let mut steps = Steps::<L>::start(blank);
     let rows = writes! {
+        Mode::Full;
         (1, 1), true, &[] => &[];
         // Another session has changed the box, or made the cup, a counter, which the view lacked.
         (2, 1), false, &[] => &[(BOX, ConflictKind::WriteWrite, 2)];
@@ -202,15 +219,45 @@ fn check_writes<R: Abort, L: Ledger>(rt: &R, alloc: Global, blank: Blank) -> Res
             (CUP, ConflictKind::ReadWrite, 2),
         ];
     };
-    for (number, row) in rows.iter().enumerate() {
-        assert!(rt; is_met(rt, alloc, row, &mut steps)?, "row {number}");
-    }
-    Ok(())
+    check_rows(rt, alloc, &rows, &mut steps)
 }
 
 #[test]
 fn writes(rt: HostRuntime) -> Result<(), Fail> {
     check_writes::<HostRuntime, Brand>(&rt, rt.alloc(), Blank::new(1))
+}
+
+// Nothing is said of a change of the cup, which was only read. What stands against the write of the
+// box is told in this mode, too.
+fn check_unchecked_reads<R: Abort, L: Ledger>(
+    rt: &R,
+    alloc: Global,
+    blank: Blank,
+) -> Result<(), Fail>
+    requires name { blank.name ≡ L.name }
+    requires parts { blank.parts ≡ L.parts }
+    requires some_parts { 0 < L.parts }
+{
+    let mut steps = Steps::<L>::start(blank);
+    let rows = writes! {
+        Mode::NoRw;
+        (1, 1), true, &[] => &[];
+        (1, 2), true, &[] => &[];
+        (2, 1), false, &[] => &[(BOX, ConflictKind::WriteWrite, 2)];
+        (2, 2), true, &[] => &[(BOX, ConflictKind::WriteWrite, 2)];
+        (1, 2), true, &[(1, LockKind::Read), (2, LockKind::Read)]
+            => &[(BOX, ConflictKind::WriteReadLock, 1)];
+        (3, 2), true, &[(3, LockKind::Write)] => &[
+            (BOX, ConflictKind::WriteWrite, 3),
+            (BOX, ConflictKind::WriteWriteLock, 3),
+        ];
+    };
+    check_rows(rt, alloc, &rows, &mut steps)
+}
+
+#[test]
+fn unchecked_reads(rt: HostRuntime) -> Result<(), Fail> {
+    check_unchecked_reads::<HostRuntime, Brand>(&rt, rt.alloc(), Blank::new(1))
 }
 
 // What an object holds whose updates are merged.
@@ -365,12 +412,14 @@ fn image_of<L: Ledger>(
 fn transaction_of<R: Abort>(
     rt: &R,
     alloc: Global,
+    mode: Mode,
     base: Image,
     updates: Vec<Update>,
 ) -> Result<TxnRecord, Fail> {
     let updates = vec![in alloc; (name(SHARED), Sequence::of(updates))]?;
     let touched = no_names(alloc)?;
     Ok(record(
+        mode,
         base,
         touched,
         by_name(rt, Vec::new(alloc)),
@@ -384,6 +433,7 @@ fn transaction_of<R: Abort>(
 fn judged<R: Abort, L: Ledger>(
     rt: &R,
     alloc: Global,
+    mode: Mode,
     bodies: (Body, Body),
     updates: Vec<Update>,
     steps: &mut Steps<L>,
@@ -394,7 +444,7 @@ fn judged<R: Abort, L: Ledger>(
     let (view, place) = bodies;
     let base = image_of(alloc, object(1, view), steps)?;
     let image = image_of(alloc, object(3, place), steps)?;
-    let transaction = transaction_of(rt, alloc, base, updates)?;
+    let transaction = transaction_of(rt, alloc, mode, base, updates)?;
     Ok(conflicts(alloc, &image, &transaction, &Locks::new(alloc))?)
 }
 
@@ -439,16 +489,17 @@ fn is_wanted(
     }
 }
 
-// Whether the merge of the row leaves what it says.
+// Whether the merge of the row leaves what it says, in this mode.
 fn merges_so<R: Abort, L: Ledger>(
     rt: &R,
     alloc: Global,
+    mode: Mode,
     row: &Merge,
     steps: &mut Steps<L>,
 ) -> Result<bool, Fail> {
     let bodies = (body(alloc, row.view)?, body(alloc, row.place)?);
     let updates = updates(alloc, row.changes)?;
-    let judgement = judged(rt, alloc, bodies, updates, steps)?;
+    let judgement = judged(rt, alloc, mode, bodies, updates, steps)?;
     is_wanted(alloc, &judgement, row.want)
 }
 
@@ -485,7 +536,14 @@ fn check_merges<R: Abort, L: Ledger>(rt: &R, alloc: Global, blank: Blank) -> Res
             => Err(ConflictKind::DictionaryKey);
     };
     for (number, row) in rows.iter().enumerate() {
-        assert!(rt; merges_so(rt, alloc, row, &mut steps)?, "row {number}");
+        assert!(rt;
+            merges_so(rt, alloc, Mode::Full, row, &mut steps)?,
+            "row {number}"
+        );
+        assert!(rt;
+            merges_so(rt, alloc, Mode::NoRw, row, &mut steps)?,
+            "row {number}, no_rw"
+        );
     }
     Ok(())
 }

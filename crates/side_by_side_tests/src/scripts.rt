@@ -221,6 +221,68 @@ commits 3
 ",
 );
 
+/// Two accounts, of which either may go below nothing as long as both together don't. Each session
+/// looks at both and draws from one. Where neither is checked for what it only read both draw, and
+/// together the accounts are below nothing.
+const DRAWN_TWICE: (Turns, &str, &str) = (
+    (2, 0),
+    "\
+session DataCurator
+run
+Box at: 1 put: 60. Cup at: 1 put: 60
+%
+commit
+session DataCurator
+mode no_rw_checks
+run
+(Box at: 1) + (Cup at: 1) >= 100 ifTrue: [Box at: 1 put: (Box at: 1) - 100]
+%
+commit
+session DataCurator
+mode no_rw_checks
+run
+(Box at: 1) + (Cup at: 1) >= 100 ifTrue: [Cup at: 1 put: (Cup at: 1) - 100]
+%
+commit
+session DataCurator
+printit
+Box at: 1
+%
+printit
+Cup at: 1
+%
+",
+    "\
+session 2 DataCurator
+[0] login view 1
+[1] ok
+[2] committed 2 view 2
+[3] logout
+session 3 DataCurator
+[0] login view 2
+[1] mode no_rw_checks
+[2] ok
+[3] committed 3 view 3
+[4] logout
+session 4 DataCurator
+[0] login view 2
+[1] mode no_rw_checks
+[2] ok
+[3] committed 4 view 4
+[4] logout
+session 5 DataCurator
+[0] login view 4
+[1] -40
+[2] -40
+[3] logout
+commits 4
+1 session 1 transaction 1 view 0
+2 session 2 transaction 1 view 1
+3 session 3 transaction 1 view 2 no_rw_checks
+4 session 4 transaction 1 view 2 no_rw_checks
+",
+);
+
 /// The mode of one session isn't that of another one.
 const OTHERS_MODE: (Turns, &str, &str) = (
     (2, 0),
@@ -746,11 +808,12 @@ commits 5
 );
 
 /// All of them.
-pub(crate) const ROWS: [(Turns, &str, &str); 23] = [
+pub(crate) const ROWS: [(Turns, &str, &str); 24] = [
     WRITE_OVER_WRITE,
     COMMITTED_BETWEEN,
     READS_CROSSED,
     READS_CROSSED_UNCHECKED,
+    DRAWN_TWICE,
     OTHERS_MODE,
     MODE_AFTER_REFUSAL,
     SWAPPED,
