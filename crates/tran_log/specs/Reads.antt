@@ -54,3 +54,9 @@ pub record EndsAt (bytes : List ℕ) (logged : List Logged) (end : ℕ) : Type 0
   pub records : AreRecords None chained
   pub logged_is : logged ≡ logged_from 0 chained
   pub end_is : end ≡ length (chain chained)
+
+-- what is read of some records, each of which may stand behind the one before it
+pub record AreRead (logged : List Logged) : Type 0 where
+  pub records : List LogRecord
+  pub follow : AreRecords None records
+  pub logged_is : logged ≡ logged_from 0 records

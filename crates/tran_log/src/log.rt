@@ -9,7 +9,7 @@ ghost use Rattle.gem_disk.specs.Runs.{LeavesOnly};
 ghost use Rattle.tran_log.specs.declared.fault.LogRule.{LogRule};
 ghost use Rattle.tran_log.specs.declared.logged.Logged.{Logged};
 ghost use Rattle.tran_log.specs.Log.{log_of, logged_as};
-ghost use Rattle.tran_log.specs.Reads.{GivesLog};
+ghost use Rattle.tran_log.specs.Reads.{GivesLog, AreRead};
 ghost use Rattle.tran_log.specs.Resting.{SameExtent, StaysHonest, IsAtRest, Holds, IsOldOrRead, AllHold, MayAppend, MayChain, added, HoldsEither, ReadsEither, HoldsOrNone, ReadsOrNone};
 
 use crate::fault::LogFault;
@@ -74,6 +74,7 @@ const OPEN: &[u8] = &[1];
 pub fn open_log<D: Disk>(alloc: Global, disk: &mut D) -> Result<(Log, Vec<Logged>), LogFault>
     ensures records { IsTrue D.tells → GivesLog (λ x. x.1.items)
         (log_of (reads (D.past disk.old) which.Log)) result }
+    ensures whole { IfOk result (λ x. AreRead x.1.items) }
     ensures at_rest { IsTrue D.tells → IfOk result (λ x.
         IsAtRest (D.past disk.new) x.1.items x.0) }
     ensures any_moment { (logged : List Logged) → IsTrue D.tells

@@ -4,7 +4,7 @@ ghost use Rattle.gem_record.specs.declared.effect.Effect.{Effect};
 ghost use Rattle.body_codec.specs.Whole.{whole_effect};
 ghost use Rattle.tran_log.specs.declared.fault.LogRule.{LogRule};
 ghost use Rattle.tran_log.specs.Log.{follows, word_in, number_in, behind, byte_mode, parts_of, whole, whole_parts, record_at, walk, log_of};
-ghost use Rattle.tran_log.specs.Reads.{GivesRecord, GivesNext, GivesLog, EndsAt};
+ghost use Rattle.tran_log.specs.Reads.{GivesRecord, GivesNext, GivesLog, EndsAt, AreRead};
 
 use crate::body::FORMAT_2;
 use crate::fault::{LogFault, LogRule, ReadError};
@@ -187,6 +187,7 @@ pub(crate) fn read_log(alloc: Global, bytes: &[u8]) -> Result<(Vec<Logged>, usiz
     ensures no_disk { IfErr result (λ fault. fault ≢ LogFault.Disk) }
     ensures empty { length bytes.now ≤ 1 → IfOk result (λ x. (x.0.items ≡ []) × (x.1 ≡ 0)) }
     ensures parts { 1 < length bytes.now → IfOk result (λ x. EndsAt bytes.now x.0.items x.1) }
+    ensures records { IfOk result (λ x. AreRead x.0.items) }
 {
     if bytes.len() <= 1 {
         return Ok((Vec::new(alloc), 0));
