@@ -1,10 +1,10 @@
 -- What crashes leave while pieces are brought to the disk, and then one byte.
-use Rattle.std.proofs.Common.{◌≡◌, ℕ, ◌≤◌, List, [], ◌∷◌, length, Result, Ok, Err, OnOk, sym, ◌∙◌, ap, subst, inl, inr, arith}
+use Rattle.std.proofs.Common.{◌≡◌, ℕ, ◌≤◌, List, [], ◌∷◌, length, ◌⊎◌, Result, Ok, Err, OnOk, refl, sym, ◌∙◌, ap, subst, inl, inr, arith}
 use Rattle.gem_disk.specs.declared.disk.Which.TheVariants.{Extent}
-use Rattle.gem_disk.specs.Disk.{Wrote, Past, reads, stepped, placed, Torn, Writes, Syncs}
-use Rattle.gem_disk.proofs.Leaves.{torn_none}
+use Rattle.gem_disk.specs.Disk.{Wrote, Synced, Past, reads, stepped, placed, Torn, Writes, Syncs}
+use Rattle.gem_disk.proofs.Leaves.{torn_none, torn_by_placing}
 use Rattle.disk_pieces.specs.Pieces.{Piece, Kept, Keeps, Stand, IsBrought, IsEither, IsSwitched}
-use Rattle.disk_pieces.specs.Crashes.{IsDurable, IsLonger, OnlyLeaves, MayWrite}
+use Rattle.disk_pieces.specs.Crashes.{IsDurable, IsLonger, OnlyLeaves, MayWrite, ByteWritten, SwitchesLast}
 use Rattle.disk_pieces.proofs.Crashes.{only_less, only_after, only_durable, only_written}
 use Rattle.disk_pieces.proofs.Pieces.{keeps_all}
 
@@ -55,6 +55,44 @@ module _ (old : Past) (at byte : ℕ) (durable : IsDurable old) where
   byte_written new result inside writes = only_written IsTorn old old (only_durable IsTorn old durable (torn_none at 1 (reads old Extent))) at (byte ∷ [])
       (λ d c first second. torn_again at 1 (reads old Extent) d c first second) inside new result writes
 
+-- what was done, where the byte may be anywhere up to the file's end
+module _ (old : Past) (at byte : ℕ) (inside : at ≤ length (reads old Extent)) where
+  torn_byte : Torn at 1 (reads old Extent) (placed at (byte ∷ []) (reads old Extent))
+  torn_byte = torn_by_placing at (byte ∷ []) (reads old Extent) inside
+
+  -- the write was the last call
+  pub byte_last : {T E : Type 0} (new : Past) (result : Result T E) → Writes Extent at (byte ∷ []) old result new → (new ≡ old) ⊎ ByteWritten at old new
+  byte_last new (Ok x) is = inr record { written = placed at (byte ∷ []) (reads old Extent); torn = torn_byte; steps = inl is }
+  byte_last new (Err x) (inl same) = inl same
+  byte_last new (Err x) (inr (now, torn, is)) = inr record { written = now; torn = torn; steps = inl is }
+
+  -- a sync came after it
+  pub byte_brought : {T E : Type 0} (mid new : Past) (result : Result T E) → mid ≡ stepped old Extent (Wrote at 1) (placed at (byte ∷ []) (reads old Extent)) → Syncs Extent mid result new
+      → (new ≡ old) ⊎ ByteWritten at old new
+  byte_brought mid new (Ok x) wrote is = inr record {
+    written = placed at (byte ∷ []) (reads old Extent);
+    torn = torn_byte;
+    steps = inr (is ∙ ap (λ (p : Past). stepped p Extent Synced (reads p Extent)) wrote);
+  }
+  byte_brought mid new (Err x) wrote same = inr record { written = placed at (byte ∷ []) (reads old Extent); torn = torn_byte; steps = inl (same ∙ wrote) }
+
+-- ---- the byte comes last
+
+-- where it didn't come
+pub switches_none : (P : List ℕ → Type 0) (at : ℕ) (old new : Past) → OnlyLeaves P old new → SwitchesLast P at old new
+switches_none P at old new only = record { between = new; only = only; last = inl refl }
+
+pub switches_less : (P Q : List ℕ → Type 0) (at : ℕ) (old new : Past) → ((image : List ℕ) → P image → Q image) → SwitchesLast P at old new → SwitchesLast Q at old new
+switches_less P Q at old new less is = record { between = is.between; only = only_less P Q old is.between less is.only; last = is.last }
+
+-- after another run
+pub switches_after : (P : List ℕ → Type 0) (at : ℕ) (old mid new : Past) → OnlyLeaves P old mid → SwitchesLast P at mid new → SwitchesLast P at old new
+switches_after P at old mid new first is = record {
+  between = is.between;
+  only = only_after P P old mid is.between first is.only (λ image has. has);
+  last = is.last;
+}
+
 -- ---- both
 
 module _ (old mid new : Past) (kept : Kept) (pieces : List Piece) (at : ℕ) where
@@ -73,3 +111,7 @@ module _ (old mid new : Past) (kept : Kept) (pieces : List Piece) (at : ℕ) whe
       → OnOk result (IsSwitched kept pieces at byte (reads old Extent) (reads new Extent))
   is_switched byte (Ok x) brought is = record { written = reads mid Extent; brought = brought; now_is = is }
   is_switched byte (Err x) brought none = tt
+
+  pub then_switches : OnlyLeaves (Keeps kept (reads old Extent)) old mid → IsDurable mid → (new ≡ mid) ⊎ ByteWritten at mid new → SwitchesLast (Keeps kept (reads old Extent)) at old new
+  then_switches only durable (inl same) = record { between = mid; only = only; last = inl same }
+  then_switches only durable (inr wrote) = record { between = mid; only = only; last = inr (durable, wrote) }

@@ -1,7 +1,7 @@
 -- What crashes leave of an extent during a run of disk calls on it, said by any property of bytes.
-use Rattle.std.specs.Prelude.{◌≡◌, ℕ, ◌≤◌, List, length}
+use Rattle.std.specs.Prelude.{◌≡◌, ◌⊎◌, ℕ, ◌≤◌, List, length}
 use Rattle.gem_disk.specs.declared.disk.Which.TheVariants.{Extent, Log}
-use Rattle.gem_disk.specs.Disk.{Files, Past, reads, FileImages}
+use Rattle.gem_disk.specs.Disk.{Files, Wrote, Synced, Past, reads, stepped, Torn, FileImages}
 use Rattle.gem_disk.specs.Runs.{LeavesOnly}
 use Rattle.disk_pieces.specs.Pieces.{Piece, Ascend, Kept, AllMiss}
 
@@ -36,3 +36,19 @@ pub record MayWrite (past : Past) (kept : Kept) (pieces : List Piece) : Type 0 w
   pub durable : IsDurable past
   pub ascend : Ascend kept.front pieces
   pub miss : AllMiss kept pieces
+
+-- One byte of the extent was written at this offset, or what a write of it that failed left there, and
+-- then brought to the disk or not. Nothing else was done.
+pub record ByteWritten (at : ℕ) (old new : Past) : Type 0 where
+  pub written : List ℕ
+  pub torn : Torn at 1 (reads old Extent) written
+  pub steps : (new ≡ stepped old Extent (Wrote at 1) written)
+      ⊎ (new ≡ stepped (stepped old Extent (Wrote at 1) written) Extent Synced written)
+
+-- Up to some moment a crash leaves of the extent only what has P, and of the log what it might have
+-- left before. From that moment on nothing was done; or all of the extent was on the disk then, and
+-- one byte was written at this offset.
+pub record SwitchesLast (P : List ℕ → Type 0) (at : ℕ) (old new : Past) : Type 0 where
+  pub between : Past
+  pub only : OnlyLeaves P old between
+  pub last : (new ≡ between) ⊎ (IsDurable between × ByteWritten at between new)

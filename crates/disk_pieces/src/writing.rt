@@ -1,10 +1,10 @@
 //! Writes pieces into the extent of a disk, and one byte behind them.
-ghost use Rattle.std.specs.Prelude.{◌≡◌, ℕ, ◌≤◌, List, [], ◌∷◌, length, IsTrue, OnOk};
+ghost use Rattle.std.specs.Prelude.{◌≡◌, ◌⊎◌, ℕ, ◌≤◌, List, [], ◌∷◌, length, IsTrue, OnOk};
 ghost use Rattle.gem_io.specs.Faults.{HasCause};
 ghost use Rattle.gem_disk.specs.declared.disk.Which.TheVariants as which;
 ghost use Rattle.gem_disk.specs.Disk.{Past, reads, placed, Torn, Writes};
 ghost use Rattle.disk_pieces.specs.Pieces.{Reach, Ascend, Kept, AllMiss, Keeps, Stand, IsBrought, IsEither, IsSwitched};
-ghost use Rattle.disk_pieces.specs.Crashes.{IsDurable, IsLonger, OnlyLeaves, MayWrite};
+ghost use Rattle.disk_pieces.specs.Crashes.{IsDurable, IsLonger, OnlyLeaves, MayWrite, ByteWritten, SwitchesLast};
 
 use crate::Piece;
 use gem_disk::{Disk, Which};
@@ -74,6 +74,8 @@ pub fn switch<D: Disk>(disk: &mut D, at: u64, byte: u8) -> Result<(), Failed>
     ensures any_moment { IsTrue D.tells → IsDurable (D.past disk.old) →
         OnlyLeaves (Torn at 1 (reads (D.past disk.old) which.Extent)) (D.past disk.old)
         (D.past disk.new) }
+    ensures steps { IsTrue D.tells → (D.past disk.new ≡ D.past disk.old)
+        ⊎ ByteWritten at (D.past disk.old) (D.past disk.new) }
     ensures done { IsTrue D.tells → OnOk result (reads (D.past disk.new) which.Extent
         ≡ placed at (byte ∷ []) (reads (D.past disk.old) which.Extent)) }
     ensures durable { IsTrue D.tells → OnOk result (IsDurable (D.past disk.new)) }
@@ -87,7 +89,8 @@ pub fn switch<D: Disk>(disk: &mut D, at: u64, byte: u8) -> Result<(), Failed>
 /// length, and brings it to the disk.
 ///
 /// Until it has answered, a crash leaves a file that has what has to stay, or one in which all
-/// pieces stand, with any byte at the offset. The error is that the disk's count of faults rose; the
+/// pieces stand, with any byte at the offset. The second may come only once all pieces are on the
+/// disk; from then on nothing is done but the write of the byte and its sync. The error is that the disk's count of faults rose; the
 /// file reads as one of the two then.
 pub fn bring_and_switch<D: Disk>(
     disk: &mut D,
@@ -102,6 +105,10 @@ pub fn bring_and_switch<D: Disk>(
         MayWrite (D.past disk.old) kept pieces.now →
         OnlyLeaves (IsEither kept pieces.now at (reads (D.past disk.old) which.Extent))
         (D.past disk.old) (D.past disk.new) }
+    ensures switches { (kept : Kept) → IsTrue D.tells →
+        MayWrite (D.past disk.old) kept pieces.now →
+        SwitchesLast (Keeps kept (reads (D.past disk.old) which.Extent)) at (D.past disk.old)
+        (D.past disk.new) }
     ensures done { (kept : Kept) → IsTrue D.tells →
         MayWrite (D.past disk.old) kept pieces.now → OnOk result
         (IsSwitched kept pieces.now at byte (reads (D.past disk.old) which.Extent)

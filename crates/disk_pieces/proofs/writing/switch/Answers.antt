@@ -1,7 +1,7 @@
 use Rattle.gem_disk.specs.declared.disk.Which.TheVariants.{Extent}
 use Rattle.gem_disk.specs.Disk.{reads, Torn}
 use Rattle.disk_pieces.proofs.Crashes.{only_synced}
-use Rattle.disk_pieces.proofs.Switching.{byte_written, sync_durable, sync_switches}
+use Rattle.disk_pieces.proofs.Switching.{byte_written, byte_last, byte_brought, sync_durable, sync_switches}
 use Rattle.std.proofs.Common.{List, ℕ}
 use Rattle.disk_pieces.proofs.writing.switch.Goals as goal
 
@@ -24,3 +24,12 @@ returns-clause-done g c tells =
 pub returns-clause-durable : goal.returns-clause-durable
 returns-clause-durable g c tells =
     sync_durable (g.D.Disk.past c.write_at.new.self) (g.D.Disk.past c.sync.new.self) c.sync.result (c.sync.ensures.past tells)
+
+pub returns-in_err-write_at-clause-steps : goal.returns-in_err-write_at-clause-steps
+returns-in_err-write_at-clause-steps g c tells =
+    byte_last (g.D.Disk.past c.args.disk.now) c.args.at c.args.byte (c.requires tells) (g.D.Disk.past c.write_at.new.self) c.write_at.result (c.write_at.ensures.past tells)
+
+pub returns-clause-steps : goal.returns-clause-steps
+returns-clause-steps g c tells =
+    byte_brought (g.D.Disk.past c.args.disk.now) c.args.at c.args.byte (c.requires tells) (g.D.Disk.past c.write_at.new.self) (g.D.Disk.past c.sync.new.self) c.sync.result
+    (c.in_ok-write_at.ensures.past tells) (c.sync.ensures.past tells)
