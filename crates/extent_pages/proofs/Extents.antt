@@ -3,6 +3,7 @@ use Rattle.std.proofs.Common.{◌≡◌, ℕ, ◌*◌, ◌<◌, ◌≤◌, ◌^�
 use Rattle.std.specs.List.{AllByRecursion}
 use Rattle.std.specs.List.Sorted.{IsStrictlySortedBy}
 use Rattle.std.specs.Ordering.{nat_cmp}
+use Rattle.std.proofs.lemmas.List.{length-map}
 use Rattle.gem_disk.specs.declared.disk.Which.TheVariants as which
 use Rattle.gem_disk.specs.Disk.{Past, reads}
 use Rattle.gem_object.specs.declared.object.Object.{Object}
@@ -130,6 +131,10 @@ stored_by entries leaves are each numbers = record {
   ascend = subst (IsStrictlySortedBy nat_cmp) (sym numbers) are.ascend;
   each = each;
 }
+
+-- they are as many
+pub as_many : (entries : List (ℕ × ℕ)) (leaves : List Leaf) → numbers_of leaves ≡ firsts_of entries → length leaves ≡ length entries
+as_many entries leaves numbers = sym (length-map leaves (λ (leaf : Leaf). leaf.number)) ∙ ap length numbers ∙ length-map entries (λ (entry : ℕ × ℕ). entry.0)
 
 -- ---- all leaves in turn
 

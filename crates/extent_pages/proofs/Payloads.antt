@@ -1,5 +1,5 @@
 -- Directories and leaves read back as they were written, and what is read is spelled so.
-use Rattle.std.proofs.Common.{◌≡◌, ℕ, zero, suc, ◌/◌, ◌<◌, ◌≤◌, ◌^◌, true, cond, nat_le, ◌&&◌, eqb, IsTrue, List, [], ◌∷◌, ◌++◌, length, Option, option_map, Result, Ok, Err, refl, sym, ap, subst, ◌∙◌, append_assoc, append-nil, arith}
+use Rattle.std.proofs.Common.{◌≡◌, ℕ, zero, suc, ◌+◌, ◌*◌, ◌/◌, ◌<◌, ◌≤◌, ◌^◌, true, cond, nat_le, ◌&&◌, eqb, IsTrue, List, [], ◌∷◌, ◌++◌, length, Option, option_map, Result, Ok, Err, refl, sym, ap, subst, ◌∙◌, append_assoc, append-nil, arith}
 use Rattle.std.specs.List.{flat_map}
 use Rattle.std.specs.Ordering.{nat_cmp}
 use Rattle.std.specs.Int.{w32, w64}
@@ -26,6 +26,7 @@ use Rattle.extent_pages.specs.Pages.{Chain, Fault, ◌andthen◌}
 use Rattle.extent_pages.specs.Spelled.{spelled_entry, spelled_directory, spelled_leaf}
 use Rattle.extent_pages.specs.Contents.{PayloadFault, with_rule, all_read, in_chain, entry_at, directory_of, leaf_size, count_at, leaf_name_at, leaf_object_at, objects_after, leaf_at, leaf_of}
 use Rattle.extent_pages.specs.Stored.{FitsEntry, AreEntries, IsOfLeaf, AreOfLeaf}
+use Rattle.extent_pages.proofs.Filled.{directory_long}
 use Rattle.extent_pages.proofs.Tests.{ok_is, not_ok, then_ok, passed, both_true}
 
 -- ---- results
@@ -134,6 +135,12 @@ directory_takes chain entries fits e =
 pub entries_are : (bytes : List ℕ) (entries : List (ℕ × ℕ)) (rest : List ℕ) → IsBytes bytes
     → long_at entry_at bytes ≡ Ok (entries, rest) → AreEntries entries
 entries_are bytes entries rest fits e = are_entries entries (entries_reads.takes bytes entries rest fits e).1
+
+pub entries_fill : (bytes : List ℕ) (entries : List (ℕ × ℕ)) (rest : List ℕ) → IsBytes bytes → rest ≡ []
+    → long_at entry_at bytes ≡ Ok (entries, rest) → length bytes ≡ 4 + 12 * length entries
+entries_fill bytes entries rest fits none e =
+    ap length ((entries_reads.takes bytes entries rest fits e).0.parts ∙ ap (λ (l : List ℕ). spelled_directory entries ++ l) none ∙ append-nil (spelled_directory entries))
+    ∙ directory_long entries
 
 -- ---- leaves
 
@@ -353,6 +360,11 @@ module _ (leaf : ℕ) where
       → leaf_at leaf bytes ≡ Ok (objects, rest) → AreOfLeaf leaf objects
   objects_are bytes objects rest fits none e =
       (leaf_behind bytes objects fits (subst (λ (l : List ℕ). leaf_at leaf bytes ≡ Ok (objects, l)) none e)).are
+
+  pub objects_spelled : (bytes : List ℕ) (objects : List (ℕ × Object)) (rest : List ℕ) → IsBytes bytes → rest ≡ []
+      → leaf_at leaf bytes ≡ Ok (objects, rest) → bytes ≡ spelled_leaf objects
+  objects_spelled bytes objects rest fits none e =
+      (leaf_behind bytes objects fits (subst (λ (l : List ℕ). leaf_at leaf bytes ≡ Ok (objects, l)) none e)).spelled
 
   pub leaf_takes : (chain : Chain) (objects : List (ℕ × Object)) → IsBytes chain.payload → leaf_of leaf chain ≡ Ok objects
       → IsLeaf chain.payload objects

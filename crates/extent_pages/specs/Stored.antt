@@ -1,16 +1,18 @@
 -- What has a place in pages: the fields of a root, the entries of a directory and the objects of a
 -- leaf.
-use Rattle.std.specs.Prelude.{◌≡◌, ◌⊎◌, ◌<◌, ◌≤◌, ◌^◌, ◌/◌, ℕ, List, length, All, map}
+use Rattle.std.specs.Prelude.{◌≡◌, ◌⊎◌, ◌<◌, ◌≤◌, ◌+◌, ◌*◌, ◌^◌, ◌/◌, ℕ, List, length, All, map}
 use Rattle.std.specs.List.{AllByRecursion}
 use Rattle.std.specs.List.Sorted.{IsStrictlySortedBy}
 use Rattle.std.specs.Ordering.{nat_cmp}
 use Rattle.gem_object.specs.declared.object.Object.{Object}
 use Rattle.gem_record.specs.Names.{AscendByName}
+use Rattle.gem_record.specs.Stored.{chain_pages}
 use Rattle.body_codec.specs.Stored.{IsStoredAt}
 use Rattle.extent_pages.specs.Pages.{payload_size}
 use Rattle.extent_pages.specs.declared.root.Root.{Root}
+use Rattle.extent_pages.specs.Spelled.{spelled_leaf}
 use Rattle.extent_pages.specs.Contents.{leaf_size}
-use Rattle.extent_pages.specs.Extent.{Leaf, first_page}
+use Rattle.extent_pages.specs.Extent.{Leaf, Extent, first_page}
 
 -- the fields of a root have room in their bytes
 pub record FitsRoot (root : Root) : Type 0 where
@@ -49,13 +51,20 @@ pub record AreOfLeaf (leaf : ℕ) (objects : List (ℕ × Object)) : Type 0 wher
   pub each : All (IsOfLeaf leaf) objects
   pub ascend : AscendByName objects
 
--- a leaf that can be stored: its objects are of their form, and the number of its first page has room
--- in an entry of a directory
+-- A leaf that can be stored: its objects are of their form, the number of its first page has room in an
+-- entry of a directory, and it has as many pages as the bytes of its objects fill.
 pub record IsStoredLeaf (leaf : Leaf) : Type 0 where
   pub are : AreOfLeaf leaf.number leaf.objects
   pub first : first_page leaf.pages < 2 ^ 32
+  pub many : length leaf.pages ≡ chain_pages (length (spelled_leaf leaf.objects))
 
 -- leaves that can be stored: their numbers ascend
 pub record AreStored (leaves : List Leaf) : Type 0 where
   pub ascend : IsStrictlySortedBy nat_cmp (map (λ (leaf : Leaf). leaf.number) leaves)
   pub each : AllByRecursion IsStoredLeaf leaves
+
+-- an extent that can be stored: its leaves can, and its directory has as many pages as an entry for
+-- each of them fills
+pub record IsStoredExtent (extent : Extent) : Type 0 where
+  pub leaves : AreStored extent.leaves
+  pub directory : length extent.directory ≡ chain_pages (4 + 12 * length extent.leaves)

@@ -3,6 +3,7 @@ ghost use Rattle.std.specs.Prelude.{◌≡◌, ◌≤◌, ◌<◌, ◌*◌, ℕ,
 ghost use Rattle.gem_io.specs.Faults.{HasRisen};
 ghost use Rattle.gem_disk.specs.declared.disk.Which.TheVariants as which;
 ghost use Rattle.gem_disk.specs.Disk.{reads};
+ghost use Rattle.gem_record.specs.Stored.{chain_pages};
 ghost use Rattle.extent_pages.specs.Pages.{page_size, most_pages, pages_of, chain_from};
 ghost use Rattle.extent_pages.specs.Contents.{page_with};
 ghost use Rattle.extent_pages.specs.Reads.{Gives, Marks};
@@ -47,6 +48,7 @@ pub(crate) fn read_chain<D: Disk>(
         (chain_from (pages_of (reads (D.past disk.old) which.Extent)) taken first) }
     ensures marked { (taken : List ℕ) → IsTrue D.tells → Marks marks.old.items taken
         → IfOk result (λ chain. Marks marks.new.items (chain.pages ++ taken)) }
+    ensures filled { IfOk result (λ chain. length chain.pages ≡ chain_pages (length chain.payload)) }
     ensures marks { length marks.new.items ≡ most_pages }
     ensures past { IsTrue D.tells → D.past disk.new ≡ D.past disk.old }
     ensures failed { IsErrOf result PageFault.Disk → HasRisen (D.faults disk.old) (D.faults disk.new) }

@@ -1,5 +1,5 @@
 //! The directory of an extent.
-ghost use Rattle.std.specs.Prelude.{◌≡◌, ◌≢◌, ℕ, [], IfOk, IfErr, option_map};
+ghost use Rattle.std.specs.Prelude.{◌≡◌, ◌≢◌, ◌+◌, ◌*◌, ℕ, [], length, IfOk, IfErr, option_map};
 ghost use Rattle.body_codec.specs.Reading.{items_after, last_of, long_at};
 ghost use Rattle.extent_pages.specs.Contents.{entry_at, directory_of};
 ghost use Rattle.extent_pages.specs.Stored.{AreEntries};
@@ -62,6 +62,8 @@ fn read_all(alloc: Global, bytes: &[u8]) -> Result<(Vec<(u64, u32)>, &[u8]), Fie
 pub(crate) fn read_directory(alloc: Global, chain: &Chain) -> Result<Vec<(u64, u32)>, PageFault>
     ensures entries { Gives (λ entries. entries.items) result (directory_of chain.now) }
     ensures stored { IfOk result (λ entries. AreEntries entries.items) }
+    ensures long { IfOk result (λ entries.
+        length chain.now.payload ≡ 4 + 12 * length entries.items) }
     ensures no_disk { IfErr result (λ fault. fault ≢ PageFault.Disk) }
 {
     let payload: &[u8] = &chain.payload;

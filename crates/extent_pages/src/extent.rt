@@ -6,7 +6,7 @@ ghost use Rattle.gem_disk.specs.declared.disk.Which.TheVariants as which;
 ghost use Rattle.gem_disk.specs.Disk.{reads};
 ghost use Rattle.extent_pages.specs.Pages.{most_pages, pages_of};
 ghost use Rattle.extent_pages.specs.Extent.{first_page, root_in, root_page_of, leaf_in, leaves_at, extent_at, extent_of};
-ghost use Rattle.extent_pages.specs.Stored.{IsStoredLeaf, AreStored};
+ghost use Rattle.extent_pages.specs.Stored.{IsStoredLeaf, IsStoredExtent};
 ghost use Rattle.extent_pages.specs.Reads.{Gives, Marks, SyncsOnce};
 
 use crate::chain::read_chain;
@@ -140,7 +140,7 @@ fn read_extent<D: Disk>(
     requires size { IsTrue D.tells → size ≡ length (reads (D.past disk.old) which.Extent) }
     ensures extent { IsTrue D.tells → Gives (λ extent. extent) result
         (extent_at (pages_of (reads (D.past disk.old) which.Extent)) page) }
-    ensures stored { IfOk result (λ extent. AreStored extent.leaves) }
+    ensures stored { IfOk result (λ extent. IsStoredExtent extent) }
     ensures past { IsTrue D.tells → D.past disk.new ≡ D.past disk.old }
     ensures failed { IsErrOf result PageFault.Disk → HasRisen (D.faults disk.old) (D.faults disk.new) }
     ensures later { D.faults disk.old ≤ D.faults disk.new }
@@ -183,7 +183,7 @@ fn root_page_of(selector: u8) -> u32
 fn find_extent<D: Disk>(alloc: Global, disk: &mut D) -> Result<Option<Extent>, PageFault>
     ensures extent { IsTrue D.tells → Gives (λ extent. extent) result
         (extent_of (reads (D.past disk.old) which.Extent)) }
-    ensures stored { IfOk result (λ found. IfSome found (λ extent. AreStored extent.leaves)) }
+    ensures stored { IfOk result (λ found. IfSome found (λ extent. IsStoredExtent extent)) }
     ensures past { IsTrue D.tells → D.past disk.new ≡ D.past disk.old }
     ensures failed { IsErrOf result PageFault.Disk → HasRisen (D.faults disk.old) (D.faults disk.new) }
     ensures later { D.faults disk.old ≤ D.faults disk.new }
@@ -213,7 +213,7 @@ fn find_extent<D: Disk>(alloc: Global, disk: &mut D) -> Result<Option<Extent>, P
 pub fn open_extent<D: Disk>(alloc: Global, disk: &mut D) -> Result<Option<Extent>, PageFault>
     ensures extent { IsTrue D.tells → Gives (λ extent. extent) result
         (extent_of (reads (D.past disk.old) which.Extent)) }
-    ensures stored { IfOk result (λ found. IfSome found (λ extent. AreStored extent.leaves)) }
+    ensures stored { IfOk result (λ found. IfSome found (λ extent. IsStoredExtent extent)) }
     ensures past { IsTrue D.tells → SyncsOnce (D.past disk.old) result (D.past disk.new) }
     ensures failed { IsErrOf result PageFault.Disk → HasRisen (D.faults disk.old) (D.faults disk.new) }
     ensures later { D.faults disk.old ≤ D.faults disk.new }

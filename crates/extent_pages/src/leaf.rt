@@ -5,6 +5,7 @@ ghost use Rattle.body_codec.specs.Reading.{last_of};
 ghost use Rattle.body_codec.specs.ReadingBodies.{object_at};
 ghost use Rattle.extent_pages.specs.declared.fault.PageRule.TheVariants as rule;
 ghost use Rattle.extent_pages.specs.Contents.{with_rule, count_at, leaf_name_at, leaf_object_at, objects_after, leaf_at, leaf_of};
+ghost use Rattle.extent_pages.specs.Spelled.{spelled_leaf};
 ghost use Rattle.extent_pages.specs.Stored.{AreOfLeaf};
 ghost use Rattle.extent_pages.specs.Reads.{Gives, GivesPart};
 
@@ -181,6 +182,7 @@ pub(crate) fn read_leaf(
 ) -> Result<Vec<(Oid, Object)>, PageFault>
     ensures objects { Gives (λ objects. objects.items) result (leaf_of leaf chain.now) }
     ensures stored { IfOk result (λ objects. AreOfLeaf leaf objects.items) }
+    ensures spelled { IfOk result (λ objects. chain.now.payload ≡ spelled_leaf objects.items) }
     ensures no_disk { IfErr result (λ fault. fault ≢ PageFault.Disk) }
 {
     let payload: &[u8] = &chain.payload;

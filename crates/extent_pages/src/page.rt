@@ -1,5 +1,5 @@
 //! Pages of the file of an extent.
-ghost use Rattle.std.specs.Prelude.{◌≡◌, ◌+◌, ◌≤◌, ◌<◌, ℕ, List, ◌∷◌, [], false, length, take, drop, get_or, replicate, option_map, Result, Ok, Err, IsTrue, IfOk, IfSome, OnOk, IsErrOf};
+ghost use Rattle.std.specs.Prelude.{◌≡◌, ◌+◌, ◌≤◌, ◌<◌, ℕ, List, ◌∷◌, [], true, false, length, take, drop, get_or, replicate, option_map, Result, Ok, Err, IsTrue, IfOk, IfSome, OnOk, IsErrOf};
 ghost use Rattle.std.specs.Int.{w32, w64, from_le_bytes};
 ghost use Rattle.gem_io.specs.Faults.{HasRisen};
 ghost use Rattle.gem_disk.specs.declared.disk.Which.TheVariants as which;
@@ -164,6 +164,7 @@ pub(crate) fn enter_page<D: Disk>(
         → OnOk result (Marks marks.new.items (page ∷ taken)) }
     ensures marks { length marks.new.items ≡ most_pages }
     ensures size { IfOk result (λ bytes. length bytes.items ≡ page_size) }
+    ensures filled { IfOk result (λ bytes. is_filled bytes.items ≡ true) }
     ensures past { IsTrue D.tells → D.past disk.new ≡ D.past disk.old }
     ensures failed { IsErrOf result PageFault.Disk → HasRisen (D.faults disk.old) (D.faults disk.new) }
     ensures later { D.faults disk.old ≤ D.faults disk.new }

@@ -19,6 +19,7 @@ use Rattle.extent_pages.specs.declared.root.Root.{Root}
 use Rattle.extent_pages.specs.Extent.{Leaf, Extent, objects_of, image_in, pages_of_leaves, larger_serial, largest_serial, first_page, root_of}
 use Rattle.extent_pages.specs.Laid.{entries_of}
 use Rattle.extent_pages.specs.Stored.{FitsRoot, FitsEntry, AreEntries, IsOfLeaf, AreOfLeaf}
+use Rattle.extent_pages.proofs.Filled.{directory_long as listed_long}
 use Rattle.extent_plan.specs.Runs.{behind, IsRun}
 use Rattle.extent_plan.specs.Pieces.{chain_pieces, Fills, pages_filled}
 use Rattle.extent_plan.specs.Leaves.{contents_at}
@@ -112,34 +113,16 @@ objects_few (leaf ∷ leaves) all =
 
 -- ---- entries
 
-entries_long : (leaves : List Leaf) → length (flat_map spelled_entry (entries_of leaves)) ≡ 12 * length leaves
-entries_long [] = refl
-entries_long (leaf ∷ leaves) =
-    let entry : ℕ × ℕ = (leaf.number, first_page leaf.pages) in
-    omega (
-      arith,
-      entries_long leaves,
-      length-append (spelled_entry entry) (flat_map spelled_entry (entries_of leaves)),
-      length-append (eight_bytes leaf.number) (four_bytes (first_page leaf.pages)),
-      eight_long leaf.number,
-      four_long (first_page leaf.pages),
-    )
+entries_many : (leaves : List Leaf) → length (entries_of leaves) ≡ length leaves
+entries_many [] = refl
+entries_many (leaf ∷ leaves) = ap (λ (n : ℕ). suc n) (entries_many leaves)
 
 pub directory_long : (leaves : List Leaf) → length (spelled_directory (entries_of leaves)) ≡ 4 + 12 * length leaves
-directory_long leaves = omega (
-  arith,
-  entries_long leaves,
-  length-append (four_bytes (length (entries_of leaves))) (flat_map spelled_entry (entries_of leaves)),
-  four_long (length (entries_of leaves)),
-)
+directory_long leaves = listed_long (entries_of leaves) ∙ ap (λ (n : ℕ). 4 + 12 * n) (entries_many leaves)
 
 keys_are : (leaves : List Leaf) → map (λ (entry : ℕ × ℕ). entry.0) (entries_of leaves) ≡ numbers_of leaves
 keys_are [] = refl
 keys_are (leaf ∷ leaves) = ap (λ (l : List ℕ). leaf.number ∷ l) (keys_are leaves)
-
-entries_many : (leaves : List Leaf) → length (entries_of leaves) ≡ length leaves
-entries_many [] = refl
-entries_many (leaf ∷ leaves) = ap (λ (n : ℕ). suc n) (entries_many leaves)
 
 -- ---- the image
 

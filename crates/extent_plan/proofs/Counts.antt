@@ -133,7 +133,7 @@ module _ {X : Type 0} where
 -- ---- the bytes of a leaf
 
 -- how many bytes stand for what is at a name
-abbrev size_at : ℕ → Option Object → ℕ
+abbrev pub size_at : ℕ → Option Object → ℕ
 size_at name None = 0
 size_at name (Some object) = changed_size (name, object)
 
@@ -143,7 +143,7 @@ spelled_size name (Some object) = ap length (append-nil (spelled_changed (name, 
     ∙ length-append (eight_bytes name) (spelled_object (plain object))
     ∙ ap₂ (λ (a b : ℕ). a + b) (eight_long name) (object_long (plain object))
 
-bytes_before : (image : Image) (leaf before : ℕ) → length (flat_map spelled_changed (objects_before image leaf before))
+pub bytes_before : (image : Image) (leaf before : ℕ) → length (flat_map spelled_changed (objects_before image leaf before))
     ≡ sum_below before (λ place. size_at (name_in leaf place) (get image (name_in leaf place)))
 unfolding objects_before sum_below
 bytes_before image leaf zero = refl
@@ -187,7 +187,7 @@ sizes_in leaf (e ∷ es) rise = by (is_in_leaf leaf e) refl (sizes_in leaf es ri
       ∙ rest
 
 -- a leaf is spelled by as many bytes as are counted over the entries
-leaf_long : (image : Image) (leaf : ℕ) → length (spelled_leaf (leaf_objects image leaf)) ≡ recorded_size (entries image) leaf
+pub leaf_long : (image : Image) (leaf : ℕ) → length (spelled_leaf (leaf_objects image leaf)) ≡ recorded_size (entries image) leaf
 leaf_long image leaf =
     let one : sum_below leaf_size (λ place. size_at (name_in leaf place) (get image (name_in leaf place))) ≡ sum_below leaf_size (size_in leaf (entries image)) =
     sums_alike leaf_size (λ place. size_at (name_in leaf place) (get image (name_in leaf place))) (size_in leaf (entries image))
@@ -260,7 +260,7 @@ none_in leaf (e ∷ es) none name own = by (eqb leaf (e.0 / 64)) refl (none_in l
       found_later name e es (λ same. other (sym own ∙ ap (λ (n : ℕ). n / 64) same))
       ∙ further (sym (ap is_some (found_later leaf (e.0 / 64, e.0) (leaf_pairs es) other)) ∙ none) name own
 
-has_is_one : (image : Image) (leaf : ℕ) → has_leaf image leaf ≡ is_one_of leaf (leaves_of (entries image))
+pub has_is_one : (image : Image) (leaf : ℕ) → has_leaf image leaf ≡ is_one_of leaf (leaves_of (entries image))
 has_is_one image leaf = by (is_some (find nat_cmp leaf (leaf_pairs (entries image)))) refl ∙ sym (one_is_found leaf (entries image)) where
   by : (b : Bool) → is_some (find nat_cmp leaf (leaf_pairs (entries image))) ≡ b → has_leaf image leaf ≡ is_some (find nat_cmp leaf (leaf_pairs (entries image)))
   by true is =
@@ -450,7 +450,7 @@ module _ (image : Image) (named : AreNamed image) where
   size_same : (leaf : ℕ) → chain_pages (recorded_size (entries image) leaf) ≡ pages_filled (length (spelled_leaf (leaf_objects image leaf)))
   size_same leaf = ap pages_filled (sym (leaf_long image leaf))
 
-  directory_same : chain_pages (directory_size (entries image)) ≡ pages_filled (4 + 12 * leaves_in image)
+  pub directory_same : chain_pages (directory_size (entries image)) ≡ pages_filled (4 + 12 * leaves_in image)
   directory_same = ap (λ (n : ℕ). pages_filled (4 + 12 * n)) leaves_many
 
   -- ---- all of them are written
@@ -497,7 +497,7 @@ module _ (image : Image) (named : AreNamed image) where
           by true false false known = absurd (false≢true (known refl refl))
           by false changed one known = refl
 
-    later_total : sum_by (λ leaf. chain_pages (recorded_size (entries image) leaf)) (filter (is_stale since (entries image)) all_leaves)
+    pub later_total : sum_by (λ leaf. chain_pages (recorded_size (entries image) leaf)) (filter (is_stale since (entries image)) all_leaves)
         ≡ sum_below (2 ^ 42) (pages_written image since numbers)
     later_total = sum_filtered (λ leaf. chain_pages (recorded_size (entries image) leaf)) (is_stale since (entries image)) all_leaves
         ∙ sym (over_leaves stale_size)

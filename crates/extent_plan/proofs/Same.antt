@@ -1,15 +1,15 @@
 -- Chains have as many pages as their payloads fill, and leaves of the same names and contents the same bytes.
-use Rattle.std.proofs.Common.{◌≡◌, ℕ, ◌+◌, ◌*◌, ◌<◌, ◌≤◌, ◌==◌, Bool, true, false, cond, ◌&&◌, ◌||◌, nat_le, List, [], ◌∷◌, ◌++◌, length, drop, Some, None, refl, sym, ap, ◌∙◌, length-append, arith}
+use Rattle.std.proofs.Common.{◌≡◌, ℕ, ◌+◌, ◌*◌, ◌<◌, ◌≤◌, Bool, true, false, cond, List, [], ◌∷◌, ◌++◌, length, drop, Some, None, refl, sym, ap, ◌∙◌, length-append, arith}
 use Rattle.std.specs.List.{flat_map}
 use Rattle.std.proofs.lemmas.Bool.Decides.{nat_tests}
 use Rattle.std.proofs.lemmas.List.{length-take, length-drop}
 use Rattle.gem_object.specs.declared.object.Object.{Object}
 use Rattle.gem_image.specs.Image.{Contents, contents_of}
 use Rattle.body_codec.specs.Spelled.{eight_bytes, spelled_object, spelled_changed}
-use Rattle.extent_pages.specs.Pages.{page_size, payload_size, pages_of, page_of, is_inside, next_in, used_in, payload_in}
+use Rattle.extent_pages.specs.Pages.{page_size, payload_size, pages_of, page_of, is_inside, payload_in}
 use Rattle.extent_pages.specs.Spelled.{spelled_leaf}
-use Rattle.extent_pages.specs.Laid.{IsPage, Links, AreFree}
-use Rattle.extent_pages.proofs.Tests.{both_true}
+use Rattle.extent_pages.specs.Laid.{Links, AreFree}
+use Rattle.extent_pages.proofs.Filled.{is_used}
 use Rattle.extent_plan.specs.Pieces.{pages_filled}
 use Rattle.extent_plan.specs.Shared.{Alike}
 use Rattle.extent_plan.proofs.Lays.{free_none}
@@ -31,41 +31,19 @@ page_whole file page bytes there = by (is_inside file page) refl there where
       ∙ omega (arith, length-take page_size (drop (page_size * page) file), length-drop (page_size * page) file, fits)
   by false inside e = none_some bytes e
 
--- how much of it is used
-record IsUsed (next : ℕ) (bytes : List ℕ) : Type 0 where
-  some : 1 ≤ length (payload_in bytes)
-  most : length (payload_in bytes) ≤ payload_size
-  full : 0 < next → length (payload_in bytes) ≡ payload_size
-
-used : (file : List ℕ) (page next : ℕ) (bytes : List ℕ) → IsPage (pages_of file) page next bytes → IsUsed next bytes
-used file page next bytes is =
-    let whole = page_whole file page bytes is.there in
-    let first = both_true (nat_le 1 (used_in bytes)) (nat_le (used_in bytes) payload_size && ((next_in bytes == 0) || (used_in bytes == payload_size))) is.filled in
-    let second = both_true (nat_le (used_in bytes) payload_size) ((next_in bytes == 0) || (used_in bytes == payload_size)) first.1 in
-    let low : 1 ≤ used_in bytes = grind (arith, nat_tests, first.0) in
-    let high : used_in bytes ≤ payload_size = grind (arith, nat_tests, second.0) in
-    let long : length (payload_in bytes) ≡ used_in bytes = omega (arith, length-take (used_in bytes) (drop 8 bytes), length-drop 8 bytes, whole, high) in
-    record {
-      some = omega (arith, long, low);
-      most = omega (arith, long, high);
-      full = λ more.
-          let other : used_in bytes ≡ payload_size = grind (arith, nat_tests, second.1, is.next_is, more) in
-          omega (arith, long, other);
-    }
-
 -- a chain has as many pages as its payload fills
 pub chain_many : (file : List ℕ) (pages payload taken : List ℕ) → Links (pages_of file) pages payload → AreFree taken pages
     → (length pages ≡ pages_filled (length payload)) × (0 < length payload)
 chain_many file [] payload taken links free = absurd links
 chain_many file (page ∷ []) payload taken links free =
-    let u = used file page 0 links.0 links.1 in
+    let u = is_used links.0 (page_whole file page links.0 links.1.there) links.1.filled in
     let long : length payload ≡ length (payload_in links.0) = ap length links.2 in
     (omega (arith, long, u.some, u.most), omega (arith, long, u.some))
 chain_many file (page ∷ next ∷ pages) payload taken links free =
-    let u = used file page next links.0 links.2 in
+    let u = is_used links.0 (page_whole file page links.0 links.2.there) links.2.filled in
     let more = chain_many file (next ∷ pages) links.1 (page ∷ taken) links.4 free.1 in
     let high : 3 ≤ next = (free_none (page ∷ taken) next free.1.0).0 in
-    let full = u.full (omega (arith, high)) in
+    let full = u.full (omega (arith, high, links.2.next_is)) in
     let long : length payload ≡ payload_size + length links.1 = ap length links.3 ∙ omega (arith, full, length-append (payload_in links.0) links.1) in
     (omega (arith, long, more.0, more.1), omega (arith, long))
 

@@ -29,7 +29,7 @@ none_in number name (entry ∷ objects) all differ =
     ap (λ b. cond b (Some entry.1) (find nat_cmp name objects)) (other_key name entry.0 (λ e. differ (ap (λ (n : ℕ). n / leaf_size) e ∙ own)))
     ∙ none_in number name objects all.1 differ
 
-none_of : (leaf : Leaf) (name : ℕ) → IsStoredLeaf leaf → name / leaf_size ≢ leaf.number → find nat_cmp name leaf.objects ≡ None
+pub none_of : (leaf : Leaf) (name : ℕ) → IsStoredLeaf leaf → name / leaf_size ≢ leaf.number → find nat_cmp name leaf.objects ≡ None
 none_of leaf name is differ = none_in leaf.number name leaf.objects (recursion_from_All (IsOfLeaf leaf.number) leaf.objects is.are.each) differ
 
 none_among : (leaves : List Leaf) (name : ℕ) → AllByRecursion IsStoredLeaf leaves

@@ -11,7 +11,7 @@ ghost use Rattle.extent_pages.specs.Pages.{most_pages, pages_of, is_one_of, Chai
 ghost use Rattle.extent_pages.specs.Spelled.{spelled_leaf};
 ghost use Rattle.extent_pages.specs.Extent.{Leaf, Extent, pages_of_leaves};
 ghost use Rattle.extent_pages.specs.Laid.{IsChain, LeavesLie, IsLaid};
-ghost use Rattle.extent_pages.specs.Stored.{IsStoredLeaf, AreStored};
+ghost use Rattle.extent_pages.specs.Stored.{IsStoredLeaf, AreStored, IsStoredExtent};
 ghost use Rattle.extent_plan.specs.declared.place.LeafPlace.{LeafPlace};
 ghost use Rattle.extent_plan.specs.Pieces.{pages_filled};
 ghost use Rattle.extent_plan.specs.Plan.{ArePlaces, Around, IsPlanned};
@@ -40,11 +40,12 @@ pub fn leaves_may_stay()
         Sharing image since old }
 {}
 
-/// The leaves of a plan can be stored, where each of the old ones can.
-pub fn planned_leaves_can_be_stored()
+/// The extent of a plan can be stored, where each of the old leaves can: its leaves are of their form,
+/// and they and the directory have as many pages as their bytes fill.
+pub fn planned_extents_can_be_stored()
     ensures { (kept : List ℕ) (old : List Leaf) (page : ℕ) (around : Around) (extent : Extent)
         (pieces : List Piece) → IsPlanned kept old page around extent pieces →
-        AllByRecursion IsStoredLeaf old → AreStored extent.leaves }
+        AllByRecursion IsStoredLeaf old → IsStoredExtent extent }
 {}
 
 /// A chain that lies in a file has as many pages as its payload fills.

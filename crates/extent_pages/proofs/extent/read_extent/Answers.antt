@@ -1,10 +1,11 @@
-use Rattle.std.proofs.Common.{List, ℕ, Ok, option_map, IsTrue, sym, ap, ◌∙◌}
+use Rattle.std.proofs.Common.{◌≡◌, List, ℕ, ◌+◌, ◌*◌, length, Ok, option_map, IsTrue, sym, ap, ◌∙◌}
 use Rattle.std.proofs.lemmas.Result.{err_from_is_err_and}
 use Rattle.gem_disk.specs.declared.disk.Which.TheVariants as which
 use Rattle.gem_disk.specs.Disk.{reads}
+use Rattle.gem_record.specs.Stored.{chain_pages}
 use Rattle.extent_pages.specs.Pages.{pages_of, Chain}
 use Rattle.extent_pages.specs.Extent.{root_in}
-use Rattle.extent_pages.proofs.Extents.{page_missing, leaves_exit, counts_exit, counts_fault, firsts_of, stored_by}
+use Rattle.extent_pages.proofs.Extents.{page_missing, leaves_exit, counts_exit, counts_fault, firsts_of, stored_by, as_many}
 use Rattle.extent_pages.proofs.extent.read_extent.Goals as goal
 
 pub returns-in_default-clause-extent : goal.returns-in_default-clause-extent
@@ -53,5 +54,11 @@ returns-clause-extent g c tell =
 
 pub returns-then-is_counted-clause-stored : goal.returns-then-is_counted-clause-stored
 returns-then-is_counted-clause-stored g c =
-    stored_by c.in_ok-entries.entries.items c.in_ok-leaves.leaves.items c.in_ok-entries.ensures.stored
-    c.in_ok-leaves.ensures.stored (c.in_ok-leaves.ensures.numbers ∙ ap firsts_of c.deref-2.ensures.value)
+    let numbers = c.in_ok-leaves.ensures.numbers ∙ ap firsts_of c.deref-2.ensures.value in
+    let pages_are : c.chain.inside.pages.items ≡ c.in_ok-chain.chain.pages = ap (λ (p : Chain). p.pages) c.chain.view_is in
+    record {
+      leaves = stored_by c.in_ok-entries.entries.items c.in_ok-leaves.leaves.items c.in_ok-entries.ensures.stored
+          c.in_ok-leaves.ensures.stored numbers;
+      directory = ap (λ (l : List ℕ). length l) pages_are ∙ c.in_ok-chain.ensures.filled ∙ ap chain_pages c.in_ok-entries.ensures.long
+          ∙ ap (λ (n : ℕ). chain_pages (4 + 12 * n)) (sym (as_many c.in_ok-entries.entries.items c.in_ok-leaves.leaves.items numbers));
+    }

@@ -1,5 +1,5 @@
 use Rattle.extent_plan.proofs.Storing.{planned_stored}
-use Rattle.extent_plan.proofs.laws.planned_leaves_can_be_stored.Goals as goal
+use Rattle.extent_plan.proofs.laws.planned_extents_can_be_stored.Goals as goal
 
 pub returns : goal.returns
 returns c kept old page around extent pieces planned all =
