@@ -3,16 +3,17 @@ use Rattle.std.proofs.Common.{◌≡◌, ℕ, ◌≤◌, max, List, [], ◌∷�
 use Rattle.gem_disk.specs.declared.disk.Which.TheVariants.{Extent as OfExtent}
 use Rattle.gem_disk.specs.Disk.{Past, reads, placed, Torn}
 use Rattle.gem_disk.proofs.Placed.{length-placed}
-use Rattle.disk_pieces.specs.Pieces.{Piece, end_of, Reach, IsEither, IsSwitched}
-use Rattle.disk_pieces.specs.Crashes.{IsDurable, OnlyLeaves, MayWrite}
+use Rattle.disk_pieces.specs.Pieces.{Piece, end_of, Reach, Keeps, IsEither, IsSwitched}
+use Rattle.disk_pieces.specs.Crashes.{IsDurable, OnlyLeaves, MayWrite, SwitchesLast}
 use Rattle.disk_pieces.proofs.Crashes.{only_less, only_after, only_durable}
-use Rattle.extent_pages.specs.Extent.{Extent, selected}
+use Rattle.disk_pieces.proofs.Switching.{switches_none, switches_less, switches_after}
+use Rattle.extent_pages.specs.Extent.{Extent, selected, extent_of}
 use Rattle.extent_pages.specs.Pages.{pages_of}
 use Rattle.extent_pages.specs.Laid.{IsLaid, kept_pages}
-use Rattle.page_file.specs.Checkpoint.{kept_of, other_page, IsClosed, HasNone, HoldsEither, Lays, MayRenew, MayBegin}
+use Rattle.page_file.specs.Checkpoint.{kept_of, other_page, IsClosed, HasNone, HoldsEither, SwitchesFrom, Lays, MayRenew, MayBegin}
 use Rattle.page_file.specs.Planned.{IsRooted}
 use Rattle.page_file.proofs.Files.{short_none, none_closed, first_placed}
-use Rattle.page_file.proofs.Images.{later_image, later_done, first_image, first_done}
+use Rattle.page_file.proofs.Images.{later_before, later_image, later_done, first_before, first_image, first_done}
 
 -- what is held where a call succeeds
 pub on_ok : {T E : Type 0} (P Q : Type 0) (result : Result T E) → (P → Q) → OnOk result P → OnOk result Q
@@ -33,6 +34,9 @@ module _ (past new : Past) (extent next : Extent) (page : ℕ) (pieces : List Pi
 
   pub later_leaves : OnlyLeaves (IsEither (kept_of 2 (kept_pages (reads past OfExtent) extent)) pieces 1 (reads past OfExtent)) past new → OnlyLeaves (HoldsEither (Some extent) next) past new
   later_leaves only = only_less kept_now (λ image. HoldsEither (Some extent) next image) past new (later_image file extent next pieces may.stands lays_other) only
+
+  pub later_switches : SwitchesLast (Keeps (kept_of 2 (kept_pages (reads past OfExtent) extent)) (reads past OfExtent)) 1 past new → SwitchesFrom (Some extent) past new
+  later_switches is = switches_less (Keeps (kept_of 2 (kept_pages file extent)) file) (λ image. extent_of image ≡ Ok (Some extent)) 1 past new (later_before file extent next pieces may.stands lays_other) is
 
   pub later_made : {T E : Type 0} (result : Result T E)
       → OnOk result (IsSwitched (kept_of 2 (kept_pages (reads past OfExtent) extent)) pieces 1 page (reads past OfExtent) (reads new OfExtent))
@@ -84,6 +88,10 @@ module _ (past mid : Past) (next : Extent) (pieces : List Piece) (may : MayBegin
         (only_less (λ image. IsEither (kept_of 1 []) pieces 0 (reads mid OfExtent) image) (λ image. HoldsEither None next image) mid new
         (first_image (reads mid OfExtent) next pieces closed (may.lays (reads mid OfExtent))) only) (λ image none. inl none)
 
+    pub first_switches : OnlyLeaves HasNone past mid → SwitchesLast (Keeps (kept_of 1 []) (reads mid OfExtent)) 0 mid new → SwitchesFrom None past new
+    first_switches before is = switches_after (λ image. HasNone image) 0 past mid new before
+        (switches_less (Keeps (kept_of 1 []) (reads mid OfExtent)) (λ image. HasNone image) 0 mid new (first_before (reads mid OfExtent) next pieces closed (may.lays (reads mid OfExtent))) is)
+
     pub first_made : {T E : Type 0} (result : Result T E)
         → OnOk result (IsSwitched (kept_of 1 []) pieces 0 1 (reads mid OfExtent) (reads new OfExtent))
         → OnOk result (IsRooted (reads new OfExtent) next 1)
@@ -94,3 +102,6 @@ module _ (past mid : Past) (next : Extent) (pieces : List Piece) (may : MayBegin
 pub none_left : (past mid : Past) (next : Extent) → OnlyLeaves HasNone past mid
     → OnlyLeaves (HoldsEither None next) past mid
 none_left past mid next only = only_less HasNone (λ image. HoldsEither None next image) past mid (λ image none. inl none) only
+
+pub none_switches : (past mid : Past) → OnlyLeaves HasNone past mid → SwitchesFrom None past mid
+none_switches past mid only = switches_none (λ image. HasNone image) 0 past mid only

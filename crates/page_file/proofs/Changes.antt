@@ -6,6 +6,7 @@ use Rattle.gem_image.specs.Image.{Image}
 use Rattle.disk_pieces.specs.Pieces.{Piece}
 use Rattle.disk_pieces.specs.Crashes.{IsDurable, OnlyLeaves}
 use Rattle.disk_pieces.proofs.Crashes.{only_durable}
+use Rattle.disk_pieces.proofs.Switching.{switches_none}
 use Rattle.extent_pages.specs.Pages.{pages_of}
 use Rattle.extent_pages.specs.Extent.{Extent, image_in, selected, extent_of}
 use Rattle.extent_pages.specs.Laid.{IsLaid}
@@ -21,7 +22,7 @@ use Rattle.extent_plan.proofs.Storing.{planned_stored}
 use Rattle.page_file.specs.declared.file.Current.{Current}
 use Rattle.page_file.specs.declared.file.PageFile.{PageFile}
 use Rattle.page_file.specs.Around.{first_around, later_around}
-use Rattle.page_file.specs.Checkpoint.{other_page, StandsFor}
+use Rattle.page_file.specs.Checkpoint.{other_page, switch_of, SwitchesFrom, StandsFor}
 use Rattle.page_file.specs.Planned.{root_before, new_page, AreUsed, IsRooted, MayCheckpoint}
 use Rattle.page_file.specs.PageFile.{IsCurrent, AreLists}
 use Rattle.page_file.specs.Changing.{root_in, MayShare, MayChange, IsNext, IsChanged}
@@ -42,8 +43,8 @@ module _ (file : List ℕ) (current : Current) (extent : Extent) (is : IsCurrent
     far = used_far (pages_of file) (selected file) extent laid;
     numbers = used_few file (selected file) extent laid;
     few = leaves_few file (selected file) extent laid;
-    sharing = subst (λ (n : ℕ). Sharing image n extent.leaves) (sym is.number) (sharing_from image extent.number extent.leaves keeps is.stored);
-    stored = is.stored;
+    sharing = subst (λ (n : ℕ). Sharing image n extent.leaves) (sym is.number) (sharing_from image extent.number extent.leaves keeps is.stored.leaves);
+    stored = is.stored.leaves;
     keeps = keeps;
     many = λ used ascend are. used_many file (selected file) extent laid used 3 ascend are;
   }
@@ -103,7 +104,7 @@ module _ (past : Past) (image : Image) (number : ℕ) (plan : Plan) where
             page_is = page;
             directory = for.directory;
             leaves = for.leaves;
-            stored = planned_stored kept extent.leaves (3 - current.page) later_around for.extent plan.pieces.items for.planned is.stored.each;
+            stored = planned_stored kept extent.leaves (3 - current.page) later_around for.extent plan.pieces.items for.planned is.stored.leaves.each;
           }
 
 -- ---- around the writing
@@ -162,3 +163,8 @@ is_changed past new before image number page plan pages current next durable roo
 pub still_stands : (past : Past) (pages : PageFile) (before : Option Extent) (image : Image) (number : ℕ)
     → MayChange past pages before image number → OnlyLeaves (StandsFor before image number) past past
 still_stands past pages before image number may = only_durable (λ (file : List ℕ). StandsFor before image number file) past may.at_rest.durable (inl may.at_rest.stands)
+
+pub nothing_switched : (past : Past) (pages : PageFile) (before : Option Extent) (image : Image) (number : ℕ)
+    → MayChange past pages before image number → SwitchesFrom before past past
+nothing_switched past pages before image number may = switches_none (λ (file : List ℕ). extent_of file ≡ Ok before) (switch_of before) past past
+    (only_durable (λ (file : List ℕ). extent_of file ≡ Ok before) past may.at_rest.durable may.at_rest.stands)

@@ -24,7 +24,7 @@ use Rattle.page_file.specs.Planned.{AreUsed}
 use Rattle.page_file.specs.Changing.{check_fault, pages_taken, IsFaultCounted, IsPlanFaultCounted, IsPlanCounted, MayShare}
 
 -- numbers that ascend
-ascend_numbers : (from : ℕ) (numbers : List ℕ) → AllByRecursion (λ (n : ℕ). from ≤ n) numbers
+pub ascend_numbers : (from : ℕ) (numbers : List ℕ) → AllByRecursion (λ (n : ℕ). from ≤ n) numbers
     → IsStrictlySortedBy nat_cmp numbers → AscendFrom from numbers
 unfolding IsStrictlySortedBy
 ascend_numbers from [] above sorted = tt
@@ -33,7 +33,7 @@ ascend_numbers from (number ∷ numbers) above sorted = (
   ascend_numbers (number + 1) numbers (all_less (λ (n : ℕ). nat_cmp number n ≡ Less) (λ (n : ℕ). number + 1 ≤ n) (λ n less. let low = ranked number n Less (sym less) in omega (arith, low)) numbers sorted.0) sorted.1,
 )
 
-from_zero : (numbers : List ℕ) → AllByRecursion (λ (n : ℕ). 0 ≤ n) numbers
+pub from_zero : (numbers : List ℕ) → AllByRecursion (λ (n : ℕ). 0 ≤ n) numbers
 from_zero [] = tt
 from_zero (number ∷ numbers) = (omega arith, from_zero numbers)
 

@@ -45,9 +45,12 @@ module _ (file : List ℕ) (extent next : Extent) (pieces : List Piece) (stands 
         by (inl same) = inl (opens image extent (image_open (selected written) extent (from_one (selected written) (is_root (get_or written 1 0))) still.laid (same ∙ sym chosen)))
         by (inr other) = inr (opens image next (image_open (other_page (selected file)) next (from_one (other_page (selected file)) (other_is_root (selected file) (is_root (get_or file 1 0)))) (lays written brought) other))
 
+  pub later_before : (image : List ℕ) → Keeps (kept_of 2 (kept_pages file extent)) file image → extent_of image ≡ Ok (Some extent)
+  later_before image keeps = opens image extent (kept_open image keeps)
+
   pub later_image : (image : List ℕ) → IsEither (kept_of 2 (kept_pages file extent)) pieces 1 file image
       → HoldsEither (Some extent) next image
-  later_image image (inl keeps) = inl (opens image extent (kept_open image keeps))
+  later_image image (inl keeps) = inl (later_before image keeps)
   later_image image (inr (written, brought, torn)) = old_or_new written image brought torn
 
   -- once the selector has the number of the other root's page
@@ -97,8 +100,11 @@ module _ (file : List ℕ) (next : Extent) (pieces : List Piece) (closed : IsClo
           gate = grind (arith, nat_tests, apart);
         })
 
+  pub first_before : (image : List ℕ) → Keeps (kept_of 1 []) file image → extent_of image ≡ Ok None
+  first_before image keeps = closed_none image (closed_kept file image closed keeps.front keeps.no_shorter)
+
   pub first_image : (image : List ℕ) → IsEither (kept_of 1 []) pieces 0 file image → HoldsEither None next image
-  first_image image (inl keeps) = inl (closed_none image (closed_kept file image closed keeps.front keeps.no_shorter))
+  first_image image (inl keeps) = inl (first_before image keeps)
   first_image image (inr (written, brought, torn)) = none_or_new written image brought torn
 
   -- once the gate is open

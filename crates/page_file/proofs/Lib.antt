@@ -10,3 +10,5 @@ mod Counted
 mod Shares
 mod Changes
 mod Rests
+mod ImagePages
+mod Using

@@ -6,7 +6,7 @@ use Rattle.gem_disk.specs.Disk.{Past, Synced, reads, stepped}
 use Rattle.gem_image.specs.Image.{Image}
 use Rattle.disk_pieces.specs.Crashes.{IsDurable}
 use Rattle.extent_pages.specs.Extent.{Leaf, Extent, selected, extent_of}
-use Rattle.extent_pages.specs.Stored.{IsStoredLeaf, AreStored}
+use Rattle.extent_pages.specs.Stored.{IsStoredLeaf, IsStoredExtent}
 use Rattle.extent_plan.specs.declared.place.LeafPlace.{LeafPlace}
 use Rattle.extent_plan.specs.Plan.{ArePlaces}
 use Rattle.page_file.specs.declared.file.Current.{Current}
@@ -19,13 +19,13 @@ pub found_some : (old : Past) (found : Option Extent) (extent : Extent) → exte
     → found ≡ Some extent → extent_of (reads old OfExtent) ≡ Ok (Some extent)
 found_some old found extent read is = subst (λ (o : Option Extent). extent_of (reads old OfExtent) ≡ Ok o) is read
 
--- its leaves can be stored
+-- it can be stored
 pub stored_of : (found : Option Extent) (extent : Extent) (leaves : List Leaf) → found ≡ Some extent
-    → leaves ≡ extent.leaves → IfSome found (λ (e : Extent). AreStored e.leaves)
-    → AreStored extent.leaves × AllByRecursion IsStoredLeaf leaves
+    → leaves ≡ extent.leaves → IfSome found (λ (e : Extent). IsStoredExtent e)
+    → IsStoredExtent extent × AllByRecursion IsStoredLeaf leaves
 stored_of found extent leaves is leaves_are stored =
-    let each : AreStored extent.leaves = subst (λ (o : Option Extent). IfSome o (λ (e : Extent). AreStored e.leaves)) is stored in
-    (each, subst (AllByRecursion IsStoredLeaf) (sym leaves_are) each.each)
+    let each : IsStoredExtent extent = subst (λ (o : Option Extent). IfSome o (λ (e : Extent). IsStoredExtent e)) is stored in
+    (each, subst (AllByRecursion IsStoredLeaf) (sym leaves_are) each.leaves.each)
 
 module _ (old new : Past) (synced : new ≡ stepped old OfExtent Synced (reads old OfExtent)) where
   -- a sync changes nothing that is read, and brings all of it to the disk
@@ -53,7 +53,7 @@ module _ (old new : Past) (synced : new ≡ stepped old OfExtent Synced (reads o
   )
 
   -- where one was
-  module _ (extent : Extent) (read : extent_of (reads old OfExtent) ≡ Ok (Some extent)) (stored : AreStored extent.leaves) where
+  module _ (extent : Extent) (read : extent_of (reads old OfExtent) ≡ Ok (Some extent)) (stored : IsStoredExtent extent) where
     pub some_found : (pages : PageFile) (current : Current) (image : Image) (number : ℕ) (places : List LeafPlace)
         → pages.current ≡ Some current → AreTaken extent.leaves image places
         → current.page ≡ selected (reads new OfExtent) → current.number ≡ number

@@ -7,7 +7,7 @@ use Rattle.disk_pieces.specs.Pieces.{Piece}
 use Rattle.disk_pieces.specs.Crashes.{OnlyLeaves}
 use Rattle.disk_pieces.proofs.Crashes.{only_less}
 use Rattle.extent_pages.specs.Extent.{Extent, selected}
-use Rattle.page_file.specs.Checkpoint.{other_page, HoldsEither, MayRenew, MayBegin, StandsFor, IsCheckpoint}
+use Rattle.page_file.specs.Checkpoint.{other_page, HoldsEither, SwitchesFrom, MayRenew, MayBegin, StandsFor, IsCheckpoint}
 use Rattle.page_file.specs.Planned.{root_before, MayCheckpoint}
 use Rattle.page_file.proofs.Plans.{may_renew, may_begin}
 
@@ -43,6 +43,11 @@ module _ (past : Past) (image : Image) (number : ℕ) (pieces : List Piece) wher
   first_stands new None may e only = only_stands None may new only
   first_stands new (Some extent) may e only = none_some (selected (reads past OfExtent)) e
 
+  pub first_switched : (new : Past) (before : Option Extent) (may : MayCheckpoint past before image number pieces)
+      → None ≡ root_before (reads past OfExtent) before → SwitchesFrom None past new → SwitchesFrom before past new
+  first_switched new None may e is = is
+  first_switched new (Some extent) may e is = none_some (selected (reads past OfExtent)) e
+
   -- where there is one
   module _ (page : ℕ) where
     pub renews : (before : Option Extent) (may : MayCheckpoint past before image number pieces)
@@ -63,3 +68,9 @@ module _ (past : Past) (image : Image) (number : ℕ) (pieces : List Piece) wher
     later_stands new before may e only =
         let r = renews before may e in
         only_stands before may new (subst (λ (b : Option Extent). OnlyLeaves (HoldsEither b may.next) past new) (sym r.1) (only r.0 r.2))
+
+    pub later_switched : (new : Past) (before : Option Extent) (may : MayCheckpoint past before image number pieces)
+        → Some page ≡ root_before (reads past OfExtent) before
+        → ((extent : Extent) → MayRenew past extent may.next (3 - page) pieces → SwitchesFrom (Some extent) past new) → SwitchesFrom before past new
+    later_switched new before may e is =
+        let r = renews before may e in subst (λ (b : Option Extent). SwitchesFrom b past new) (sym r.1) (is r.0 r.2)

@@ -5,13 +5,13 @@ use Rattle.gem_disk.specs.Disk.{Past}
 use Rattle.gem_disk.specs.declared.disk.Which.TheVariants.{Extent as OfExtent}
 use Rattle.gem_disk.specs.Disk.{reads}
 use Rattle.gem_image.specs.Image.{Image}
-use Rattle.gem_record.specs.Stored.{Root, pages_over}
+use Rattle.gem_record.specs.Stored.{Root, pages_over, after_checkpoint}
 use Rattle.extent_pages.specs.Extent.{Extent, image_in, pages_of_leaves, pages_used}
 use Rattle.extent_pages.specs.Pages.{most_pages, is_one_of}
 use Rattle.extent_plan.specs.Drafts.{Sharing}
 use Rattle.extent_plan.specs.Runs.{AscendFrom}
 use Rattle.page_file.specs.declared.file.Current.{Current}
-use Rattle.extent_pages.specs.Stored.{AreStored}
+use Rattle.extent_pages.specs.Stored.{AreStored, IsStoredExtent}
 use Rattle.extent_plan.specs.declared.plan.Plan.{Plan}
 use Rattle.extent_plan.specs.declared.plan.PlanFault.{PlanFault}
 use Rattle.extent_plan.specs.declared.plan.PlanFault.TheVariants as plans
@@ -43,6 +43,11 @@ abbrev pub counted_root : Option Extent → Option Root
 counted_root None = None
 counted_root (Some extent) =
     Some (record { number = extent.number; pages = length (pages_used extent) })
+
+-- the root that the record of what is stored has of an image that was found, with its number
+abbrev pub root_found : Option Image → ℕ → Option Root
+root_found None number = None
+root_found (Some image) number = (after_checkpoint true image number).root
 
 -- all pages of a checkpoint of an image over what an extent stands for
 abbrev pub pages_taken : Option Extent → Image → ℕ
@@ -107,7 +112,7 @@ pub record IsNext (past : Past) (before : Option Extent) (image : Image) (number
   pub page_is : page ≡ new_page (root_before (reads past OfExtent) before)
   pub directory : plan.directory.items ≡ may.next.directory
   pub leaves : ArePlaces plan.leaves.items may.next.leaves
-  pub stored : AreStored may.next.leaves
+  pub stored : IsStoredExtent may.next
 
 -- the extent of the disk is a checkpoint of the image, and the open extent says where it lies
 pub record IsChanged (past : Past) (pages : PageFile) (image : Image) (number : ℕ) : Type 0 where

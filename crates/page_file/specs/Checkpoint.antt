@@ -4,7 +4,7 @@ use Rattle.gem_image.specs.Image.{Image, objects_in}
 use Rattle.gem_disk.specs.declared.disk.Which.TheVariants.{Extent as OfExtent}
 use Rattle.gem_disk.specs.Disk.{Past, reads}
 use Rattle.disk_pieces.specs.Pieces.{Piece, Reach, Ascend, Kept, AllMiss, IsBrought}
-use Rattle.disk_pieces.specs.Crashes.{IsDurable, MayWrite}
+use Rattle.disk_pieces.specs.Crashes.{IsDurable, MayWrite, SwitchesLast}
 use Rattle.extent_pages.specs.Pages.{page_size, is_one_of, pages_of}
 use Rattle.extent_pages.specs.Extent.{Extent, image_in, selected, extent_of}
 use Rattle.extent_pages.specs.Laid.{IsLaid, kept_pages}
@@ -34,6 +34,19 @@ HasNone file = extent_of file ≡ Ok None
 abbrev pub HoldsEither : Option Extent → Extent → List ℕ → Type 0
 HoldsEither before next image =
     (extent_of image ≡ Ok before) ⊎ (extent_of image ≡ Ok (Some next))
+
+-- the offset of the byte that a checkpoint writes last: that of the gate where the extent stands for
+-- none, and else that of the selector
+abbrev pub switch_of : Option Extent → ℕ
+switch_of None = 0
+switch_of (Some extent) = 1
+
+-- What a checkpoint does to an extent. While pages are written, a crash leaves one that stands for
+-- what it stood for before. Then nothing more is done; or, with all pages on the disk, the gate or the
+-- selector is written.
+abbrev pub SwitchesFrom : Option Extent → Past → Past → Type 0
+SwitchesFrom before old new =
+    SwitchesLast (λ file. extent_of file ≡ Ok before) (switch_of before) old new
 
 -- ---- Pieces of a checkpoint.
 

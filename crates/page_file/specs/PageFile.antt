@@ -7,7 +7,7 @@ use Rattle.disk_pieces.specs.Crashes.{IsDurable}
 use Rattle.extent_pages.specs.declared.fault.PageFault.{PageFault}
 use Rattle.extent_pages.specs.Pages.{Fault}
 use Rattle.extent_pages.specs.Extent.{Extent, image_in, selected, extent_of}
-use Rattle.extent_pages.specs.Stored.{AreStored}
+use Rattle.extent_pages.specs.Stored.{IsStoredExtent}
 use Rattle.extent_pages.specs.Reads.{IsFault}
 use Rattle.extent_plan.specs.Plan.{ArePlaces}
 use Rattle.page_file.specs.declared.file.Current.{Current}
@@ -19,7 +19,7 @@ pub record IsCurrent (file : List ℕ) (current : Current) (extent : Extent) : T
   pub number : current.number ≡ extent.number
   pub directory : current.directory.items ≡ extent.directory
   pub leaves : ArePlaces current.leaves.items extent.leaves
-  pub stored : AreStored extent.leaves
+  pub stored : IsStoredExtent extent
 
 -- the same of an extent that may have no checkpoint
 abbrev pub AreLists : List ℕ → Option Current → Option Extent → Type 0

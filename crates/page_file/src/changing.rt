@@ -6,7 +6,7 @@ ghost use Rattle.disk_pieces.specs.Crashes.{OnlyLeaves};
 ghost use Rattle.extent_pages.specs.Extent.{Extent};
 ghost use Rattle.extent_plan.specs.Planning.{IsPlanFor};
 ghost use Rattle.page_file.specs.Around.{first_around, later_around};
-ghost use Rattle.page_file.specs.Checkpoint.{StandsFor};
+ghost use Rattle.page_file.specs.Checkpoint.{StandsFor, SwitchesFrom};
 ghost use Rattle.page_file.specs.Planned.{AreUsed};
 ghost use Rattle.page_file.specs.Changing.{pages_taken, IsCounted, IsPlanCounted, MayShare, MayChange, IsNext, IsChanged, root_in};
 
@@ -114,8 +114,10 @@ impl PageFile {
     /// image, and each object that wasn't changed after its commit stands in its image with the
     /// same class, segment and body.
     ///
-    /// Until it has answered, a crash leaves an extent that stands for what it stood for, or for
-    /// the image. After `Ok` it stands for the image, all of it on the disk.
+    /// While pages are written, a crash leaves an extent that stands for what it stood for. From the
+    /// write of the selector on, or of the gate at the first checkpoint, it may also stand for the
+    /// image: that one byte is written once all pages are on the disk, and nothing but its sync
+    /// comes after it. After `Ok` it stands for the image, all of it on the disk.
     ///
     /// # Errors
     ///
@@ -137,6 +139,9 @@ impl PageFile {
             MayChange (D.past disk.old) self.old before image.now number →
             OnlyLeaves (StandsFor before image.now number) (D.past disk.old)
             (D.past disk.new) }
+        ensures switches { (before : Option Extent) → IsTrue D.tells →
+            MayChange (D.past disk.old) self.old before image.now number →
+            SwitchesFrom before (D.past disk.old) (D.past disk.new) }
         ensures made { (before : Option Extent) → IsTrue D.tells →
             MayChange (D.past disk.old) self.old before image.now number →
             OnOk result (IsChanged (D.past disk.new) self.new image.now number) }

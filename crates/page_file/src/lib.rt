@@ -8,6 +8,7 @@ mod fault;
 mod file;
 pub mod laws;
 mod opening;
+mod used;
 mod writing;
 
 pub use fault::CheckFault;

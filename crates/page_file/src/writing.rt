@@ -5,7 +5,7 @@ ghost use Rattle.gem_disk.specs.declared.disk.Which.TheVariants as which;
 ghost use Rattle.gem_disk.specs.Disk.{reads};
 ghost use Rattle.disk_pieces.specs.Crashes.{IsDurable, OnlyLeaves};
 ghost use Rattle.extent_pages.specs.Extent.{Extent};
-ghost use Rattle.page_file.specs.Checkpoint.{IsClosed, HoldsEither, HasNone, MayRenew, MayBegin, StandsFor};
+ghost use Rattle.page_file.specs.Checkpoint.{IsClosed, HoldsEither, SwitchesFrom, HasNone, MayRenew, MayBegin, StandsFor};
 ghost use Rattle.page_file.specs.Planned.{root_before, new_page, IsRooted, MayCheckpoint};
 ghost use Rattle.gem_image.specs.Image.{Image};
 
@@ -29,6 +29,9 @@ pub(crate) fn write_later<D: Disk>(disk: &mut D, page: u8, pieces: &[Piece]) -> 
     ensures any_moment { (extent next : Extent) → IsTrue D.tells →
         MayRenew (D.past disk.old) extent next page pieces.now →
         OnlyLeaves (HoldsEither (Some extent) next) (D.past disk.old) (D.past disk.new) }
+    ensures switches { (extent next : Extent) → IsTrue D.tells →
+        MayRenew (D.past disk.old) extent next page pieces.now →
+        SwitchesFrom (Some extent) (D.past disk.old) (D.past disk.new) }
     ensures done { (extent next : Extent) → IsTrue D.tells →
         MayRenew (D.past disk.old) extent next page pieces.now →
         OnOk result (IsRooted (reads (D.past disk.new) which.Extent) next page) }
@@ -63,6 +66,9 @@ pub(crate) fn write_first<D: Disk>(disk: &mut D, pieces: &[Piece]) -> Result<(),
     ensures any_moment { (next : Extent) → IsTrue D.tells →
         MayBegin (D.past disk.old) next pieces.now →
         OnlyLeaves (HoldsEither None next) (D.past disk.old) (D.past disk.new) }
+    ensures switches { (next : Extent) → IsTrue D.tells →
+        MayBegin (D.past disk.old) next pieces.now →
+        SwitchesFrom None (D.past disk.old) (D.past disk.new) }
     ensures done { (next : Extent) → IsTrue D.tells →
         MayBegin (D.past disk.old) next pieces.now →
         OnOk result (IsRooted (reads (D.past disk.new) which.Extent) next 1) }
@@ -87,6 +93,10 @@ pub(crate) fn write_planned<D: Disk>(
         IsTrue D.tells → root ≡ root_before (reads (D.past disk.old) which.Extent) before →
         MayCheckpoint (D.past disk.old) before image number pieces.now →
         OnlyLeaves (StandsFor before image number) (D.past disk.old) (D.past disk.new) }
+    ensures switches { (before : Option Extent) (image : Image) (number : ℕ) →
+        IsTrue D.tells → root ≡ root_before (reads (D.past disk.old) which.Extent) before →
+        MayCheckpoint (D.past disk.old) before image number pieces.now →
+        SwitchesFrom before (D.past disk.old) (D.past disk.new) }
     ensures done { (before : Option Extent) (image : Image) (number : ℕ) →
         IsTrue D.tells → root ≡ root_before (reads (D.past disk.old) which.Extent) before →
         (may : MayCheckpoint (D.past disk.old) before image number pieces.now) →

@@ -1,6 +1,6 @@
 use Rattle.std.proofs.Common.{[]}
 use Rattle.page_file.specs.Checkpoint.{kept_of}
-use Rattle.page_file.proofs.Bringing.{first_reaches, first_may, first_leaves, first_made, none_left}
+use Rattle.page_file.proofs.Bringing.{first_reaches, first_may, first_leaves, first_switches, first_made, none_left, none_switches}
 use Rattle.page_file.proofs.writing.write_first.Goals as goal
 
 pub bring_and_switch-requires-clause-reach : goal.bring_and_switch-requires-clause-reach
@@ -33,3 +33,17 @@ returns-clause-done g c next tells may =
     let durable = c.in_ok-close_gate.ensures.durable tells may.durable in
     first_made past mid next c.args.pieces.now may closed durable (g.D.Disk.past c.bring_and_switch.new.disk) c.bring_and_switch.result
     (c.bring_and_switch.ensures.done (kept_of 1 []) tells (first_may past mid next c.args.pieces.now may closed durable))
+
+pub returns-in_err-close_gate-clause-switches : goal.returns-in_err-close_gate-clause-switches
+returns-in_err-close_gate-clause-switches g c next tells may =
+    none_switches (g.D.Disk.past c.args.disk.now) (g.D.Disk.past c.close_gate.new.disk) (c.in_err-close_gate.ensures.any_moment tells may.durable may.stands)
+
+pub returns-clause-switches : goal.returns-clause-switches
+returns-clause-switches g c next tells may =
+    let past = g.D.Disk.past c.args.disk.now in
+    let mid = g.D.Disk.past c.close_gate.new.disk in
+    let closed = c.in_ok-close_gate.ensures.closed tells may.stands in
+    let durable = c.in_ok-close_gate.ensures.durable tells may.durable in
+    first_switches past mid next c.args.pieces.now may closed durable (g.D.Disk.past c.bring_and_switch.new.disk)
+    (c.in_ok-close_gate.ensures.any_moment tells may.durable may.stands)
+    (c.bring_and_switch.ensures.switches (kept_of 1 []) tells (first_may past mid next c.args.pieces.now may closed durable))

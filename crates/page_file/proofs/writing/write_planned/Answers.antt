@@ -2,7 +2,7 @@ use Rattle.std.proofs.Common.{ℕ, Option, OnOk, sym, subst, ◌∙◌}
 use Rattle.gem_disk.specs.declared.disk.Which.TheVariants.{Extent}
 use Rattle.gem_disk.specs.Disk.{reads}
 use Rattle.page_file.specs.Planned.{new_page, IsRooted}
-use Rattle.page_file.proofs.Planning.{begins, first_stands, renews, later_stands}
+use Rattle.page_file.proofs.Planning.{begins, first_stands, first_switched, renews, later_stands, later_switched}
 use Rattle.page_file.proofs.writing.write_planned.Goals as goal
 
 pub write_first-requires : goal.write_first-requires
@@ -44,3 +44,16 @@ returns-in-Some-clause-done g c before image number tells is may =
     let r = renews past image number c.args.pieces.now c.in-Some.page before may (sym c.in-Some.is ∙ is) in
     subst (λ (root : Option ℕ). OnOk c.write_later.result (IsRooted (reads (g.D.Disk.past c.write_later.new.disk) Extent) may.next (new_page root))) (sym c.in-Some.is)
     (c.write_later.ensures.done r.0 may.next tells r.2)
+
+pub returns-in-None-clause-switches : goal.returns-in-None-clause-switches
+returns-in-None-clause-switches g c before image number tells is may =
+    let past = g.D.Disk.past c.args.disk.now in
+    let none = sym c.in-None.is ∙ is in
+    first_switched past image number c.args.pieces.now (g.D.Disk.past c.write_first.new.disk) before may none
+    (c.write_first.ensures.switches may.next tells (begins past image number c.args.pieces.now before may none))
+
+pub returns-in-Some-clause-switches : goal.returns-in-Some-clause-switches
+returns-in-Some-clause-switches g c before image number tells is may =
+    let past = g.D.Disk.past c.args.disk.now in
+    later_switched past image number c.args.pieces.now c.in-Some.page (g.D.Disk.past c.write_later.new.disk) before may (sym c.in-Some.is ∙ is)
+    (λ extent renew. c.write_later.ensures.switches extent may.next tells renew)
