@@ -1,13 +1,13 @@
 // Checkpoints that are written and opened again, on disks in memory that tell nothing of what they
 // hold. A page k begins at 16,384 k. Expected values are worked by hand.
-ghost use Rattle.std.specs.Prelude.{◌≡◌, ◌<◌, ◌^◌};
+ghost use Rattle.std.specs.Prelude.{◌≡◌, ◌<◌, ◌^◌, IfOk};
 ghost use Rattle.gem_object.specs.Spelling.{IsOid, IsSpelled};
 
 use crate::extent_pages_tests::small;
 use crate::untold::Untold;
 use gem_disk::Pick;
 use gem_image::Image;
-use gem_object::{Body, Counter, Object, Oid};
+use gem_object::{Body, Counter, Object, Oid, Sequence};
 use page_file::{PageFile, open_pages};
 use radix_pages::Steps;
 use std::alloc::{AllocError, Global};
@@ -185,6 +185,68 @@ fn is_small<L: Ledger>(alloc: Global, steps: &mut Steps<L>) -> Result<bool, Fail
     let extent = next_extent(alloc, &[], &image, 7, steps)?;
     let is_written = extent.as_slice() == small(alloc, 5)?.as_slice();
     Ok(is_written && open_bytes(alloc, extent, steps) == Opened::Stands(7, 1, [20, -1, -1]))
+}
+
+// ---- an object of many pages
+
+// How many bytes it has. With 30 that stand before them in its leaf they fill 61 pages and a part
+// of the next.
+const LARGE: usize = 1_000_000;
+
+// Each of its bytes.
+const LETTER: u8 = b'A';
+
+fn are_large(bytes: &[u8]) -> bool {
+    bytes.len() == LARGE && bytes.iter().all(|byte| *byte == LETTER)
+}
+
+// A string of so many letters.
+fn large_object(alloc: Global, count: usize) -> Result<Object, AllocError>
+    requires { count < 2 ^ 32 }
+    ensures { IfOk result IsSpelled }
+{
+    let bytes = vec![in alloc; LETTER; count]?;
+    Ok(Object {
+        class: Oid::from_parts(0, 17),
+        segment: Oid::from_parts(0, 30),
+        changed: 7,
+        body: Body::Bytes(Sequence::of(bytes)),
+    })
+}
+
+fn has_large(image: &Image) -> bool {
+    match image.look(name(3)) {
+        Some(
+            Object {
+                body: Body::Bytes(bytes),
+                ..
+            },
+        ) => are_large(bytes.as_slice()),
+        _ => false,
+    }
+}
+
+fn is_large_alone(found: Option<Image>) -> bool {
+    match found {
+        Some(image) => image.count() == 1 && has_large(&image),
+        None => false,
+    }
+}
+
+fn opens_large<L: Ledger>(alloc: Global, extent: Vec<u8>, steps: &mut Steps<L>) -> bool {
+    let mut disk = Untold::new(Vec::new(alloc), extent);
+    match open_pages(alloc, &mut disk, steps) {
+        Ok((_, found, number)) => number == 7 && is_large_alone(found),
+        Err(_) => false,
+    }
+}
+
+// The pages are three in front, one of the directory and 62 of the leaf.
+fn is_large<L: Ledger>(alloc: Global, steps: &mut Steps<L>) -> Result<bool, AllocError> {
+    let mut image = Image::empty();
+    image.insert(alloc, name(3), large_object(alloc, LARGE)?, steps)?;
+    let extent = next_extent(alloc, &[], &image, 7, steps)?;
+    Ok(extent.len() == 66 * 16_384 && opens_large(alloc, extent, steps))
 }
 
 // ---- three checkpoints
@@ -483,6 +545,7 @@ fn check_pages<R: Abort, L: Ledger>(rt: &R, alloc: Global, blank: Blank) -> Resu
 {
     let mut steps = Steps::<L>::start(blank);
     assert!(rt; is_small(alloc, &mut steps)?);
+    assert!(rt; is_large(alloc, &mut steps)?);
     assert!(rt; uses_again(alloc, &mut steps)?);
     Ok(())
 }

@@ -82,12 +82,25 @@ fn open_bytes(alloc: Global, log: Vec<u8>) -> Opened {
 fn example_bytes(rt: HostRuntime) -> Result<(), Fail> {
     let alloc = rt.alloc();
     let bytes = log_bytes(alloc, 1)?;
-    let head = b"\x01\x26\0\0\x80\x03\0\0\0\0\0\0\0\0".as_slice();
     assert_eq!(rt; bytes.len(), 52);
-    assert!(rt; bytes.starts_with(head));
-    assert!(rt; bytes.ends_with(b"\0"));
+    assert_eq!(rt; bytes.as_slice(), EXAMPLE);
     Ok(())
 }
+
+// The log of the example's record alone, in format 2, with the gate behind it.
+const EXAMPLE: &[u8] = b"\x01\x26\0\0\x80\x03\0\0\0\0\0\0\0\0\
+    \x01\0\0\0\x03\0\0\x01\0\0\0\0\x13\0\0\0\0\0\0\0\x1e\0\0\0\0\0\0\0\
+    \x06\x14\0\0\0\0\0\0\0\0";
+
+// A log of the commit 3 in format 1 and the commit 4 in format 2, each with its gate, and the gate
+// behind them.
+const ONE_OF_EACH: &[u8] = b"\x01\x25\0\0\0\x03\0\0\0\0\0\0\0\
+    \x01\0\0\0\x03\0\0\x01\0\0\0\0\x13\0\0\0\0\0\0\0\x1e\0\0\0\0\0\0\0\
+    \x06\x14\0\0\0\0\0\0\0\
+    \x01\x26\0\0\x80\x04\0\0\0\0\0\0\0\x01\
+    \x01\0\0\0\x03\0\0\x01\0\0\0\0\x13\0\0\0\0\0\0\0\x1e\0\0\0\0\0\0\0\
+    \x06\x14\0\0\0\0\0\0\0\
+    \0";
 
 // Whether the records of a log are at these offsets, in these modes.
 fn are_logged(found: &[Logged], wanted: &[(u64, Mode)]) -> bool {
@@ -111,6 +124,48 @@ fn opens_mixed(alloc: Global) -> Result<bool, Fail> {
 #[test]
 fn both_formats(rt: HostRuntime) -> Result<(), Fail> {
     assert!(rt; opens_mixed(rt.alloc())?);
+    Ok(())
+}
+
+// The log of the commit 3 alone, in format 1.
+fn old_log(alloc: Global) -> Result<Vec<u8>, Fail> {
+    let (record, _) = ONE_OF_EACH.split_at(50);
+    let mut log = record.to_vec(alloc)?;
+    log.push(0)?;
+    Ok(log)
+}
+
+// What an append of the commit 4 makes of it, where it is opened to its record.
+fn one_of_each(alloc: Global) -> Result<Vec<u8>, Fail> {
+    let mut disk = Untold::new(old_log(alloc)?, Vec::new(alloc));
+    let body = spell_body(alloc, 4, Mode::NoRw, EFFECT)?;
+    if let Ok((mut log, logged)) = open_log(alloc, &mut disk) {
+        let is_old = are_logged(&logged, &[(0, Mode::Full)]) && log.length() == 51;
+        if is_old && log.append(&mut disk, &body).is_ok() {
+            return Ok(disk.crash(Pick::Old)?.log);
+        }
+    }
+    Ok(Vec::new(alloc))
+}
+
+// Whether a log of both records is opened to them.
+fn opens_each(alloc: Global, log: Vec<u8>) -> bool {
+    let mut disk = Untold::new(log, Vec::new(alloc));
+    match open_log(alloc, &mut disk) {
+        Ok((log, logged)) => {
+            are_logged(&logged, &[(0, Mode::Full), (50, Mode::NoRw)]) && log.length() == 102
+        }
+        Err(_) => false,
+    }
+}
+
+// A record that is added to an older log stands behind what was there, byte by byte.
+#[test]
+fn one_record_of_each_format(rt: HostRuntime) -> Result<(), Fail> {
+    let alloc = rt.alloc();
+    let log = one_of_each(alloc)?;
+    assert_eq!(rt; log.as_slice(), ONE_OF_EACH);
+    assert!(rt; opens_each(alloc, log));
     Ok(())
 }
 
