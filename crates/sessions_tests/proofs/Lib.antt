@@ -1,1 +1,3 @@
+mod Alone
 mod Beside
+mod Crowded

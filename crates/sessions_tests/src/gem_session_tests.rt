@@ -1,23 +1,17 @@
-// What a session is replied to beside another one that holds a lock.
-ghost use Rattle.std.specs.Prelude.{◌≡◌, ◌<◌, ◌≤◌, [], IfOk, length};
-ghost use Rattle.shell_words.specs.declared.limits.TheConstants.{SESSION_LIMIT};
-ghost use Rattle.gem_meaning.specs.Serial.{CanServe};
-ghost use Rattle.gem_server.specs.Server.{kernel_opening};
-
-use gem_keeper::MemKeeper;
+// What sessions are replied to beside another one that holds a lock, and where the disk fails.
+use crate::halts::HALTS;
+use crate::keepers::{opened, reported};
+use gem_keeper::{FailingKeeper, MemKeeper};
 use gem_object::Oid;
 use gem_replies::{History, RunBook, Transcript, Transcripts, report_text};
 use gem_session::run_session;
-use kernel_image::kernel;
 use lock_table::LockKind;
-use radix_pages::Steps;
 use shell_words::{Script, read_script};
 use std::alloc::{AllocError, Global};
 use std::marker::Brand;
 use std::sync::Arc;
-use std::sync::ledger::{Blank, Ledger};
+use std::sync::ledger::Blank;
 use std::test::Fail;
-use stone_core::Stone;
 
 /// The first session is run, and the second one holds a lock meanwhile.
 const SCRIPT: &str = "\
@@ -86,31 +80,6 @@ C4 object 0:27 session 2
 commits 0
 ";
 
-// A Stone over the kernel's image for the script.
-fn opened<L: Ledger>(
-    alloc: Global,
-    script: Arc<Script>,
-    blank: Blank,
-) -> Result<Stone<MemKeeper>, AllocError>
-    requires name { blank.name ≡ L.name }
-    requires parts { blank.parts ≡ L.parts }
-    requires some_parts { 0 < L.parts }
-    requires limit { length script.value ≤ SESSION_LIMIT }
-    ensures stone { IfOk result (λ stone. stone.told ≡ record {
-      opened = kernel_opening script.value;
-      events = [];
-    }) }
-    ensures serves { IfOk result (λ _. CanServe (kernel_opening script.value)) }
-{
-    let mut steps = Steps::<L>::start(blank);
-    let image = kernel(alloc, &mut steps)?;
-    image.invariant();
-    let Ok(stone) = Stone::start(alloc, image, 0, script, MemKeeper::new()) else {
-        return Err(AllocError);
-    };
-    Ok(stone)
-}
-
 // What the first session of a script is replied to, while the second one, if there is one, holds
 // Globals in this kind.
 fn beside_lock(
@@ -120,7 +89,8 @@ fn beside_lock(
 ) -> Result<Option<Transcript>, AllocError> {
     let script = Arc::new(alloc, script)?;
     let sessions = script.sessions();
-    let mut stone = opened::<Brand>(alloc, script.clone()?, Blank::new(1))?;
+    let keeper = MemKeeper::new();
+    let mut stone = opened::<MemKeeper, Brand>(alloc, script.clone()?, keeper, Blank::new(1))?;
     if sessions.len() < 2 {
         return Ok(None);
     }
@@ -157,5 +127,16 @@ fn replies_beside_a_lock(rt: HostRuntime) -> Result<(), Fail> {
     let alloc = rt.alloc();
     assert!(rt; is_told(alloc, LockKind::Read, BESIDE_READ_LOCK)?);
     assert!(rt; is_told(alloc, LockKind::Write, BESIDE_WRITE_LOCK)?);
+    Ok(())
+}
+
+// After a failure of the disk nothing more is committed or stored, and the rest goes on.
+#[test]
+fn replies_of_a_failing_disk(rt: HostRuntime) -> Result<(), Fail> {
+    let alloc = rt.alloc();
+    for (calls, script, report) in HALTS {
+        let told = reported(alloc, script, FailingKeeper::after(calls))?;
+        assert!(rt; told.as_slice() == report.as_bytes(), "{script}");
+    }
     Ok(())
 }

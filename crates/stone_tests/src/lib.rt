@@ -14,4 +14,6 @@ mod lock_tests;
 #[cfg(test)]
 mod log_tests;
 #[cfg(test)]
+mod sent_tests;
+#[cfg(test)]
 mod setting;
