@@ -1,0 +1,4 @@
+pub mod Asked
+pub mod Settings
+pub mod Chosen
+pub mod WordsGrammar
