@@ -1,0 +1,11 @@
+pub mod Numbers
+pub mod Unchanged
+pub mod Images
+pub mod Standing
+pub mod Crashing
+pub mod Rests
+pub mod Checkpoints
+pub mod Opens
+pub mod Sums
+pub mod Misfits
+pub mod Keeps

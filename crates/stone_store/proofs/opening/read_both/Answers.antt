@@ -1,0 +1,62 @@
+use Rattle.std.proofs.Common.{◌∙◌}
+use Rattle.gem_disk.specs.declared.disk.Which.TheVariants.{Log as OfLog}
+use Rattle.gem_disk.specs.Disk.{reads}
+use Rattle.gem_disk.proofs.Moments.{and_then}
+use Rattle.stone_store.specs.Left.{FilesStandFor}
+use Rattle.stone_store.proofs.Opens.{pages_leave, all_synced, pages_read, log_stays, log_leaves, log_store, pages_rest, number_found}
+use Rattle.stone_store.proofs.opening.read_both.Goals as goal
+
+pub returns-in_err-pages-clause-any_moment : goal.returns-in_err-pages-clause-any_moment
+returns-in_err-pages-clause-any_moment g c image number tells all =
+    pages_leave (g.D.Disk.past c.args.disk.now) image number all c.open_pages.result (g.D.Disk.past c.open_pages.new.disk)
+    (c.open_pages.ensures.past tells)
+
+pub returns-in_err-log-clause-same : goal.returns-in_err-log-clause-same
+returns-in_err-log-clause-same g c tells =
+    let mid = g.D.Disk.past c.open_pages.new.disk in
+    let new = g.D.Disk.past c.open_log.new.disk in
+    log_store mid new (c.open_log.ensures.each_image tells) (c.open_log.ensures.extent tells)
+    (log_stays (reads mid OfLog) (reads new OfLog) (c.open_log.ensures.kept tells) (c.open_log.ensures.short tells))
+    ∙ pages_read (g.D.Disk.past c.args.disk.now) mid c.open_pages.result (c.open_pages.ensures.past tells)
+
+pub returns-in_err-log-clause-any_moment : goal.returns-in_err-log-clause-any_moment
+returns-in_err-log-clause-any_moment g c image number tells all =
+    let old = g.D.Disk.past c.args.disk.now in
+    let mid = g.D.Disk.past c.open_pages.new.disk in
+    let new = g.D.Disk.past c.open_log.new.disk in
+    and_then old mid new (FilesStandFor image number)
+    (pages_leave old image number all c.open_pages.result mid (c.open_pages.ensures.past tells))
+    (log_leaves mid new (c.open_log.ensures.each_image tells) (c.open_log.ensures.extent tells) image number
+    (all_synced old image number all mid (c.in_ok-pages.ensures.past tells)))
+
+pub returns-clause-rests : goal.returns-clause-rests
+returns-clause-rests g c tells =
+    let mid = g.D.Disk.past c.open_pages.new.disk in
+    let new = g.D.Disk.past c.open_log.new.disk in
+    let opened = c.in_ok-pages.ensures.opens tells in
+    let rest = pages_rest mid new (c.open_log.ensures.each_image tells) (c.open_log.ensures.extent tells) c.in_ok-pages.pages opened.0 opened.3 in
+    record {
+      root = opened.0;
+      extent = rest;
+      found = opened.2;
+      log = c.in_ok-log.ensures.at_rest tells;
+      counted = c.root_of-root.ensures new opened.0 rest (number_found c.in_ok-pages.image c.in_ok-pages.number opened.0 opened.2);
+    }
+
+pub returns-clause-same : goal.returns-clause-same
+returns-clause-same g c tells =
+    let mid = g.D.Disk.past c.open_pages.new.disk in
+    let new = g.D.Disk.past c.open_log.new.disk in
+    log_store mid new (c.open_log.ensures.each_image tells) (c.open_log.ensures.extent tells)
+    (log_stays (reads mid OfLog) (reads new OfLog) (c.open_log.ensures.kept tells) (c.open_log.ensures.short tells))
+    ∙ pages_read (g.D.Disk.past c.args.disk.now) mid c.open_pages.result (c.open_pages.ensures.past tells)
+
+pub returns-clause-any_moment : goal.returns-clause-any_moment
+returns-clause-any_moment g c image number tells all =
+    let old = g.D.Disk.past c.args.disk.now in
+    let mid = g.D.Disk.past c.open_pages.new.disk in
+    let new = g.D.Disk.past c.open_log.new.disk in
+    and_then old mid new (FilesStandFor image number)
+    (pages_leave old image number all c.open_pages.result mid (c.open_pages.ensures.past tells))
+    (log_leaves mid new (c.open_log.ensures.each_image tells) (c.open_log.ensures.extent tells) image number
+    (all_synced old image number all mid (c.in_ok-pages.ensures.past tells)))

@@ -1,0 +1,90 @@
+-- What opening a store gives.
+use Rattle.std.specs.Prelude.{◌≡◌, Option, Some, None, option_map, Result, Ok, Err}
+use Rattle.gem_disk.specs.Disk.{Past}
+use Rattle.gem_image.specs.Image.{Image, objects_in}
+use Rattle.gem_sound.specs.Sound.{IsSoundImage, BreaksFirst}
+use Rattle.image_check.specs.declared.fault.SoundFault.{SoundFault}
+use Rattle.image_check.specs.declared.fault.SoundFault.TheVariants as sound
+use Rattle.image_check.specs.Faults.{rule_of}
+use Rattle.kernel_image.specs.Objects.{kernel_image}
+use Rattle.extent_pages.specs.declared.fault.PageFault.{PageFault}
+use Rattle.extent_pages.specs.declared.fault.PageFault.TheVariants as pages
+use Rattle.extent_pages.specs.Extent.{Extent}
+use Rattle.page_file.specs.PageFile.{AreFound, IsAtRest as ExtentRests}
+use Rattle.page_file.specs.Changing.{counted_root}
+use Rattle.tran_log.specs.declared.fault.LogFault.{LogFault}
+use Rattle.tran_log.specs.declared.fault.LogFault.TheVariants as logs
+use Rattle.tran_log.specs.Resting.{IsAtRest as LogRests}
+use Rattle.stone_store.specs.declared.fault.StoreFlaw.{StoreFlaw}
+use Rattle.stone_store.specs.declared.fault.StoreFlaw.TheVariants as flaw
+use Rattle.stone_store.specs.declared.fault.StoreFault.{StoreFault}
+use Rattle.stone_store.specs.declared.fault.StoreFault.TheVariants as fault
+use Rattle.stone_store.specs.declared.parts.FoundImage.{FoundImage}
+use Rattle.stone_store.specs.declared.parts.Parts.{Parts}
+use Rattle.stone_store.specs.declared.opening.Read.{Read}
+use Rattle.stone_store.specs.Store.{Held, held_over, image_of, number_of}
+use Rattle.stone_store.specs.Resting.{stored_root}
+
+-- ---- Faults of the parts, as faults of a store.
+
+abbrev pub of_pages : PageFault → StoreFault
+of_pages (pages.NotPages at rule) = fault.NotStore (flaw.Extent at rule)
+of_pages pages.Disk = fault.Disk
+of_pages pages.NoMemory = fault.NoMemory
+
+abbrev pub of_log : LogFault → StoreFault
+of_log (logs.NotLog at rule) = fault.NotStore (flaw.Log at rule)
+of_log logs.Disk = fault.Disk
+of_log logs.NoMemory = fault.NoMemory
+
+abbrev pub of_sound : SoundFault → StoreFault
+of_sound (sound.Broken oid rule) = fault.NotStore (flaw.Image oid rule)
+of_sound sound.NoMemory = fault.NoMemory
+
+-- ---- What is given, by what two files hold.
+
+-- they hold an image with so many commits, and it is sound
+pub record IsFound (store : Result Held StoreFlaw) (found : FoundImage) : Type 0 where
+  pub held : Held
+  pub store_is : store ≡ Ok held
+  pub image_is : found.image ≡ image_of held
+  pub number_is : found.number ≡ number_of held
+  pub sound : IsSoundImage found.image
+
+-- They are no store for this flaw: it is the first one of the extent or of the log; or they hold an
+-- image that isn't sound, and it is the first rule that its lowest unsound name breaks.
+abbrev pub IsFlawed : Result Held StoreFlaw → StoreFlaw → Type 0
+IsFlawed store (flaw.Extent at rule) = store ≡ Err (flaw.Extent at rule)
+IsFlawed store (flaw.Log at rule) = store ≡ Err (flaw.Log at rule)
+IsFlawed store (flaw.Image oid rule) = (held : Held) × (store ≡ Ok held)
+    × BreaksFirst (objects_in (image_of held)) oid (rule_of rule)
+
+abbrev pub OpensNot : Result Held StoreFlaw → StoreFault → Type 0
+OpensNot store (fault.NotStore why) = IsFlawed store why
+OpensNot store fault.Disk = Unit {0}
+OpensNot store fault.NoMemory = Unit {0}
+
+-- what opening gives is what the files hold, or why they are no store
+abbrev pub Opens : Result Held StoreFlaw → Result FoundImage StoreFault → Type 0
+Opens store (Ok found) = IsFound store found
+Opens store (Err why) = OpensNot store why
+
+-- ---- Between.
+
+-- the image of a root, or the kernel's
+abbrev pub image_read : Option Image → Image
+image_read None = kernel_image
+image_read (Some image) = image
+
+-- both files are at rest, and this was read of them
+pub record RestsAs (past : Past) (parts : Parts) (read : Read) : Type 0 where
+  pub root : Option Extent
+  pub extent : ExtentRests past parts.pages root
+  pub found : AreFound read.image read.number root
+  pub log : LogRests past read.logged.items parts.log
+  pub counted : option_map stored_root parts.root ≡ counted_root root
+
+-- what two files hold of which this was read
+abbrev pub StoreRead : Read → Result Held StoreFlaw → Type 0
+StoreRead read store = (root : Option Extent) × AreFound read.image read.number root
+    × (store ≡ held_over root (Ok read.logged.items))
