@@ -1,6 +1,6 @@
 //! Room: store. Opens a store of two files, an extent with checkpoints and a log of the commits since,
-//! and stores commits and checkpoints in them. Knows nothing of sessions. It has no
-//! tests yet.
+//! and stores commits and checkpoints in them. Knows nothing of sessions. Its tests stand in
+//! `store_tests`.
 #![tactic(auto)]
 
 mod adding;

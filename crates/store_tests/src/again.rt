@@ -57,7 +57,7 @@ impl From<LogFault> for Trouble {
 }
 
 // The body of a record.
-fn body_of(alloc: Global, mode: Mode, effect: &Effect) -> Result<Vec<u8>, AllocError>
+pub(crate) fn body_of(alloc: Global, mode: Mode, effect: &Effect) -> Result<Vec<u8>, AllocError>
     ensures { IfOk result (λ body. body.items ≡ spelled_record mode effect.now ++ (0 ∷ [])) }
 {
     let bytes = write_effect(alloc, effect)?;

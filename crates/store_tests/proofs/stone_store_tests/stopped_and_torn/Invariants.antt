@@ -1,0 +1,4 @@
+use Rattle.store_tests.proofs.stone_store_tests.stopped_and_torn.Given as goal
+
+abbrev pub ghosts-check_stops : goal.ghosts-check_stops
+ghosts-check_stops g a = record { name = a.blank.name; parts = a.blank.parts }
