@@ -2,17 +2,15 @@
 //! them. Knows nothing of what stands in the files.
 //!
 //! The trait is `Disk`, with a disk in memory, which fails in the calls that one chooses and gives
-//! what a crash may leave, and a disk of two files. Its tests stand in `shelves_tests`.
+//! what a crash may leave. Its tests stand in `shelves_tests`.
 #![tactic(auto)]
 
 mod disk;
-mod file;
 mod images;
 pub mod laws;
 mod memory;
 mod recorded;
 
 pub use disk::{Disk, Which};
-pub use file::FileDisk;
 pub use images::{Images, Pick};
 pub use memory::MemDisk;

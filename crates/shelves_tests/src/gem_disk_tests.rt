@@ -1,8 +1,7 @@
 // The disks. Expected values are those of the disk model, worked by hand.
-use gem_disk::{Disk, FileDisk, Images, MemDisk, Pick, Which};
+use gem_disk::{Disk, Images, MemDisk, Pick, Which};
 use gem_io::Failed;
 use std::alloc::{AllocError, Global};
-use std::fs;
 use std::test::Fail;
 
 const STEPS: u64 = 5;
@@ -145,37 +144,4 @@ fn read_four(disk: &mut MemDisk) -> Result<[u8; 4], Failed> {
     }
     disk.read(Which::Log, 0, &mut out)?;
     Ok(out)
-}
-
-const FOLDER: &str = "gem_disk_test";
-
-const EXTENT: &str = "gem_disk_test/extent";
-
-const LOG: &str = "gem_disk_test/log";
-
-#[test]
-fn files_are_read_again(rt: HostRuntime) -> Result<(), Fail> {
-    let _ = fs::remove_dir_all(&rt, FOLDER);
-    fs::create_dir(&rt, FOLDER)?;
-    let mut disk = FileDisk::at(&rt, rt.alloc(), EXTENT, LOG)?;
-    assert_eq!(rt; disk.length(Which::Log), Ok(0));
-    assert_eq!(rt; disk.write_at(Which::Log, 0, b"abcd"), Ok(()));
-    assert_eq!(rt; disk.write_at(Which::Log, 2, b"xyz"), Ok(()));
-    assert_eq!(rt; disk.cut(Which::Log, 4), Ok(()));
-    assert_eq!(rt; disk.sync(Which::Log), Ok(()));
-    assert!(rt; fs::metadata(&rt, EXTENT).is_err());
-
-    let mut again = FileDisk::at(&rt, rt.alloc(), EXTENT, LOG)?;
-    let mut out = [0u8; 3];
-    assert_eq!(rt; again.length(Which::Log), Ok(4));
-    assert_eq!(rt; again.read(Which::Log, 1, &mut out), Ok(()));
-    assert_eq!(rt; out, *b"bxy");
-    assert_eq!(rt; again.read(Which::Log, 2, &mut out), Err(Failed));
-    assert_eq!(rt; again.length(Which::Extent), Ok(0));
-    assert!(rt; fs::metadata(&rt, EXTENT).is_ok());
-    fs::remove_dir_all(&rt, FOLDER)?;
-
-    let mut nowhere = FileDisk::at(&rt, rt.alloc(), EXTENT, LOG)?;
-    assert_eq!(rt; nowhere.sync(Which::Extent), Err(Failed));
-    Ok(())
 }

@@ -4,6 +4,8 @@
 #![tactic(auto)]
 
 #[cfg(test)]
+mod file_disk_tests;
+#[cfg(test)]
 mod gem_disk_tests;
 #[cfg(test)]
 mod gem_io_tests;
@@ -16,6 +18,10 @@ mod list_stack_tests;
 #[cfg(test)]
 mod radix_pages_tests;
 #[cfg(test)]
+mod recorded_calls;
+#[cfg(test)]
 mod sorted_pairs_tests;
 #[cfg(test)]
 mod texts_tests;
+#[cfg(test)]
+mod watched_files;
