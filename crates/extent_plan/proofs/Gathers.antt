@@ -1,5 +1,5 @@
 -- What is gathered of a leaf, name by name.
-use Rattle.std.proofs.Common.{◌≡◌, ℕ, zero, suc, ◌≤◌, max, nat_lt, Bool, true, false, ◌||◌, List, [], ◌∷◌, ◌++◌, length, Option, None, Some, refl, sym, ap, subst, ◌∙◌, append_assoc, append-nil, length-append, arith}
+use Rattle.std.proofs.Common.{◌≡◌, ℕ, zero, suc, ◌≤◌, max, Bool, false, ◌||◌, List, [], ◌∷◌, ◌++◌, length, Option, None, Some, refl, sym, ap, subst, ◌∙◌, append_assoc, append-nil, length-append, arith}
 use Rattle.std.specs.List.{flat_map, fold}
 use Rattle.std.specs.FinMap.{get}
 use Rattle.gem_object.specs.declared.object.Object.{Object}
@@ -25,9 +25,6 @@ items_more (first ∷ objects) entry =
     ap (λ l. spelled_changed first ++ l) (items_more objects entry)
     ∙ sym (append_assoc (spelled_changed first) (flat_map spelled_changed objects) (spelled_changed entry))
 
-or_false : (b : Bool) → (b || false) ≡ b
-or_false b = elim b as (λ c. (c || false) ≡ c) [ true ↦ refl | false ↦ refl ]
-
 -- ---- how many there are
 
 at_most_one : (name : ℕ) (o : Option Object) → length (stored_at name o) ≤ 1
@@ -48,35 +45,44 @@ few_before image leaf (suc place) =
 
 -- ---- the next name
 
-pub gather_more : (since name : ℕ) (objects : List (ℕ × Object)) (later : Bool) (o : Option Object) (old new : Gathered)
-    → AreGathered objects later old → Adds since name o old new
-    → AreGathered (objects ++ stored_at name o) (later || is_later since o) new
-gather_more since name objects later None old new is same =
-    let as_before : AreGathered objects later new = subst (AreGathered objects later) (sym same) is in
+pub gather_more : (name : ℕ) (objects : List (ℕ × Object)) (o : Option Object) (old new : Gathered)
+    → AreGathered objects old → Adds name o old new → AreGathered (objects ++ stored_at name o) new
+gather_more name objects None old new is same =
+    let as_before : AreGathered objects new = subst (AreGathered objects) (sym same) is in
     record {
       count = as_before.count ∙ ap length (sym (append-nil objects));
       serial = as_before.serial ∙ ap largest_serial (sym (append-nil objects));
-      changed = as_before.changed ∙ sym (or_false later);
       items = as_before.items ∙ ap (flat_map spelled_changed) (sym (append-nil objects));
     }
-gather_more since name objects later (Some object) old new is one =
+gather_more name objects (Some object) old new is one =
     let entry : ℕ × Object = (name, plain object) in
     record {
       count = omega (arith, one.count, is.count, length-append objects (entry ∷ []));
       serial = one.serial ∙ ap (λ (n : ℕ). max n (serial_of name)) is.serial ∙ sym (largest_from 0 objects entry);
-      changed = one.changed ∙ ap (λ b. b || nat_lt since object.changed) is.changed;
       items = one.items ∙ ap (λ (l : List ℕ). l ++ spelled_changed entry) is.items ∙ sym (items_more objects entry);
     }
 
-pub gather_next : (image : Image) (since leaf place : ℕ) (old new : Gathered)
-    → AreGathered (objects_before image leaf place) (later_before image since leaf place) old
-    → Adds since (name_in leaf place) (get image (name_in leaf place)) old new
-    → AreGathered (objects_before image leaf (suc place)) (later_before image since leaf (suc place)) new
-unfolding objects_before later_before
-gather_next image since leaf place old new is adds = gather_more since (name_in leaf place)
-    (objects_before image leaf place) (later_before image since leaf place) (get image (name_in leaf place)) old new is adds
+pub gather_next : (image : Image) (leaf place : ℕ) (old new : Gathered)
+    → AreGathered (objects_before image leaf place) old
+    → Adds (name_in leaf place) (get image (name_in leaf place)) old new
+    → AreGathered (objects_before image leaf (suc place)) new
+unfolding objects_before
+gather_next image leaf place old new is adds = gather_more (name_in leaf place)
+    (objects_before image leaf place) (get image (name_in leaf place)) old new is adds
 
-pub gather_none : (image : Image) (since leaf : ℕ) (gathered : Gathered) → AreGathered [] false gathered
-    → AreGathered (objects_before image leaf 0) (later_before image since leaf 0) gathered
-unfolding objects_before later_before
-gather_none image since leaf gathered is = is
+pub gather_none : (image : Image) (leaf : ℕ) (gathered : Gathered) → AreGathered [] gathered
+    → AreGathered (objects_before image leaf 0) gathered
+unfolding objects_before
+gather_none image leaf gathered is = is
+
+-- ---- whether one was changed later
+
+pub later_none : (image : Image) (since leaf : ℕ) → false ≡ later_before image since leaf 0
+unfolding later_before
+later_none image since leaf = refl
+
+pub later_next : (image : Image) (since leaf place : ℕ) (changed : Bool)
+    → changed ≡ later_before image since leaf place
+    → (changed || is_later since (get image (name_in leaf place))) ≡ later_before image since leaf (suc place)
+unfolding later_before
+later_next image since leaf place changed is = ap (λ b. b || is_later since (get image (name_in leaf place))) is

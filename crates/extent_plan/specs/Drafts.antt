@@ -83,7 +83,7 @@ pub record IsToWrite (image : Image) (since leaf : ℕ) (places rest : List Leaf
   pub first : NotBelow leaf rest
   pub reason : (is_changed image since leaf ≡ true) ⊎ NotFirst leaf rest
   pub gathered : Gathered
-  pub are : AreGathered (leaf_objects image leaf) (is_changed image since leaf) gathered
+  pub are : AreGathered (leaf_objects image leaf) gathered
   pub fresh : FreshLeaf
   pub is : IsFreshOf leaf gathered fresh
   pub drafts : new ≡ old ++ Fresh fresh ∷ []

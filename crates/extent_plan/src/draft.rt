@@ -8,7 +8,7 @@ ghost use Rattle.extent_plan.specs.Runs.{AscendFrom};
 ghost use Rattle.extent_plan.specs.Drafts.{IsFreshOf, IsDrafted, Sharing, Drafted};
 
 use crate::fresh::FreshLeaf;
-use crate::gather::{Gathered, LEAF_SIZE, gather_leaf};
+use crate::gather::{Gathered, LEAF_SIZE, gather_leaf, leaf_changed};
 use crate::place::LeafPlace;
 use gem_image::Image;
 use std::alloc::{AllocError, Global};
@@ -75,14 +75,14 @@ fn draft_leaf<'a>(
     ensures { IfOk result (λ rest. IsDrafted image.now since leaf places.now rest.now
         drafts.old.items drafts.new.items) }
 {
-    let gathered = gather_leaf(alloc, image, since, leaf)?;
     let rest = passed(places, leaf);
-    if !gathered.changed {
-        if let Some((place, behind)) = first_of(rest, leaf) {
+    if let Some((place, behind)) = first_of(rest, leaf) {
+        if !leaf_changed(image, since, leaf) {
             drafts.push(Draft::Shared(place.copied(alloc)?))?;
             return Ok(behind);
         }
     }
+    let gathered = gather_leaf(alloc, image, leaf)?;
     drafts.push(Draft::Fresh(fresh_leaf(alloc, leaf, gathered)?))?;
     Ok(rest)
 }

@@ -15,13 +15,12 @@ use std::alloc::{AllocError, Global};
 // How many names a leaf has.
 pub(crate) const LEAF_SIZE: u64 = 64;
 
-// What was gathered of a leaf: how many objects it has, their largest serial, whether one was
-// changed after some commit, and each object's bytes behind its name.
+// What was gathered of a leaf: how many objects it has, their largest serial, and each object's
+// bytes behind its name.
 #[derive(Drop)]
 pub(crate) struct Gathered {
     pub count: u64,
     pub serial: u32,
-    pub changed: bool,
     pub items: Vec<u8>,
 }
 
@@ -41,33 +40,19 @@ fn put_entry(
     Ok(())
 }
 
-fn either(one: bool, other: bool) -> bool
-    ensures { result ≡ (one || other) }
-{
-    one || other
-}
-
-fn is_later(since: u64, changed: u64) -> bool
-    ensures { result ≡ nat_lt since changed }
-{
-    since < changed
-}
-
 // Adds an object.
 fn gather_object(
     alloc: Global,
-    since: u64,
     oid: Oid,
     object: &Object,
     gathered: &mut Gathered,
 ) -> Result<(), AllocError>
     requires { gathered.old.count < 64 }
-    ensures { OnOk result (AddsOne since oid object.now gathered.old gathered.new) }
+    ensures { OnOk result (AddsOne oid object.now gathered.old gathered.new) }
 {
     put_entry(alloc, oid, object, &mut gathered.items)?;
     gathered.count += 1;
     gathered.serial = gathered.serial.max(oid.serial());
-    gathered.changed = either(gathered.changed, is_later(since, object.changed));
     Ok(())
 }
 
@@ -75,15 +60,14 @@ fn gather_object(
 fn gather_name(
     alloc: Global,
     image: &Image,
-    since: u64,
     oid: Oid,
     gathered: &mut Gathered,
 ) -> Result<(), AllocError>
     requires { gathered.old.count < 64 }
-    ensures { OnOk result (Adds since oid (map.get image.now oid) gathered.old gathered.new) }
+    ensures { OnOk result (Adds oid (map.get image.now oid) gathered.old gathered.new) }
 {
     match image.look(oid) {
-        Some(object) => gather_object(alloc, since, oid, object, gathered),
+        Some(object) => gather_object(alloc, oid, object, gathered),
         None => Ok(()),
     }
 }
@@ -100,25 +84,53 @@ fn name_in(leaf: u64, place: u64) -> Oid
     oid
 }
 
-// Gathers the objects that the image has at the names of a leaf.
-pub(crate) fn gather_leaf(
-    alloc: Global,
-    image: &Image,
-    since: u64,
-    leaf: u64,
-) -> Result<Gathered, AllocError>
+fn either(one: bool, other: bool) -> bool
+    ensures { result ≡ (one || other) }
+{
+    one || other
+}
+
+fn is_later(since: u64, changed: u64) -> bool
+    ensures { result ≡ nat_lt since changed }
+{
+    since < changed
+}
+
+// Whether what stands at a name was changed after the commit of this number.
+fn name_changed(image: &Image, since: u64, oid: Oid) -> bool
+    ensures { result ≡ Leaves.is_later since (map.get image.now oid) }
+{
+    match image.look(oid) {
+        Some(object) => is_later(since, object.changed),
+        None => false,
+    }
+}
+
+// Whether an object of a leaf was changed after the commit of this number. Looks at no contents.
+pub(crate) fn leaf_changed(image: &Image, since: u64, leaf: u64) -> bool
     requires { leaf < 2 ^ 42 }
-    ensures { IfOk result
-        (AreGathered (leaf_objects image.now leaf) (is_changed image.now since leaf)) }
+    ensures { result ≡ is_changed image.now since leaf }
+{
+    let mut changed = false;
+    for place in 0..LEAF_SIZE {
+        let later = name_changed(image, since, name_in(leaf, place));
+        changed = either(changed, later);
+    }
+    changed
+}
+
+// Gathers the objects that the image has at the names of a leaf.
+pub(crate) fn gather_leaf(alloc: Global, image: &Image, leaf: u64) -> Result<Gathered, AllocError>
+    requires { leaf < 2 ^ 42 }
+    ensures { IfOk result (AreGathered (leaf_objects image.now leaf)) }
 {
     let mut gathered = Gathered {
         count: 0,
         serial: 0,
-        changed: false,
         items: Vec::new(alloc),
     };
     for place in 0..LEAF_SIZE {
-        gather_name(alloc, image, since, name_in(leaf, place), &mut gathered)?;
+        gather_name(alloc, image, name_in(leaf, place), &mut gathered)?;
     }
     Ok(gathered)
 }

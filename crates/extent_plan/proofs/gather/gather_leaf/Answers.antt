@@ -1,15 +1,14 @@
 use Rattle.std.proofs.Common.{◌≡◌, ℕ, suc, ◌+◌, refl, sym, subst, arith}
 use Rattle.std.specs.FinMap.{get}
-use Rattle.extent_plan.specs.Leaves.{objects_before, later_before}
+use Rattle.extent_plan.specs.Leaves.{objects_before}
 use Rattle.extent_plan.specs.Gathered.{Adds, AreGathered}
 use Rattle.extent_plan.proofs.Gathers.{few_before, gather_none, gather_next}
 use Rattle.extent_plan.proofs.gather.gather_leaf.Goals as goal
 
 pub loop-place-init : goal.loop-place-init
-loop-place-init c = gather_none c.args.image.now c.args.since c.args.leaf _ (record {
+loop-place-init c = gather_none c.args.image.now c.args.leaf _ (record {
   count = refl;
   serial = refl;
-  changed = refl;
   items = c.new.ensures.items;
 })
 
@@ -23,8 +22,8 @@ loop-place-preserved c =
     let image = c.args.image.now in
     let place = c.loop-place.place in
     let next : place + 1 ≡ suc place = omega arith in
-    let adds = subst (λ (n : ℕ). Adds c.args.since n (get image n) c.loop-place.gathered c.gather_name.new.gathered)
+    let adds = subst (λ (n : ℕ). Adds n (get image n) c.loop-place.gathered c.gather_name.new.gathered)
     c.name_in.ensures (c.in_ok-gather_name.ensures) in
-    subst (λ (n : ℕ). AreGathered (objects_before image c.args.leaf n) (later_before image c.args.since c.args.leaf n) c.gather_name.new.gathered)
-    (sym next) (gather_next image c.args.since c.args.leaf place c.loop-place.gathered c.gather_name.new.gathered
+    subst (λ (n : ℕ). AreGathered (objects_before image c.args.leaf n) c.gather_name.new.gathered)
+    (sym next) (gather_next image c.args.leaf place c.loop-place.gathered c.gather_name.new.gathered
     c.loop-place.invariant adds)

@@ -1,7 +1,6 @@
-use Rattle.extent_plan.specs.Leaves.{objects_before, later_before}
+use Rattle.extent_plan.specs.Leaves.{objects_before}
 use Rattle.extent_plan.specs.Gathered.{AreGathered}
 use Rattle.extent_plan.proofs.gather.gather_leaf.Given as goal
 
 abbrev pub invariant-loop-place : goal.invariant-loop-place
-invariant-loop-place l = AreGathered (objects_before l.image l.leaf l.place)
-    (later_before l.image l.since l.leaf l.place) l.gathered
+invariant-loop-place l = AreGathered (objects_before l.image l.leaf l.place) l.gathered
