@@ -12,3 +12,4 @@ mod Changes
 mod Rests
 mod ImagePages
 mod Using
+pub mod Unchanged

@@ -1,8 +1,8 @@
 -- The leaves of an extent, put into an image.
-use Rattle.std.specs.Prelude.{◌≡◌, ℕ, List, [], ◌∷◌}
+use Rattle.std.specs.Prelude.{◌≡◌, ℕ, List, [], ◌∷◌, Some}
 use Rattle.std.specs.Ordering.{nat_cmp}
 use Rattle.std.specs.List.{flat_map}
-use Rattle.std.specs.FinMap.{insert, from_entries}
+use Rattle.std.specs.FinMap.{get, insert, from_entries}
 use Rattle.gem_object.specs.declared.object.Object.{Object}
 use Rattle.gem_image.specs.Image.{Image}
 use Rattle.extent_pages.specs.Extent.{Leaf}
@@ -13,6 +13,10 @@ use Rattle.extent_plan.specs.Plan.{ArePlaces}
 abbrev pub objects_put : List (ℕ × Object) → Image → Image
 objects_put [] image = image
 objects_put (entry ∷ objects) image = insert (objects_put objects image) entry.0 entry.1
+
+-- no object of the image counts as changed by a commit
+abbrev pub IsUnchanged : Image → Type 0
+IsUnchanged image = (name : ℕ) (object : Object) → get image name ≡ Some object → object.changed ≡ 0
 
 -- the objects of these leaves make this image, and the leaves lie in these places
 pub record AreTaken (leaves : List Leaf) (image : Image) (places : List LeafPlace) : Type 0 where

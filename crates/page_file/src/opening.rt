@@ -1,5 +1,5 @@
 //! Opens an extent.
-ghost use Rattle.std.specs.Prelude.{◌≡◌, ◌≤◌, All, length, IfOk, OnOk, IsTrue, IsErrOf};
+ghost use Rattle.std.specs.Prelude.{◌≡◌, ◌≤◌, All, length, IfOk, IfSome, OnOk, IsTrue, IsErrOf};
 ghost use Rattle.std.specs.List.{AllByRecursion};
 ghost use Rattle.gem_io.specs.Faults.{HasCause, HasRisen};
 ghost use Rattle.gem_object.specs.Spelling.{IsSpelled};
@@ -9,7 +9,7 @@ ghost use Rattle.extent_pages.specs.Extent.{root_page_of, selected, extent_of};
 ghost use Rattle.extent_pages.specs.Stored.{AreOfLeaf, IsStoredLeaf};
 ghost use Rattle.extent_pages.specs.Reads.{SyncsOnce};
 ghost use Rattle.extent_plan.specs.Plan.{IsPlace};
-ghost use Rattle.page_file.specs.Opening.{objects_put, AreTaken};
+ghost use Rattle.page_file.specs.Opening.{objects_put, AreTaken, IsUnchanged};
 ghost use Rattle.page_file.specs.PageFile.{Opens};
 
 use crate::file::{Current, PageFile};
@@ -110,7 +110,7 @@ fn read_selected<D: Disk>(disk: &mut D) -> Result<u8, Failed>
 
 /// Opens the extent of a disk: gives where it lies, the image of its root and that image's number;
 /// `None` and 0 where no checkpoint was made. The objects' numbers of the commits that changed them
-/// aren't stored; they are given as 0.
+/// aren't stored; they are given as 0, whatever the disk tells.
 ///
 /// It begins with one sync of the extent, which is all that it does to the disk; so the file reads
 /// as before, and where it succeeds a crash leaves what it reads as.
@@ -124,6 +124,7 @@ pub fn open_pages<D: Disk, L: Ledger>(
 ) -> Result<(PageFile, Option<Image>, u64), PageFault>
     ensures opens { IsTrue D.tells → Opens result (D.past disk.new)
         (extent_of (reads (D.past disk.old) which.Extent)) }
+    ensures unchanged { IfOk result (λ x. IfSome x.1 IsUnchanged) }
     ensures past { IsTrue D.tells → SyncsOnce (D.past disk.old) result (D.past disk.new) }
     ensures failed { IsErrOf result PageFault.Disk → HasRisen (D.faults disk.old) (D.faults disk.new) }
     ensures later { D.faults disk.old ≤ D.faults disk.new }

@@ -5,7 +5,7 @@ mod Spelled
 mod Fits
 mod OneMore
 mod Crashes
-mod Keeps
+pub mod Keeps
 mod Calls
 mod First
 mod StoredEffect

@@ -19,6 +19,7 @@ use Rattle.gem_meaning.specs.After.{log_after, pages_after}
 use Rattle.gem_meaning.specs.Checkpoints.{MayCheck}
 use Rattle.gem_meaning.specs.Serial.{HoldsSome, IsConsistent, serial_limit}
 use Rattle.gem_meaning.specs.Locks.{leaving}
+use Rattle.stone_core.specs.Stone.{is_session}
 use Rattle.stone_core.specs.declared.port.CommitAnswer.{CommitAnswer}
 use Rattle.stone_core.specs.declared.port.CommitAnswer.TheVariants.{Halted as HaltedAt, ReadOnly, Conflicts, LogFull, DiskFault, Placed as PlacedAt, NoMemory}
 use Rattle.stone_core.specs.declared.port.CheckAnswer.{CheckAnswer}
@@ -177,6 +178,10 @@ pub record PortState : Type 0 where
   pub told : Told
   pub serves : ℕ → Bool
   pub alone : Bool
+
+-- a port through which its Stone hears of no others, by what the Stone was opened with and its events
+abbrev pub alone_with : Told → PortState
+alone_with t = record { told = t; serves = is_session t.opened.script; alone = true }
 
 -- A port that is alone stays so, and in a call for this session no other session has a further
 -- event.

@@ -1,16 +1,17 @@
 //! The Stone.
 ghost use Rattle.std.specs.Prelude.{◌≡◌, ◌≤◌, ◌<◌, ◌↔◌, [], ◌+◌, ◌*◌, ◌^◌, length, true, IfOk, OnErr, IfErr, IsTrue, IsSome, is_some};
 ghost use Rattle.std.specs.FinMap.{get};
+ghost use Rattle.std.specs.Option.{option_to_list};
 ghost use Rattle.commit_check.specs.Conflicts.{last_change, merged_objects};
 ghost use Rattle.gem_meaning.specs.Effect.{IsUnchanged, MergesFit, effect_at};
-ghost use Rattle.gem_meaning.specs.Events.{standing, entries_of, conflicts_at, told_more, IsRunning};
+ghost use Rattle.gem_meaning.specs.Events.{standing, entries_of, conflicts_at, told_more, halts_in, IsRunning, OthersCame};
 ghost use Rattle.gem_meaning.specs.Serial.{IsRecorded, IsConsistent, CanServe};
 ghost use Rattle.gem_meaning.specs.Locks.{leaving};
 ghost use Rattle.stone_core.specs.Kept.{IsKept, CommitKeeps, CheckKeeps};
 ghost use Rattle.gem_keeper.specs.Found.{StandsFor};
 ghost use Rattle.gem_keeper.specs.Crashes.{FitsNow};
 ghost use Rattle.stone_core.specs.Stone.{is_session};
-ghost use Rattle.stone_core.specs.Port.{event_of_answer, AnswerFits, event_of_lock, LockFits, dropping, event_of_check, CheckFits};
+ghost use Rattle.stone_core.specs.Port.{event_of_answer, AnswerFits, BeginSays, CommitSays, event_of_lock, LockFits, LockSays, dropping, UnlockSays, event_of_check, CheckFits, CheckSays, LogoutSays, GoesOn, alone_with};
 ghost use Rattle.lock_table.specs.Locks.{kind_held};
 ghost use Rattle.gem_meaning.specs.Serial.{HoldsSome};
 
@@ -71,6 +72,8 @@ pub struct Closed<K: Drop> {
     pub history: Vec<Entry>,
     /// The events, in order, each with the number of the session that made it.
     pub events: Vec<(u32, What)>,
+    /// The number that was being stored where the disk failed, if it did.
+    pub halted: Option<u64>,
 }
 
 impl<K: Keeper + Drop> Model for Stone<K> {
@@ -311,6 +314,7 @@ impl<K: Keeper + Drop> Stone<K> {
     pub fn close(self) -> Closed<K>
         ensures events { result.events.items ≡ self.told.events }
         ensures history { result.history.items ≡ entries_of self.told.events }
+        ensures halted { option_to_list result.halted ≡ halts_in self.told.events }
         ensures consistent { IsConsistent self.told }
         ensures keeper { result.keeper ≡ self.keeper }
         ensures kept { IsKept K.stored K.ready K.faults K.tells K.moment K.stands K.left_since
@@ -320,6 +324,7 @@ impl<K: Keeper + Drop> Stone<K> {
             keeper: self.keeper,
             history: self.history,
             events: self.events,
+            halted: self.halted,
         }
     }
 
@@ -455,18 +460,21 @@ impl<K: Keeper + Drop> Stone<K> {
     }
 }
 
-/// A Stone alone: no event of others ever comes between. It serves the sessions of its script.
+/// A Stone alone: no event of others ever comes between. It serves the sessions of its script. The
+/// keeper that it started with stays the same.
 impl<K: Keeper + Drop> StonePort for Stone<K> {
-    ghost use Rattle.std.specs.Prelude.{true};
-    ghost use Rattle.stone_core.specs.Stone.{is_session};
+    ghost state = { λ stone. alone_with stone.told };
 
-    ghost state = { λ stone. record {
-      told = stone.told;
-      serves = is_session stone.told.opened.script;
-      alone = true;
-    } };
-
-    fn begin(&mut self, _session: u32) -> Result<Begun, AllocError> {
+    fn begin(&mut self, _session: u32) -> Result<Begun, AllocError>
+        requires serves { is_session self.old.told.opened.script _session ≡ true }
+        ensures begun { IfOk result (λ begun.
+            BeginSays self.old.told.opened _session self.old.told.events self.new.told.events
+            begun.image begun.number) }
+        ensures starved { IfErr result (λ _.
+            OthersCame _session self.old.told.events self.new.told.events) }
+        ensures port { GoesOn _session (alone_with self.old.told) (alone_with self.new.told) }
+        ensures started { self.new.started ≡ self.old.started }
+    {
         let begun = Stone::begin(self);
         self.keeps_order();
         images_are_sound();
@@ -474,31 +482,64 @@ impl<K: Keeper + Drop> StonePort for Stone<K> {
         begun
     }
 
-    fn commit(&mut self, alloc: Global, done: &TxnRecord) -> CommitAnswer {
+    fn commit(&mut self, alloc: Global, done: &TxnRecord) -> CommitAnswer
+        requires serves { is_session self.old.told.opened.script done.now.session ≡ true }
+        requires recorded { IsRecorded self.old.told done.now }
+        ensures says { CommitSays self.old.told.opened self.old.told.events self.new.told.events
+            done.now result }
+        ensures port { GoesOn done.now.session (alone_with self.old.told)
+            (alone_with self.new.told) }
+        ensures started { self.new.started ≡ self.old.started }
+    {
         let answer = commit_uncounted::<K, Brand>(self, alloc, done, Blank::new(1));
         self.keeps_order();
         answer
     }
 
-    fn lock(&mut self, session: u32, oid: Oid, kind: LockKind) -> LockAnswer {
+    fn lock(&mut self, session: u32, oid: Oid, kind: LockKind) -> LockAnswer
+        requires serves { is_session self.old.told.opened.script session ≡ true }
+        requires there { IsSome (get (standing self.old.told).image oid) }
+        ensures says { LockSays self.old.told.opened self.old.told.events self.new.told.events
+            session oid kind result }
+        ensures port { GoesOn session (alone_with self.old.told) (alone_with self.new.told) }
+        ensures started { self.new.started ≡ self.old.started }
+    {
         let answer = Stone::lock(self, session, oid, kind);
         self.keeps_order();
         answer
     }
 
-    fn unlock(&mut self, session: u32, oid: Oid) -> bool {
+    fn unlock(&mut self, session: u32, oid: Oid) -> bool
+        requires serves { is_session self.old.told.opened.script session ≡ true }
+        ensures says { UnlockSays self.old.told.opened self.old.told.events self.new.told.events
+            session oid result }
+        ensures port { GoesOn session (alone_with self.old.told) (alone_with self.new.told) }
+        ensures started { self.new.started ≡ self.old.started }
+    {
         let held = Stone::unlock(self, session, oid);
         self.keeps_order();
         held
     }
 
-    fn checkpoint(&mut self, alloc: Global, session: u32) -> CheckAnswer {
+    fn checkpoint(&mut self, alloc: Global, session: u32) -> CheckAnswer
+        requires serves { is_session self.old.told.opened.script session ≡ true }
+        ensures says { CheckSays self.old.told.opened self.old.told.events self.new.told.events
+            session result }
+        ensures port { GoesOn session (alone_with self.old.told) (alone_with self.new.told) }
+        ensures started { self.new.started ≡ self.old.started }
+    {
         let answer = Stone::checkpoint(self, alloc, session);
         self.keeps_order();
         answer
     }
 
-    fn logout(&mut self, session: u32) {
+    fn logout(&mut self, session: u32)
+        requires serves { is_session self.old.told.opened.script session ≡ true }
+        ensures says { LogoutSays self.old.told.opened self.old.told.events self.new.told.events
+            session }
+        ensures port { GoesOn session (alone_with self.old.told) (alone_with self.new.told) }
+        ensures started { self.new.started ≡ self.old.started }
+    {
         Stone::logout(self, session);
         self.keeps_order();
     }
@@ -517,6 +558,7 @@ fn commit_uncounted<K: Keeper + Drop, L: Ledger>(
     requires recorded { IsRecorded stone.old.told done.now }
     ensures events { stone.new.told ≡ told_more stone.old.told
         (event_of_answer (standing stone.old.told).number done.now result) }
+    ensures started { stone.new.started ≡ stone.old.started }
     ensures answer { AnswerFits stone.old.told.opened stone.old.told.events done.now result }
 {
     let mut steps = Steps::<L>::start(blank);

@@ -1,6 +1,11 @@
 -- What crashes leave of a store while it is opened, and what it stands for then.
-use Rattle.std.proofs.Common.{◌≡◌, ℕ, ◌<◌, ◌≤◌, List, [], ◌∷◌, length, Option, Some, None, Result, Ok, Err, refl, sym, ap, ap₂, subst, ◌∙◌, inl, inr, arith}
+use Rattle.std.proofs.Common.{◌≡◌, ℕ, ◌<◌, ◌≤◌, List, [], ◌∷◌, length, Option, Some, None, IfSome, Result, Ok, Err, refl, sym, ap, ap₂, subst, ◌∙◌, inl, inr, arith}
 use Rattle.std.proofs.lemmas.Bool.{cases_lt}
+use Rattle.std.specs.FinMap.{get}
+use Rattle.gem_object.specs.declared.object.Object.{Object}
+use Rattle.gem_sound.specs.Sound.{IsSoundImage}
+use Rattle.page_file.specs.Opening.{IsUnchanged}
+use Rattle.tran_log.specs.Reads.{AreRead}
 use Rattle.gem_disk.specs.declared.disk.Which.TheVariants.{Extent as OfExtent, Log as OfLog}
 use Rattle.gem_disk.specs.Disk.{Files, Past, Synced, reads, as_read, stepped, FileImages, CrashImages}
 use Rattle.gem_disk.specs.Runs.{LeavesOnly}
@@ -26,20 +31,18 @@ use Rattle.stone_store.specs.declared.fault.StoreFlaw.TheVariants as flaw
 use Rattle.stone_store.specs.declared.parts.Parts.{Parts}
 use Rattle.stone_store.specs.declared.parts.FoundImage.{FoundImage}
 use Rattle.stone_store.specs.declared.opening.Read.{Read}
-use Rattle.stone_store.specs.Store.{Held, held_unless, held_by, store_of, found_by, image_of, number_of, found_in, root_number, misfit}
+use Rattle.stone_store.specs.Store.{Held, held_unless, held_by, store_of, found_by, image_of, number_of, found_in, root_number, misfit, records_after, with_records, last_number}
 use Rattle.stone_store.specs.Left.{FilesStandFor, StandsInAll}
-use Rattle.stone_store.specs.Opening.{of_pages, of_log, OpensNot, IsFound, RestsAs, StoreRead}
+use Rattle.stone_store.specs.Opening.{of_pages, of_log, OpensNot, IsFound, MayGoOn, ReadsSame, RestsAs, StoreRead, image_read}
 use Rattle.stone_store.specs.Resting.{BothRest}
-use Rattle.stone_store.proofs.Standing.{held_of, stands_itself}
-use Rattle.stone_store.proofs.Rests.{store_at, log_read, is_store, found_read, extent_stays}
+use Rattle.stone_store.specs.Whole.{StoresBy}
+use Rattle.stone_store.proofs.Standing.{held_of, stands_itself, changed_by}
+use Rattle.stone_store.proofs.Rests.{store_at, log_read, is_store, found_read, extent_stays, kernel_is_unchanged}
 
 -- ---- the extent, which is synced
 
 abbrev pub synced : Past → Past
 synced old = stepped old OfExtent Synced (reads old OfExtent)
-
-pub synced_reads : (old mid : Past) → mid ≡ synced old → store_of (as_read mid) ≡ store_of (as_read old)
-synced_reads old mid is = ap (λ (p : Past). store_of (as_read p)) is
 
 module _ (old : Past) (image : Image) (number : ℕ) (all : StandsInAll old image number) where
   abbrev Stands : Files → Type 0
@@ -66,11 +69,24 @@ module _ (old : Past) (image : Image) (number : ℕ) (all : StandsInAll old imag
     each = one_synced;
   })
 
-pub pages_read : {T E : Type 0} (old mid : Past) (result : Result T E) → SyncsOnce old result mid
-    → store_of (as_read mid) ≡ store_of (as_read old)
-pages_read old mid (Ok x) is = synced_reads old mid is
-pages_read old mid (Err x) (inl same) = ap (λ (p : Past). store_of (as_read p)) same
-pages_read old mid (Err x) (inr is) = synced_reads old mid is
+same_reads : (old new : Past) → reads new OfExtent ≡ reads old OfExtent → reads new OfLog ≡ reads old OfLog → ReadsSame old new
+same_reads old new extent log = record { extent = ap extent_of extent; log = ap log_of log }
+
+synced_same : (old mid : Past) → mid ≡ synced old → ReadsSame old mid
+synced_same old mid is = same_reads old mid (ap (λ (p : Past). reads p OfExtent) is) (ap (λ (p : Past). reads p OfLog) is)
+
+pub pages_same : {T E : Type 0} (old mid : Past) (result : Result T E) → SyncsOnce old result mid → ReadsSame old mid
+pages_same old mid (Ok x) is = synced_same old mid is
+pages_same old mid (Err x) (inl same) = same_reads old mid (ap (λ (p : Past). reads p OfExtent) same) (ap (λ (p : Past). reads p OfLog) same)
+pages_same old mid (Err x) (inr is) = synced_same old mid is
+
+pub same_then : (old mid new : Past) → ReadsSame old mid → ReadsSame mid new → ReadsSame old new
+same_then old mid new first then =
+    record { extent = then.extent ∙ first.extent; log = then.log ∙ first.log }
+
+-- what both files hold goes by what is read of them
+pub same_store : (old new : Past) → ReadsSame old new → store_of (as_read new) ≡ store_of (as_read old)
+same_store old new same = ap₂ held_by same.extent same.log
 
 -- ---- the log, which is made one where it is short
 
@@ -79,7 +95,7 @@ short_log [] short = refl
 short_log (gate ∷ []) short = refl
 short_log (gate ∷ byte ∷ rest) short = absurd (omega (arith, short))
 
-pub log_stays : (old new : List ℕ) → (1 < length old → new ≡ old) → (length old ≤ 1 → length new ≤ 1) → log_of new ≡ log_of old
+log_stays : (old new : List ℕ) → (1 < length old → new ≡ old) → (length old ≤ 1 → length new ≤ 1) → log_of new ≡ log_of old
 log_stays old new kept short = elim (cases_lt 1 (length old)) [
   | inl long ↦ ap log_of (kept long)
   | inr small ↦ short_log new (short small) ∙ sym (short_log old small)
@@ -94,8 +110,12 @@ module _ (mid new : Past) (run : LeavesOnly mid new (IsOldOrRead mid)) (same : S
         (all.each (record { extent = files.extent; log = reads mid OfLog })
         (record { extent = holds.extent; log = all.honest.log }))
 
-  pub log_store : log_of (reads new OfLog) ≡ log_of (reads mid OfLog) → store_of (as_read new) ≡ store_of (as_read mid)
-  log_store log = ap₂ held_by (ap extent_of same) log
+  pub log_same : (1 < length (reads mid OfLog) → reads new OfLog ≡ reads mid OfLog)
+      → (length (reads mid OfLog) ≤ 1 → length (reads new OfLog) ≤ 1) → ReadsSame mid new
+  log_same kept short = record {
+    extent = ap extent_of same;
+    log = log_stays (reads mid OfLog) (reads new OfLog) kept short;
+  }
 
   extents : (files : Files) → IsOldOrRead mid files → FileImages mid.first mid.steps OfExtent files.extent
   extents files (inl left) = left.extent
@@ -167,4 +187,35 @@ both_rest past parts read found rest is = record {
   fits = held_fits rest.root read.logged.items is.held (misfit (root_number rest.root) read.logged.items)
       (sym (rest_store past parts read rest).2 ∙ is.store_is);
   counted = rest.counted;
+}
+
+-- ---- whatever the disk tells
+
+image_unchanged : (image : Option Image) → IfSome image IsUnchanged → IsUnchanged (image_read image)
+image_unchanged None all = kernel_is_unchanged
+image_unchanged (Some image) all = all
+
+-- sessions can go on with what was restored
+pub goes_on_with : (image : Option Image) (number : ℕ) (logged : List Logged) (found : FoundImage) → AreRead logged
+    → IfSome image IsUnchanged → misfit number logged ≡ None
+    → found.image ≡ with_records (image_read image) (records_after number logged)
+    → found.number ≡ last_number number (records_after number logged) → IsSoundImage found.image → MayGoOn found
+goes_on_with image number logged found read unchanged fits image_is number_is sound = record {
+  sound = sound;
+  changed = λ name object there. subst (λ (n : ℕ). object.changed ≤ n) (sym number_is)
+      (changed_by number logged (image_read image) read fits (image_unchanged image unchanged) name object
+      (sym (ap (λ (i : Image). get i name) image_is) ∙ there));
+}
+
+-- what is stored is what the files held when they were opened
+pub stored_before : (old new : Past) (parts : Option Parts) → ReadsSame old new → StoresBy (as_read new) parts
+    → StoresBy (as_read old) parts
+stored_before old new None same stored = tt
+stored_before old new (Some parts) same stored = record {
+  root = stored.root;
+  extent = sym same.extent ∙ stored.extent;
+  root_is = stored.root_is;
+  records = stored.records;
+  log = sym same.log ∙ stored.log;
+  length_is = stored.length_is;
 }

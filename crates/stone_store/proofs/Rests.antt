@@ -12,11 +12,13 @@ use Rattle.gem_object.specs.declared.object.Object.{Object}
 use Rattle.gem_record.specs.declared.effect.Effect.{Effect}
 use Rattle.gem_record.specs.declared.limits.TheConstants.{LOG_LIMIT}
 use Rattle.gem_image.specs.Image.{Image, with_objects}
+use Rattle.kernel_image.specs.Objects.{kernel_image}
 use Rattle.kernel_image.proofs.Unchanged.{kernel_unchanged}
 use Rattle.body_codec.specs.Stored.{IsStoredEffect}
 use Rattle.extent_pages.specs.Extent.{Extent, extent_of}
 use Rattle.page_file.specs.declared.file.PageFile.{PageFile}
 use Rattle.page_file.specs.PageFile.{AreLists, IsAtRest as ExtentRests}
+use Rattle.page_file.specs.Opening.{IsUnchanged}
 use Rattle.tran_log.specs.declared.logged.Logged.{Logged}
 use Rattle.tran_log.specs.Log.{Format2, content, follows, spelled_record, logged_as, log_of, last_number as log_last}
 use Rattle.tran_log.specs.Reads.{AreRead}
@@ -33,7 +35,7 @@ use Rattle.stone_store.specs.Resting.{stored_root, stored_in, BothRest, IsStored
 use Rattle.stone_store.specs.Whole.{RestsBy, StoresBy}
 use Rattle.stone_store.proofs.Numbers.{in_turn, next_follows, IsWithNext, with_next}
 use Rattle.stone_store.proofs.Unchanged.{extent_unchanged}
-use Rattle.stone_store.proofs.Standing.{are_records, next_is_record, IsStore, held_of, IsUnchangedImage, number_is, next_stands}
+use Rattle.stone_store.proofs.Standing.{are_records, next_is_record, IsStore, held_of, number_is, next_stands}
 
 -- ---- by what is read of both files
 
@@ -47,9 +49,12 @@ pub found_at : (files : Files) (root : Option Extent) (logged : List Logged) →
 found_at files root logged extent log fits = ap found_by (store_at files root logged extent log fits)
 
 -- no object of a root's image counts as changed by a commit
-pub root_unchanged : (file : List ℕ) (root : Option Extent) → extent_of file ≡ Ok root → IsUnchangedImage (root_image root)
-root_unchanged file None read = λ name object there.
+pub kernel_is_unchanged : IsUnchanged kernel_image
+kernel_is_unchanged name object there =
     subst (λ (o : Option Object). IfSome o (λ (one : Object). one.changed ≡ 0)) there (kernel_unchanged name)
+
+pub root_unchanged : (file : List ℕ) (root : Option Extent) → extent_of file ≡ Ok root → IsUnchanged (root_image root)
+root_unchanged file None read = kernel_is_unchanged
 root_unchanged file (Some extent) read = extent_unchanged file extent read
 
 -- ---- at rest

@@ -13,12 +13,13 @@ use Rattle.body_codec.specs.Stored.{IsStoredAt, IsStoredEffect}
 use Rattle.extent_pages.specs.Extent.{Extent, image_in}
 use Rattle.extent_plan.specs.Shared.{KeepsHeld}
 use Rattle.page_file.specs.Checkpoint.{IsCheckpoint}
+use Rattle.page_file.specs.Opening.{IsUnchanged}
 use Rattle.tran_log.specs.declared.logged.Logged.{Logged}
 use Rattle.tran_log.specs.Log.{LogRecord, effect_of, spelled, AreRecords, logged_as, logged_from}
 use Rattle.tran_log.specs.Reads.{AreRead}
 use Rattle.gem_keeper.specs.Found.{found_object, StandsFor}
 use Rattle.stone_store.specs.Store.{records_after, misfit, with_records, last_number, root_image, root_number, Held, image_of, number_of, found_in}
-use Rattle.stone_store.proofs.Numbers.{InTurn, number_grows, IsUpTo, up_to, keeps, drops, last_more}
+use Rattle.stone_store.proofs.Numbers.{InTurn, in_turn, number_grows, IsUpTo, up_to, keeps, drops, last_more}
 use Rattle.stone_store.proofs.Images.{AllSettled, found_later, found_earlier, Matches, found_from, matches_of, settled_match, AllChanged, matches_all, put_all, keeps_all, found_up_to}
 
 -- ---- records that were read
@@ -133,13 +134,9 @@ keeps_records (one ∷ records) image name some =
 
 -- ---- the root's image
 
--- no object of it counts as changed by a commit
-abbrev pub IsUnchangedImage : Image → Type 0
-IsUnchangedImage image = (name : ℕ) (object : Object) → get image name ≡ Some object → object.changed ≡ 0
-
 -- what a root, a log behind it and their image keep
 pub record IsStore (root : Option Extent) (logged : List Logged) : Type 0 where
-  pub unchanged : IsUnchangedImage (root_image root)
+  pub unchanged : IsUnchanged (root_image root)
   pub turn : InTurn logged
   pub are : AllByRecursion IsRecord logged
   pub fits : misfit (root_number root) logged ≡ None
@@ -207,7 +204,7 @@ module _ (root : Option Extent) (logged : List Logged) (is : IsStore root logged
     ]
 
     -- a checkpoint of the image, with the records still in the log, or with none
-    pub checkpoint_stands : (next : Extent) → IsUnchangedImage (image_in next) → IsCheckpoint image number next
+    pub checkpoint_stands : (next : Extent) → IsUnchanged (image_in next) → IsCheckpoint image number next
         → StandsFor image number (Some (found_in (record { root = Some next; records = [] })))
     checkpoint_stands next unchanged made =
         subst (λ (n : ℕ). StandsFor image number (Some (record { objects = λ name. get (image_in next) name; number = n; root = n })))
@@ -215,7 +212,7 @@ module _ (root : Option Extent) (logged : List Logged) (is : IsStore root logged
         (found_from number number number (image_in next) image (λ name. found_up_to number (get (image_in next) name) (get image name)
         (made.agrees name) (unchanged name) (all_up_to name)) refl)
 
-    pub is_checkpointed : (next : Extent) → IsUnchangedImage (image_in next) → IsCheckpoint image number next
+    pub is_checkpointed : (next : Extent) → IsUnchanged (image_in next) → IsCheckpoint image number next
         → IsStore (Some next) logged × (held_of (Some next) logged ≡ record { root = Some next; records = [] })
     is_checkpointed next unchanged made = (
       record {
@@ -255,3 +252,20 @@ keeps_held extent logged is image number stands =
             | inr later ↦ absurd (omega (arith, later, ap (λ (o : Object). o.changed) found))
           ];
     }
+
+-- ---- whatever the disk tells
+
+-- Each object of a root's image with the records behind it was changed by one of their commits, or
+-- counts as changed by none.
+pub changed_by : (root : ℕ) (logged : List Logged) (image : Image) → AreRead logged → misfit root logged ≡ None
+    → IsUnchanged image → (name : ℕ) (object : Object)
+    → get (with_records image (records_after root logged)) name ≡ Some object
+    → object.changed ≤ last_number root (records_after root logged)
+changed_by root logged image read fits unchanged name object there =
+    let number : ℕ = last_number root (records_after root logged) in
+    let up = up_to root logged (in_turn logged read) fits in
+    elim (low_records number (records_after root logged) image name object
+    (kept_records root logged (are_records logged read)) (kept_low root number logged (all_low number logged up.none)) there) [
+      | inl here ↦ omega (arith, unchanged name object here)
+      | inr low ↦ low
+    ]

@@ -17,9 +17,8 @@ use Rattle.extent_pages.specs.Extent.{Leaf, Extent, objects_of, image_in, extent
 use Rattle.extent_pages.specs.Laid.{LeavesLie}
 use Rattle.extent_pages.proofs.Tests.{ok_is, not_ok, then_ok, passed}
 use Rattle.extent_pages.proofs.Files.{opened}
-
-abbrev IsUnchanged : ℕ × Object → Type 0
-IsUnchanged entry = entry.1.changed ≡ 0
+use Rattle.page_file.specs.Opening.{IsUnchanged}
+use Rattle.page_file.proofs.Unchanged.{IsOfNone, all_joined, made_unchanged}
 
 object_unchanged : (bytes : List ℕ) (object : Object) (rest : List ℕ) → object_at 0 bytes ≡ Ok (object, rest)
     → object.changed ≡ 0
@@ -40,25 +39,25 @@ abbrev pub behind_name : ℕ × List ℕ → Result ((ℕ × Object) × List ℕ
 behind_name name = with_rule rule.Object (object_at 0 name.1) andthen named name.0
 
 entry_unchanged : (leaf : ℕ) (before : List (ℕ × Object)) (bytes : List ℕ) (read : (ℕ × Object) × List ℕ)
-    → leaf_object_at leaf before bytes ≡ Ok read → IsUnchanged read.0
+    → leaf_object_at leaf before bytes ≡ Ok read → IsOfNone read.0
 unfolding leaf_object_at
 entry_unchanged leaf before bytes read e =
     let name = then_ok (leaf_name_at leaf before bytes) behind_name read e in
     let object = then_ok (with_rule rule.Object (object_at 0 name.0.1)) (named name.0.0) read name.2 in
     let same = ok_is ((name.0.0, object.0.0), object.0.1) read object.2 in
-    subst (λ (x : (ℕ × Object) × List ℕ). IsUnchanged x.0) same
+    subst (λ (x : (ℕ × Object) × List ℕ). IsOfNone x.0) same
     (object_unchanged name.0.1 object.0.0 object.0.1 (ruled_ok (object_at 0 name.0.1) object.0 object.1))
 
-all_more : (objects : List (ℕ × Object)) (entry : ℕ × Object) → AllByRecursion IsUnchanged objects → IsUnchanged entry
-    → AllByRecursion IsUnchanged (objects ++ entry ∷ [])
+all_more : (objects : List (ℕ × Object)) (entry : ℕ × Object) → AllByRecursion IsOfNone objects → IsOfNone entry
+    → AllByRecursion IsOfNone (objects ++ entry ∷ [])
 all_more [] entry all one = (one, tt)
 all_more (first ∷ objects) entry all one = (all.0, all_more objects entry all.1 one)
 
 objects_unchanged : (leaf more : ℕ) (before : List (ℕ × Object)) (bytes : List ℕ) (read : List (ℕ × Object) × List ℕ)
-    → AllByRecursion IsUnchanged before → objects_after leaf more before bytes ≡ Ok read → AllByRecursion IsUnchanged read.0
+    → AllByRecursion IsOfNone before → objects_after leaf more before bytes ≡ Ok read → AllByRecursion IsOfNone read.0
 unfolding objects_after
 objects_unchanged leaf zero before bytes read all e =
-    subst (λ (x : List (ℕ × Object) × List ℕ). AllByRecursion IsUnchanged x.0) (ok_is (before, bytes) read e) all
+    subst (λ (x : List (ℕ × Object) × List ℕ). AllByRecursion IsOfNone x.0) (ok_is (before, bytes) read e) all
 objects_unchanged leaf (suc more) before bytes read all e =
     let next = then_ok (leaf_object_at leaf before bytes) (λ (object : (ℕ × Object) × List ℕ).
     objects_after leaf more (before ++ object.0 ∷ []) object.1) read e in
@@ -74,41 +73,24 @@ whole_is : (read : List (ℕ × Object) × List ℕ) (objects : List (ℕ × Obj
 whole_is read objects e = (passed (eqb (length read.1) 0) read.0 objects (length read.1, rule.Leaf) e).1
 
 leaf_unchanged : (leaf : ℕ) (chain : Chain) (objects : List (ℕ × Object)) → leaf_of leaf chain ≡ Ok objects
-    → AllByRecursion IsUnchanged objects
+    → AllByRecursion IsOfNone objects
 unfolding leaf_of leaf_at
 leaf_unchanged leaf chain objects e =
     let read = then_ok (leaf_at leaf chain.payload) (all_read rule.Leaf) objects (chain_ok chain _ objects e) in
     let count = then_ok (count_at chain.payload) (λ (c : ℕ × List ℕ). objects_after leaf c.0 [] c.1) read.0 read.1 in
-    subst (AllByRecursion IsUnchanged) (whole_is read.0 objects read.2)
+    subst (AllByRecursion IsOfNone) (whole_is read.0 objects read.2)
     (objects_unchanged leaf count.0.0 [] count.0.1 read.0 tt count.2)
 
-all_joined : (xs ys : List (ℕ × Object)) → AllByRecursion IsUnchanged xs → AllByRecursion IsUnchanged ys
-    → AllByRecursion IsUnchanged (xs ++ ys)
-all_joined [] ys all more = more
-all_joined (x ∷ xs) ys all more = (all.0, all_joined xs ys all.1 more)
-
 leaves_unchanged : (book : ℕ → Option (List ℕ)) (taken : List ℕ) (leaves : List Leaf) → LeavesLie book taken leaves
-    → AllByRecursion IsUnchanged (flat_map (λ leaf. leaf.objects) leaves)
+    → AllByRecursion IsOfNone (flat_map (λ leaf. leaf.objects) leaves)
 leaves_unchanged book taken [] lie = tt
 leaves_unchanged book taken (leaf ∷ leaves) lie = all_joined leaf.objects (flat_map (λ leaf. leaf.objects) leaves)
     (leaf_unchanged leaf.number (record { pages = leaf.pages; payload = lie.0.payload }) leaf.objects lie.0.holds)
     (leaves_unchanged book (leaf.pages ++ taken) leaves lie.1)
 
-found_unchanged : (entries : List (ℕ × Object)) (name : ℕ) (object : Object) → AllByRecursion IsUnchanged entries
-    → find nat_cmp name entries ≡ Some object → object.changed ≡ 0
-found_unchanged [] name object all e = absurd cc
-found_unchanged (entry ∷ entries) name object all e = by (eq_by_cmp nat_cmp name entry.0) e (found_unchanged entries name object all.1)
-  where
-    by : (b : Bool) → cond b (Some entry.1) (find nat_cmp name entries) ≡ Some object
-        → (find nat_cmp name entries ≡ Some object → object.changed ≡ 0) → object.changed ≡ 0
-    by true e rest = subst (λ (o : Object). o.changed ≡ 0) (same_Some entry.1 object e) all.0
-    by false e rest = rest e
-
 -- each object of an extent that was read
 pub extent_unchanged : (file : List ℕ) (extent : Extent) → extent_of file ≡ Ok (Some extent)
-    → (name : ℕ) (object : Object) → get (image_in extent) name ≡ Some object → object.changed ≡ 0
-extent_unchanged file extent read name object there =
+    → IsUnchanged (image_in extent)
+extent_unchanged file extent read =
     let open_so = opened file extent read in
-    found_unchanged (objects_of extent) name object
-    (leaves_unchanged _ extent.directory extent.leaves open_so.laid.leaves)
-    (sym (get-from_entries nat_cmp_total (objects_of extent) name) ∙ there)
+    made_unchanged (objects_of extent) (leaves_unchanged _ extent.directory extent.leaves open_so.laid.leaves)

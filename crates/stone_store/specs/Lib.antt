@@ -6,3 +6,4 @@ pub mod Resting
 pub mod Opening
 pub mod Whole
 pub mod Counted
+pub mod FaultText

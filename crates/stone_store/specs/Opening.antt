@@ -1,6 +1,9 @@
 -- What opening a store gives.
-use Rattle.std.specs.Prelude.{◌≡◌, Option, Some, None, option_map, Result, Ok, Err}
-use Rattle.gem_disk.specs.Disk.{Past}
+use Rattle.std.specs.Prelude.{◌≡◌, ◌≤◌, ℕ, Option, Some, None, option_map, Result, Ok, Err}
+use Rattle.std.specs.FinMap.{get}
+use Rattle.gem_object.specs.declared.object.Object.{Object}
+use Rattle.gem_disk.specs.declared.disk.Which.TheVariants.{Extent as OfExtent, Log as OfLog}
+use Rattle.gem_disk.specs.Disk.{Past, reads}
 use Rattle.gem_image.specs.Image.{Image, objects_in}
 use Rattle.gem_sound.specs.Sound.{IsSoundImage, BreaksFirst}
 use Rattle.image_check.specs.declared.fault.SoundFault.{SoundFault}
@@ -9,11 +12,12 @@ use Rattle.image_check.specs.Faults.{rule_of}
 use Rattle.kernel_image.specs.Objects.{kernel_image}
 use Rattle.extent_pages.specs.declared.fault.PageFault.{PageFault}
 use Rattle.extent_pages.specs.declared.fault.PageFault.TheVariants as pages
-use Rattle.extent_pages.specs.Extent.{Extent}
+use Rattle.extent_pages.specs.Extent.{Extent, extent_of}
 use Rattle.page_file.specs.PageFile.{AreFound, IsAtRest as ExtentRests}
 use Rattle.page_file.specs.Changing.{counted_root}
 use Rattle.tran_log.specs.declared.fault.LogFault.{LogFault}
 use Rattle.tran_log.specs.declared.fault.LogFault.TheVariants as logs
+use Rattle.tran_log.specs.Log.{log_of}
 use Rattle.tran_log.specs.Resting.{IsAtRest as LogRests}
 use Rattle.stone_store.specs.declared.fault.StoreFlaw.{StoreFlaw}
 use Rattle.stone_store.specs.declared.fault.StoreFlaw.TheVariants as flaw
@@ -51,6 +55,13 @@ pub record IsFound (store : Result Held StoreFlaw) (found : FoundImage) : Type 0
   pub number_is : found.number ≡ number_of held
   pub sound : IsSoundImage found.image
 
+-- Sessions can go on with an image of so many commits: it is sound, and each object was changed by
+-- one of these or counts as changed by none.
+pub record MayGoOn (found : FoundImage) : Type 0 where
+  pub sound : IsSoundImage found.image
+  pub changed : (name : ℕ) (object : Object) → get found.image name ≡ Some object
+      → object.changed ≤ found.number
+
 -- They are no store for this flaw: it is the first one of the extent or of the log; or they hold an
 -- image that isn't sound, and it is the first rule that its lowest unsound name breaks.
 abbrev pub IsFlawed : Result Held StoreFlaw → StoreFlaw → Type 0
@@ -68,6 +79,13 @@ OpensNot store fault.NoMemory = Unit {0}
 abbrev pub Opens : Result Held StoreFlaw → Result FoundImage StoreFault → Type 0
 Opens store (Ok found) = IsFound store found
 Opens store (Err why) = OpensNot store why
+
+-- ---- What stays.
+
+-- Both files are read as before: the extent with its root, and each record of the log.
+pub record ReadsSame (old new : Past) : Type 0 where
+  pub extent : extent_of (reads new OfExtent) ≡ extent_of (reads old OfExtent)
+  pub log : log_of (reads new OfLog) ≡ log_of (reads old OfLog)
 
 -- ---- Between.
 

@@ -6,6 +6,8 @@ use extent_pages::{PageFault, PageRule};
 use gem_object::Oid;
 use image_check::{Rule, SoundFault};
 use std::alloc::{AllocError, AllocFailed};
+use std::error::Error;
+use std::fmt;
 use tran_log::{LogFault, LogRule};
 
 /// For what two files are no store. The extent is tried before the log, and the log before the image
@@ -35,6 +37,32 @@ pub enum StoreFlaw {
     },
 }
 
+impl fmt::Display for StoreFlaw {
+    ghost use Rattle.std.specs.Prelude.{Some};
+    ghost use Rattle.stone_store.specs.FaultText.{flaw_text};
+
+    ghost output = { λ flaw. Some (flaw_text flaw) };
+
+    fn fmt<W: fmt::Write>(&self, f: &mut fmt::Formatter<W>) -> fmt::Result {
+        match *self {
+            StoreFlaw::Extent { at, rule } => {
+                let number = rule.number();
+                write!(f, "extent at {at} rule G{number}")
+            }
+            StoreFlaw::Log { at, rule } => {
+                let number = rule.number();
+                write!(f, "log at {at} rule L{number}")
+            }
+            StoreFlaw::Image { oid, rule } => {
+                let number = rule.number();
+                write!(f, "image at {oid} rule I{number}")
+            }
+        }
+    }
+}
+
+impl Error for StoreFlaw {}
+
 /// Why a store can't be opened.
 #[derive(Clone, Copy, Debug, PartialEq, Eq)]
 pub enum StoreFault {
@@ -45,6 +73,23 @@ pub enum StoreFault {
     /// Memory ran out.
     NoMemory,
 }
+
+impl fmt::Display for StoreFault {
+    ghost use Rattle.std.specs.Prelude.{Some};
+    ghost use Rattle.stone_store.specs.FaultText.{fault_text};
+
+    ghost output = { λ fault. Some (fault_text fault) };
+
+    fn fmt<W: fmt::Write>(&self, f: &mut fmt::Formatter<W>) -> fmt::Result {
+        match *self {
+            StoreFault::NotStore(flaw) => write!(f, "not a store: {flaw}"),
+            StoreFault::Disk => f.write_str("disk fault"),
+            StoreFault::NoMemory => f.write_str("out of memory"),
+        }
+    }
+}
+
+impl Error for StoreFault {}
 
 impl From<PageFault> for StoreFault {
     ghost use Rattle.stone_store.specs.Opening.{of_pages};

@@ -1,11 +1,12 @@
 //! Opens a store.
-ghost use Rattle.std.specs.Prelude.{◌≡◌, ◌≢◌, ◌≤◌, ◌<◌, ℕ, Result, Option, IsTrue, IfOk, IfErr, IsErrOf, is_some, is_ok, length, option_map};
+ghost use Rattle.std.specs.Prelude.{◌≡◌, ◌≢◌, ◌≤◌, ◌<◌, ℕ, Result, Option, IsTrue, IfOk, IfErr, IfSome, IsErrOf, is_some, is_ok, length, option_map};
 ghost use Rattle.gem_io.specs.Faults.{HasRisen};
 ghost use Rattle.gem_disk.specs.Disk.{Past, as_read};
 ghost use Rattle.gem_disk.specs.Runs.{LeavesOnly};
 ghost use Rattle.gem_image.specs.Image.{Image};
 ghost use Rattle.extent_pages.specs.Extent.{Extent, pages_used};
 ghost use Rattle.page_file.specs.PageFile.{IsAtRest as ExtentRests};
+ghost use Rattle.page_file.specs.Opening.{IsUnchanged};
 ghost use Rattle.page_file.specs.Changing.{counted_root};
 ghost use Rattle.tran_log.specs.Reads.{AreRead};
 ghost use Rattle.gem_keeper.specs.Found.{StandsFor};
@@ -13,7 +14,7 @@ ghost use Rattle.gem_keeper.specs.Crashes.{FitsNow};
 ghost use Rattle.stone_store.specs.declared.fault.StoreFlaw.{StoreFlaw};
 ghost use Rattle.stone_store.specs.Store.{Held, root_number, store_of};
 ghost use Rattle.stone_store.specs.Left.{FilesStandFor, StandsInAll};
-ghost use Rattle.stone_store.specs.Opening.{image_read, StoreRead, IsFound, OpensNot, Opens, RestsAs};
+ghost use Rattle.stone_store.specs.Opening.{image_read, StoreRead, IsFound, MayGoOn, OpensNot, Opens, ReadsSame, RestsAs};
 ghost use Rattle.stone_store.specs.Resting.{stored_root, BothRest};
 ghost use Rattle.stone_store.specs.Whole.{StoresBy, store_moment, store_stands, store_left};
 
@@ -69,7 +70,9 @@ fn restore<L: Ledger>(
     read: Read,
     steps: &mut Steps<L>,
 ) -> Result<FoundImage, StoreFault>
-    requires { AreRead read.logged.items }
+    requires records { AreRead read.logged.items }
+    requires unchanged { IfSome read.image IsUnchanged }
+    ensures may_go_on { IfOk result MayGoOn }
     ensures opens { (store : Result Held StoreFlaw) → StoreRead read store → Opens store result }
     ensures no_disk { IfErr result (λ fault. fault ≢ StoreFault.Disk) }
 {
@@ -100,10 +103,10 @@ fn read_both<D: Disk, L: Ledger>(
 ) -> Result<(Parts, Read), StoreFault>
     ensures rests { IsTrue D.tells → IfOk result (λ x. RestsAs (D.past disk.new) x.0 x.1) }
     ensures records { IfOk result (λ x. AreRead x.1.logged.items) }
+    ensures unchanged { IfOk result (λ x. IfSome x.1.image IsUnchanged) }
     ensures flawed { IsTrue D.tells → IfErr result
         (OpensNot (store_of (as_read (D.past disk.old)))) }
-    ensures same { IsTrue D.tells →
-        store_of (as_read (D.past disk.new)) ≡ store_of (as_read (D.past disk.old)) }
+    ensures same { IsTrue D.tells → ReadsSame (D.past disk.old) (D.past disk.new) }
     ensures any_moment { (image : Image) (number : ℕ) → IsTrue D.tells →
         StandsInAll (D.past disk.old) image number →
         LeavesOnly (D.past disk.old) (D.past disk.new) (FilesStandFor image number) }
@@ -125,33 +128,8 @@ fn read_both<D: Disk, L: Ledger>(
     ))
 }
 
-// Opens both files, and gives the image for which they stand.
+// Opens both files, and gives the image for which they stand. Nobody counts the nodes that are built.
 fn open_both<D: Disk, L: Ledger>(
-    alloc: Global,
-    disk: &mut D,
-    steps: &mut Steps<L>,
-) -> Result<(Parts, FoundImage), StoreFault>
-    ensures found { IsTrue D.tells → IfOk result
-        (λ x. IsFound (store_of (as_read (D.past disk.old))) x.1) }
-    ensures rests { IsTrue D.tells → IfOk result (λ x. BothRest (D.past disk.new) x.0) }
-    ensures flawed { IsTrue D.tells → IfErr result
-        (OpensNot (store_of (as_read (D.past disk.old)))) }
-    ensures same { IsTrue D.tells →
-        store_of (as_read (D.past disk.new)) ≡ store_of (as_read (D.past disk.old)) }
-    ensures any_moment { (image : Image) (number : ℕ) → IsTrue D.tells →
-        StandsInAll (D.past disk.old) image number →
-        LeavesOnly (D.past disk.old) (D.past disk.new) (FilesStandFor image number) }
-    ensures failed { IsErrOf result StoreFault.Disk →
-        HasRisen (D.faults disk.old) (D.faults disk.new) }
-    ensures later { D.faults disk.old ≤ D.faults disk.new }
-{
-    let (parts, read) = read_both(alloc, disk, steps)?;
-    let found = restore(alloc, read, steps)?;
-    Ok((parts, found))
-}
-
-// The same, where nobody counts the nodes that are built.
-fn open_uncounted<D: Disk, L: Ledger>(
     alloc: Global,
     disk: &mut D,
     blank: Blank,
@@ -161,11 +139,11 @@ fn open_uncounted<D: Disk, L: Ledger>(
     requires some_parts { 0 < L.parts }
     ensures found { IsTrue D.tells → IfOk result
         (λ x. IsFound (store_of (as_read (D.past disk.old))) x.1) }
+    ensures may_go_on { IfOk result (λ x. MayGoOn x.1) }
     ensures rests { IsTrue D.tells → IfOk result (λ x. BothRest (D.past disk.new) x.0) }
     ensures flawed { IsTrue D.tells → IfErr result
         (OpensNot (store_of (as_read (D.past disk.old)))) }
-    ensures same { IsTrue D.tells →
-        store_of (as_read (D.past disk.new)) ≡ store_of (as_read (D.past disk.old)) }
+    ensures same { IsTrue D.tells → ReadsSame (D.past disk.old) (D.past disk.new) }
     ensures any_moment { (image : Image) (number : ℕ) → IsTrue D.tells →
         StandsInAll (D.past disk.old) image number →
         LeavesOnly (D.past disk.old) (D.past disk.new) (FilesStandFor image number) }
@@ -174,7 +152,9 @@ fn open_uncounted<D: Disk, L: Ledger>(
     ensures later { D.faults disk.old ≤ D.faults disk.new }
 {
     let mut steps = Steps::<L>::start(blank);
-    open_both(alloc, disk, &mut steps)
+    let (parts, read) = read_both(alloc, disk, &mut steps)?;
+    let found = restore(alloc, read, &mut steps)?;
+    Ok((parts, found))
 }
 
 /// Opens the store of two files: gives the image for which they stand, with the number of its last
@@ -186,7 +166,8 @@ fn open_uncounted<D: Disk, L: Ledger>(
 ///
 /// What the files hold stays the same, whatever the answer is. Where a disk as it reads is one of its
 /// crash images and all of these stand for one image, each crash meanwhile leaves files that stand
-/// for it. After `Ok` the store stands for the image that was found, and so does what a crash leaves.
+/// for it. After `Ok` the store stands for the image that was found, and so does what a crash leaves;
+/// and sessions can go on with that image, also where the disk tells nothing.
 ///
 /// # Errors
 ///
@@ -200,10 +181,9 @@ pub fn open_store<D: Disk + Drop>(alloc: Global, disk: D) -> Opened<D>
     ensures stands { IsTrue D.tells → IfOk result.result (λ found.
         FitsNow (store_moment D.past) (store_stands D.past) (store_left D.past) result.store
         (StandsFor found.image found.number)) }
-    ensures stored { IsTrue D.tells →
-        StoresBy (as_read (D.past result.store.disk)) result.store.parts }
-    ensures same { IsTrue D.tells → store_of (as_read (D.past result.store.disk))
-        ≡ store_of (as_read (D.past disk)) }
+    ensures may_go_on { IfOk result.result MayGoOn }
+    ensures stored { IsTrue D.tells → StoresBy (as_read (D.past disk)) result.store.parts }
+    ensures same { IsTrue D.tells → ReadsSame (D.past disk) (D.past result.store.disk) }
     ensures any_moment { (image : Image) (number : ℕ) → IsTrue D.tells →
         StandsInAll (D.past disk) image number →
         LeavesOnly (D.past disk) (D.past result.store.disk) (FilesStandFor image number) }
@@ -212,7 +192,7 @@ pub fn open_store<D: Disk + Drop>(alloc: Global, disk: D) -> Opened<D>
     ensures later { D.faults disk ≤ D.faults result.store.disk }
 {
     let mut disk = disk;
-    match open_uncounted::<D, Brand>(alloc, &mut disk, Blank::new(1)) {
+    match open_both::<D, Brand>(alloc, &mut disk, Blank::new(1)) {
         Ok((parts, found)) => Opened {
             result: Ok(found),
             store: Store {

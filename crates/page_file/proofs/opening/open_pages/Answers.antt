@@ -4,6 +4,7 @@ use Rattle.gem_disk.specs.Disk.{Past, reads}
 use Rattle.extent_pages.specs.Extent.{Leaf, Extent, selected}
 use Rattle.page_file.specs.Opening.{AreTaken}
 use Rattle.page_file.proofs.Opened.{found_some, stored_of, some_found}
+use Rattle.page_file.proofs.Unchanged.{taken_unchanged}
 use Rattle.page_file.proofs.opening.open_pages.Goals as goal
 
 pub take_leaves-requires : goal.take_leaves-requires
@@ -24,3 +25,10 @@ returns-clause-opens g c tells =
     (subst (λ (l : List Leaf). AreTaken l c.in_ok-image.image c.in_ok-image.leaves.items) leaves_are c.in_ok-image.ensures)
     (c.in_ok-page.ensures.page tells ∙ sym (ap (λ (p : Past). selected (reads p OfExtent)) same))
     refl (ap (λ (e : Extent). e.directory) c.extent.view_is) refl (ap (λ (e : Extent). e.number) c.extent.view_is)
+
+pub returns-clause-unchanged : goal.returns-clause-unchanged
+returns-clause-unchanged g c =
+    taken_unchanged c.extent.inside.leaves.items c.in_ok-image.image c.in_ok-image.leaves.items
+    (stored_of c.in_ok-extent.field-0 c.in-Some.extent c.extent.inside.leaves.items c.in-Some.is
+    (ap (λ (e : Extent). e.leaves) c.extent.view_is) c.in_ok-extent.ensures.stored).1
+    c.in_ok-image.ensures

@@ -1,9 +1,7 @@
 use Rattle.std.proofs.Common.{◌∙◌}
-use Rattle.gem_disk.specs.declared.disk.Which.TheVariants.{Log as OfLog}
-use Rattle.gem_disk.specs.Disk.{reads}
 use Rattle.gem_disk.proofs.Moments.{and_then}
 use Rattle.stone_store.specs.Left.{FilesStandFor}
-use Rattle.stone_store.proofs.Opens.{pages_leave, all_synced, pages_read, log_stays, log_leaves, log_store, pages_rest, number_found}
+use Rattle.stone_store.proofs.Opens.{pages_leave, all_synced, pages_same, log_leaves, log_same, same_then, pages_rest, number_found}
 use Rattle.stone_store.proofs.opening.read_both.Goals as goal
 
 pub returns-in_err-pages-clause-any_moment : goal.returns-in_err-pages-clause-any_moment
@@ -15,9 +13,10 @@ pub returns-in_err-log-clause-same : goal.returns-in_err-log-clause-same
 returns-in_err-log-clause-same g c tells =
     let mid = g.D.Disk.past c.open_pages.new.disk in
     let new = g.D.Disk.past c.open_log.new.disk in
-    log_store mid new (c.open_log.ensures.each_image tells) (c.open_log.ensures.extent tells)
-    (log_stays (reads mid OfLog) (reads new OfLog) (c.open_log.ensures.kept tells) (c.open_log.ensures.short tells))
-    ∙ pages_read (g.D.Disk.past c.args.disk.now) mid c.open_pages.result (c.open_pages.ensures.past tells)
+    let old = g.D.Disk.past c.args.disk.now in
+    same_then old mid new (pages_same old mid c.open_pages.result (c.open_pages.ensures.past tells))
+    (log_same mid new (c.open_log.ensures.each_image tells) (c.open_log.ensures.extent tells)
+    (c.open_log.ensures.kept tells) (c.open_log.ensures.short tells))
 
 pub returns-in_err-log-clause-any_moment : goal.returns-in_err-log-clause-any_moment
 returns-in_err-log-clause-any_moment g c image number tells all =
@@ -47,9 +46,10 @@ pub returns-clause-same : goal.returns-clause-same
 returns-clause-same g c tells =
     let mid = g.D.Disk.past c.open_pages.new.disk in
     let new = g.D.Disk.past c.open_log.new.disk in
-    log_store mid new (c.open_log.ensures.each_image tells) (c.open_log.ensures.extent tells)
-    (log_stays (reads mid OfLog) (reads new OfLog) (c.open_log.ensures.kept tells) (c.open_log.ensures.short tells))
-    ∙ pages_read (g.D.Disk.past c.args.disk.now) mid c.open_pages.result (c.open_pages.ensures.past tells)
+    let old = g.D.Disk.past c.args.disk.now in
+    same_then old mid new (pages_same old mid c.open_pages.result (c.open_pages.ensures.past tells))
+    (log_same mid new (c.open_log.ensures.each_image tells) (c.open_log.ensures.extent tells)
+    (c.open_log.ensures.kept tells) (c.open_log.ensures.short tells))
 
 pub returns-clause-any_moment : goal.returns-clause-any_moment
 returns-clause-any_moment g c image number tells all =
