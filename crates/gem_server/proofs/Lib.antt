@@ -1,6 +1,10 @@
 pub mod Devices
-pub mod Turns
-pub mod Sessions
 pub mod ScriptRules
 pub mod Completes
 pub mod Kernel
+pub mod Starting
+pub mod Courses
+pub mod Looks
+pub mod StoreCompletes
+pub mod Making
+pub mod Honest

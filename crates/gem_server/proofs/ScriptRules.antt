@@ -1,19 +1,20 @@
 -- Which status tells which rule of a script.
-use Rattle.std.proofs.Common.{◌≡◌, ◌∙◌, ◌↔◌, ℕ, List, sym, ap, subst}
+use Rattle.std.proofs.Common.{◌≡◌, ◌∙◌, ◌↔◌, ℕ, ◌<◌, ◌≤◌, List, length, refl, sym, ap, subst, inl, inr, arith}
+use Rattle.std.specs.Io.KnownBytes.{Consumes, IsAtEnd}
+use Rattle.gem_io.specs.Faults.{HasRisen}
 use Rattle.gem_object.specs.texts.Bytes.{Bytes}
+use Rattle.shell_words.specs.declared.limits.TheConstants.{SCRIPT_LIMIT}
 use Rattle.shell_words.specs.Script.{SessionCommands}
-use Rattle.shell_words.specs.ScriptGrammar.{ReadsScript, BreaksRule}
+use Rattle.shell_words.specs.ScriptGrammar.{ReadsScript, BreaksRule, long_script}
 use Rattle.shell_words.proofs.OneAnswer.{one_rule, never_both}
-use Rattle.gem_server.specs.declared.status.Status.{Status}
-use Rattle.gem_server.specs.declared.status.Status.TheVariants.{Done, Usage, Script, ReadFault, WriteFault, NoMemory}
 use Rattle.shell_words.specs.Rules.{script_rule_number, IsScriptFault}
 use Rattle.shell_words.specs.declared.fault.ScriptFault.{ScriptFault}
 use Rattle.shell_words.specs.declared.fault.ScriptFault.TheVariants.{Rule, NoMemory as ShortOfMemory}
-use Rattle.gem_server.specs.Server.{WasRead, status_of}
-
--- the status tells the rule exactly where the text breaks it first at that line
-abbrev pub Tells : Bytes → Status → Type 0
-Tells text status = (line rule : ℕ) → (status ≡ Script line rule) ↔ (WasRead status × BreaksRule text line rule)
+use Rattle.std.specs.Prelude.{Option}
+use Rattle.gem_server.specs.declared.status.Status.{Status}
+use Rattle.gem_server.specs.declared.status.Status.TheVariants.{Done, Script, ReadFault, WriteFault, NoMemory}
+use Rattle.gem_server.specs.Devices.{Seen, HasFailed}
+use Rattle.gem_server.specs.Server.{WasRead, IsWhole, Tells, IsRead, status_of, GivesScript, GivesNone, TellsOfSource}
 
 abbrev line_of : Status → ℕ
 line_of (Script line rule) = line
@@ -29,48 +30,113 @@ script_told text line rule breaks number broken = (
   λ also. let one = one_rule text line number rule broken breaks also.1 in λ i. Script (one.0 i) (one.1 i),
 )
 
--- the text breaks the rule that the status tells
-pub refused : (text : Bytes) (status : Status) (line rule : ℕ) → status ≡ Script line rule → BreaksRule text line rule → Tells text status
-refused text status line rule is breaks = subst (Tells text) (sym is) (script_told text line rule breaks)
-
--- the text is a script, and its report was written, or a part of it
-pub done : (text : Bytes) (script : List SessionCommands) (status : Status) → status ≡ Done → ReadsScript text script → Tells text status
-done text script status is reads = subst (Tells text) (sym is) (λ line rule. (λ same. absurd cc, λ also. absurd (never_both text script line rule reads also.1)))
-
-pub part_done : (text : Bytes) (script : List SessionCommands) (status : Status) → status ≡ WriteFault → ReadsScript text script → Tells text status
-part_done text script status is reads = subst (Tells text) (sym is) (λ line rule. (λ same. absurd cc, λ also. absurd (never_both text script line rule reads also.1)))
-
--- the text wasn't read
-pub unread : (text : Bytes) (status : Status) → status ≡ Usage → Tells text status
-unread text status is = subst (Tells text) (sym is) (λ line rule. (λ same. absurd cc, λ also. absurd also.0))
-
-pub not_read : (status : Status) → status ≡ Usage → WasRead status → ⊥
-not_read status is read = subst WasRead is read
-
-out_of_memory : (text : Bytes) → Tells text NoMemory
-out_of_memory text line rule = (λ same. absurd cc, λ also. absurd also.0)
-
 -- the status tells why the text is no script, or that memory ran out
-pub fault_told : (text : Bytes) (fault : ScriptFault) (status : Status) → status ≡ status_of fault → IsScriptFault text fault → Tells text status
-fault_told text (Rule line rule) status is breaks = refused text status line (script_rule_number rule) is breaks
-fault_told text ShortOfMemory status is breaks = subst (Tells text) (sym is) (out_of_memory text)
+fault_told : (text : Bytes) (fault : ScriptFault) → IsScriptFault text fault → Tells text (status_of fault)
+fault_told text (Rule line rule) breaks = script_told text line (script_rule_number rule) breaks
+fault_told text ShortOfMemory breaks = λ line rule. (λ same. absurd cc, λ also. absurd also.0)
 
-no_usage : (fault : ScriptFault) → status_of fault ≡ Usage → ⊥
-no_usage (Rule line rule) same = cc
-no_usage ShortOfMemory same = cc
+fault_of_source : (fault : ScriptFault) → TellsOfSource (status_of fault)
+fault_of_source (Rule line rule) = tt
+fault_of_source ShortOfMemory = tt
 
 no_read_fault : (fault : ScriptFault) → status_of fault ≡ ReadFault → ⊥
 no_read_fault (Rule line rule) same = cc
 no_read_fault ShortOfMemory same = cc
 
-no_write_fault : (fault : ScriptFault) → status_of fault ≡ WriteFault → ⊥
-no_write_fault (Rule line rule) same = cc
-no_write_fault ShortOfMemory same = cc
+-- the source gave a text that is no script, whose fault this is, or memory ran out
+pub gives_fault : (source : Seen (Option Bytes)) (given : Bytes) (fault : ScriptFault) → Consumes source.before source.after given
+    → IsWhole source.after given → source.faults_after ≡ source.faults → IsScriptFault given fault → GivesNone source (status_of fault)
+gives_fault source given fault gave whole quiet is = record {
+  read = record {
+    given = given;
+    gave = gave;
+    whole = λ read. whole;
+    tells = fault_told given fault is;
+    fault = λ same. absurd (no_read_fault fault same);
+    fault_told = λ lt. absurd (omega (arith, lt, quiet));
+    later = omega (arith, quiet);
+  };
+  of_source = fault_of_source fault;
+}
 
--- it tells nothing else
-pub fault_alone : (fault : ScriptFault) (status : Status) → status ≡ status_of fault → (status ≡ Usage → ⊥) × (status ≡ ReadFault → ⊥) × (status ≡ WriteFault → ⊥)
-fault_alone fault status is = (
-  λ usage. no_usage fault (sym is ∙ usage),
-  λ read. no_read_fault fault (sym is ∙ read),
-  λ write. no_write_fault fault (sym is ∙ write),
-)
+-- the source gave more than a script has
+pub gives_too_much : (source : Seen (Option Bytes)) (given : Bytes) → Consumes source.before source.after given
+    → SCRIPT_LIMIT < length given → source.faults_after ≡ source.faults → GivesNone source (Script 0 7)
+gives_too_much source given gave long quiet = record {
+  read = record {
+    given = given;
+    gave = gave;
+    whole = λ read. inr long;
+    tells = script_told given 0 7 (long_script long refl refl);
+    fault = λ same. absurd cc;
+    fault_told = λ lt. absurd (omega (arith, lt, quiet));
+    later = omega (arith, quiet);
+  };
+  of_source = tt;
+}
+
+-- the source failed
+pub gives_read_fault : (source : Seen (Option Bytes)) (given : Bytes) → Consumes source.before source.after given
+    → HasFailed source → source.faults ≤ source.faults_after → GivesNone source ReadFault
+gives_read_fault source given gave failed later = record {
+  read = record {
+    given = given;
+    gave = gave;
+    whole = λ read. absurd read;
+    tells = λ line rule. (λ same. absurd cc, λ also. absurd also.0);
+    fault = λ same. failed;
+    fault_told = λ lt. refl;
+    later = later;
+  };
+  of_source = tt;
+}
+
+-- there was no memory for what it gave
+pub gives_no_room : (source : Seen (Option Bytes)) (given : Bytes) → Consumes source.before source.after given
+    → source.faults_after ≡ source.faults → GivesNone source NoMemory
+gives_no_room source given gave quiet = record {
+  read = record {
+    given = given;
+    gave = gave;
+    whole = λ read. absurd read;
+    tells = λ line rule. (λ same. absurd cc, λ also. absurd also.0);
+    fault = λ same. absurd cc;
+    fault_told = λ lt. absurd (omega (arith, lt, quiet));
+    later = omega (arith, quiet);
+  };
+  of_source = tt;
+}
+
+pub gives_script : (source : Seen (Option Bytes)) (text : Bytes) (script : List SessionCommands) → Consumes source.before source.after text
+    → IsAtEnd source.after → source.faults_after ≡ source.faults → ReadsScript text script → GivesScript source script
+gives_script source text script gave at_end quiet reads =
+    record { text = text; gave = gave; at_end = at_end; reads = reads; quiet = quiet }
+
+-- ---- a script was given
+
+-- the status tells nothing of the source
+abbrev pub IsSilent : Status → Type 0
+IsSilent (Script line rule) = ⊥
+IsSilent ReadFault = ⊥
+IsSilent _ = Unit {0}
+
+no_rule : (status : Status) (line rule : ℕ) → IsSilent status → status ≡ Script line rule → ⊥
+no_rule status line rule silent same = subst IsSilent same silent
+
+not_failed : (status : Status) → IsSilent status → status ≡ ReadFault → ⊥
+not_failed status silent same = subst IsSilent same silent
+
+pub script_read : (source : Seen (Option Bytes)) (script : List SessionCommands) (status : Status) → GivesScript source script
+    → IsSilent status → IsRead source status
+script_read source script status gives silent = record {
+  given = gives.text;
+  gave = gives.gave;
+  whole = λ read. inl gives.at_end;
+  tells = λ line rule. (
+    λ same. absurd (no_rule status line rule silent same),
+    λ also. absurd (never_both gives.text script line rule gives.reads also.1),
+  );
+  fault = λ same. absurd (not_failed status silent same);
+  fault_told = λ lt. let same = gives.quiet in absurd (omega (arith, lt, same));
+  later = let same = gives.quiet in omega (arith, same);
+}

@@ -1,3 +1,12 @@
+pub mod Devices
+pub mod Writing
 pub mod Server
+pub mod Alone
+pub mod Course
+pub mod Serving
+pub mod Looking
+pub mod Completeness
+pub mod Starting
+pub mod Finishing
 pub use Rattle.gem_io.specs.Faults
 pub use Rattle.gem_io.specs.Io

@@ -1,25 +1,42 @@
--- What the end of a call of the server says.
-use Rattle.std.specs.Prelude.{◌≡◌, ℕ, ◌<◌, ◌⊎◌, codes, false, List, [], ◌∷◌, length, Option, None}
-use Rattle.std.specs.Io.KnownBytes.{Consumes, Appends, IsAtEnd}
+-- The words of the command line, and the script that a source gives.
+use Rattle.std.specs.Prelude.{◌≡◌, ◌↔◌, ℕ, ◌<◌, ◌≤◌, ◌⊎◌, List, [], length, Option}
+use Rattle.std.specs.Io.KnownBytes.{Consumes, IsAtEnd}
 use Rattle.gem_object.specs.texts.Bytes.{Bytes}
+use Rattle.program_words.specs.Asked.{Files as Named, serve_alone, serve_store, init_store, check_store}
+use Rattle.program_words.specs.WordsGrammar.{ReadsWords}
 use Rattle.shell_words.specs.declared.limits.TheConstants.{SCRIPT_LIMIT}
 use Rattle.shell_words.specs.Script.{SessionCommands}
 use Rattle.shell_words.specs.ScriptGrammar.{ReadsScript, BreaksRule}
 use Rattle.shell_words.specs.Rules.{script_rule_number}
 use Rattle.shell_words.specs.declared.fault.ScriptFault.{ScriptFault}
 use Rattle.shell_words.specs.declared.fault.ScriptFault.TheVariants.{Rule, NoMemory as ShortOfMemory}
-use Rattle.kernel_image.specs.Objects.{kernel_image}
-use Rattle.gem_replies.specs.Report.{report_of}
 use Rattle.gem_replies.specs.declared.reply.RunBook.{RunBook}
-use Rattle.gem_meaning.specs.Opened.{Opened}
-use Rattle.gem_meaning.specs.Events.{Event, Told, IsRunning}
-use Rattle.gem_meaning.specs.Legal.{IsLegal, AreInTurn}
+use Rattle.gem_meaning.specs.Events.{Event}
 use Rattle.gem_server.specs.declared.status.Status.{Status}
-use Rattle.gem_server.specs.declared.status.Status.TheVariants.{Done, Script, WriteFault, NoMemory}
+use Rattle.gem_server.specs.declared.status.Status.TheVariants.{Done, Script, NotStore, SerialsUsed, ReadFault, DiskFault, WriteFault, NoMemory}
+use Rattle.gem_server.specs.Devices.{Seen, HasFailed}
 
--- the words of the command line are the one word serve
-abbrev pub IsServe : List Bytes → Type 0
-IsServe words = words ≡ codes "serve" ∷ []
+-- ---- The words.
+
+-- the words ask for a script to be served without a store
+abbrev pub AsksAlone : List Bytes → Type 0
+AsksAlone words = ReadsWords words serve_alone
+
+-- for a script to be served over a store, for a new store, or for a look at a store
+abbrev pub AsksStore : List Bytes → Type 0
+AsksStore words = (files : Named) × ReadsWords words (serve_store files)
+
+abbrev pub AsksInit : List Bytes → Type 0
+AsksInit words = (files : Named) × ReadsWords words (init_store files)
+
+abbrev pub AsksCheck : List Bytes → Type 0
+AsksCheck words = (files : Named) × ReadsWords words (check_store files)
+
+-- for one of these
+abbrev pub AsksSome : List Bytes → Type 0
+AsksSome words = AsksAlone words ⊎ AsksStore words ⊎ AsksInit words ⊎ AsksCheck words
+
+-- ---- The script.
 
 -- the status that tells why a text is no script, or that memory ran out
 abbrev pub status_of : ScriptFault → Status
@@ -30,61 +47,31 @@ status_of ShortOfMemory = NoMemory
 abbrev pub WasRead : Status → Type 0
 WasRead Done = Unit {0}
 WasRead WriteFault = Unit {0}
+WasRead DiskFault = Unit {0}
+WasRead (NotStore flaw) = Unit {0}
+WasRead (SerialsUsed base sessions) = Unit {0}
 WasRead (Script line rule) = Unit {0}
 WasRead _ = ⊥
-
--- The status says that the script's sessions ran.
-abbrev pub HasRun : Status → Type 0
-HasRun Done = Unit {0}
-HasRun WriteFault = Unit {0}
-HasRun _ = ⊥
 
 -- The text that the source gave is all that it has, or it is longer than a script may be.
 abbrev pub IsWhole : Option Bytes → Bytes → Type 0
 IsWhole left text = IsAtEnd left ⊎ (SCRIPT_LIMIT < length text)
 
--- what the Stone is opened with: the kernel's image and no commit, an empty log and no root; no
--- pages are counted
-abbrev pub kernel_opening : List SessionCommands → Opened
-kernel_opening script = record {
-  image = kernel_image;
-  number = 0;
-  script = script;
-  stored = record { log_length = 1; root = None };
-  counts_pages = false;
-}
+-- the status names a rule exactly where this text breaks it, first at that line
+abbrev pub Tells : Bytes → Status → Type 0
+Tells text status = (line rule : ℕ)
+    → (status ≡ Script line rule) ↔ (WasRead status × BreaksRule text line rule)
 
--- these events of a Stone that was opened so
-abbrev pub told_from_kernel : List SessionCommands → List Event → Told
-told_from_kernel script events = record { opened = kernel_opening script; events = events }
-
--- The text is a script, and the events and the book are those of a legal run of it, in which the
--- sessions took turns. There is no disk, so none failed.
-pub record IsRunOf (text : Bytes) (events : List Event) (book : RunBook) : Type 0 where
-  pub script : List SessionCommands
-  pub reads : ReadsScript text script
-  pub legal : IsLegal (told_from_kernel script events) book
-  pub in_turn : AreInTurn (told_from_kernel script events) 1 script book.transcripts
-  pub running : IsRunning events
-
--- The source gave a text to its end, and the events and the book are those of a run of it.
-pub record IsRun (left left' : Option Bytes) (events : List Event) (book : RunBook) : Type 0 where
-  pub text : Bytes
-  pub given : Consumes left left' text
-  pub ended : IsAtEnd left'
-  pub run : IsRunOf text events book
-
--- The source gave a text to its end, and the report of a run of it was appended to the sink.
-pub record IsReported (left left' written written' : Option Bytes) : Type 0 where
-  pub events : List Event
-  pub book : RunBook
-  pub run : IsRun left left' events book
-  pub report : Appends written written' (report_of book)
-
--- The source gave a text that breaks this rule first at this line.
-abbrev pub IsNoScript : (left left' : Option Bytes) → (line rule : ℕ) → Type 0
-IsNoScript left left' line rule =
-    (given : Bytes) × Consumes left left' given × BreaksRule given line rule
+-- The source gave a text, to its end or past the limit where the status says so, and the status tells
+-- of it and of the source.
+pub record IsRead (source : Seen (Option Bytes)) (status : Status) : Type 0 where
+  pub given : Bytes
+  pub gave : Consumes source.before source.after given
+  pub whole : WasRead status → IsWhole source.after given
+  pub tells : Tells given status
+  pub fault : status ≡ ReadFault → HasFailed source
+  pub fault_told : source.faults < source.faults_after → status ≡ ReadFault
+  pub later : source.faults ≤ source.faults_after
 
 -- no event, and a book without a transcript and without a commit
 pub record IsBlank (events : List Event) (book : RunBook) : Type 0 where
@@ -93,3 +80,23 @@ pub record IsBlank (events : List Event) (book : RunBook) : Type 0 where
   pub base : book.base ≡ 0
   pub no_transcripts : book.transcripts ≡ []
   pub no_history : book.history ≡ []
+
+-- The source gave this script to its end, and didn't fail.
+pub record GivesScript (source : Seen (Option Bytes)) (script : List SessionCommands) : Type 0 where
+  pub text : Bytes
+  pub gave : Consumes source.before source.after text
+  pub at_end : IsAtEnd source.after
+  pub reads : ReadsScript text script
+  pub quiet : source.faults_after ≡ source.faults
+
+-- one of the statuses that tell why there is no script
+abbrev pub TellsOfSource : Status → Type 0
+TellsOfSource (Script line rule) = Unit {0}
+TellsOfSource ReadFault = Unit {0}
+TellsOfSource NoMemory = Unit {0}
+TellsOfSource _ = ⊥
+
+-- The source gave no script, and the status tells why.
+pub record GivesNone (source : Seen (Option Bytes)) (status : Status) : Type 0 where
+  pub read : IsRead source status
+  pub of_source : TellsOfSource status

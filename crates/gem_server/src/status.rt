@@ -1,26 +1,37 @@
 //! How a call of the server ends.
-ghost use Rattle.gem_server.specs.Server.{IsBlank, status_of};
 ghost use Rattle.std.specs.Prelude.{◌≡◌};
+ghost use Rattle.gem_server.specs.Server.{IsBlank, status_of};
+ghost use Rattle.gem_server.specs.Serving.{status_of_store};
 
 use gem_meaning::What;
 use gem_object::Sequence;
 use gem_replies::RunBook;
 use shell_words::ScriptFault;
 use std::alloc::Global;
+use stone_store::{StoreFault, StoreFlaw};
 
 /// How a call of the server ended.
 #[derive(Clone, Copy, Debug, PartialEq, Eq)]
 pub enum Status {
-    /// The whole report was written.
+    /// What was asked for was done, and all that tells of it was written.
     Done,
     /// The words are none that the program knows.
     Usage,
     /// The script breaks a rule of its form, first at this line. Line 0 is the script as a whole.
     /// The rule is printed with an `S` before it.
     Script { line: u32, rule: u8 },
+    /// The two files are no store.
+    NotStore(StoreFlaw),
+    /// The serials from the base on don't suffice for so many sessions, or the image has more than
+    /// 2^62 commits.
+    SerialsUsed { base: u32, sessions: u32 },
+    /// A store was to be made, and one of the files isn't empty: the lengths of both, in bytes.
+    NotEmpty { extent: u64, log: u64 },
     /// The source failed.
     ReadFault,
-    /// The sink failed. What was written is a part of the report from the front.
+    /// The disk failed.
+    DiskFault,
+    /// The sink failed. What was written is a part from the front.
     WriteFault,
     /// There was no memory.
     NoMemory,
@@ -28,7 +39,7 @@ pub enum Status {
 
 impl Status {
     // The status that tells why a text is no script, or that memory ran out.
-    pub(crate) fn of_fault(fault: ScriptFault) -> Status
+    pub(crate) fn of_script(fault: ScriptFault) -> Status
         ensures { result ≡ status_of fault }
     {
         match fault {
@@ -39,7 +50,21 @@ impl Status {
             ScriptFault::NoMemory => Status::NoMemory,
         }
     }
+
+    // The status that tells why a store can't be opened.
+    pub(crate) fn of_store(fault: StoreFault) -> Status
+        ensures { result ≡ status_of_store fault }
+    {
+        match fault {
+            StoreFault::NotStore(flaw) => Status::NotStore(flaw),
+            StoreFault::Disk => Status::DiskFault,
+            StoreFault::NoMemory => Status::NoMemory,
+        }
+    }
 }
+
+/// The events of a run, each with the number of the session that made it. A contract sees the list.
+pub type Events = Sequence<(u32, What)>;
 
 /// What serving a script's text gives.
 #[derive(Debug, Drop)]
@@ -52,26 +77,26 @@ pub struct Served {
     pub events: Events,
 }
 
-/// The events of a run, each with the number of the session that made it. A contract sees the list.
-pub type Events = Sequence<(u32, What)>;
-
 /// What a call of the server leaves.
 #[derive(Debug, Drop)]
-pub struct Ended {
-    /// Whether the report was written, or else what kept it from being so.
+pub struct Ended<D: Drop> {
+    /// How it ended.
     pub status: Status,
-    /// What the sessions replied, and what was committed. Blank with every status but Done and
-    /// WriteFault, also where memory ran out when sessions had run.
+    /// What the sessions replied, and what was committed. It is blank where no sessions ran. Where
+    /// memory ran out when they had, it has the commits and no replies.
     pub book: RunBook,
-    /// What happened to the Stone, in order. Blank where the book is.
+    /// What happened to the Stone, in order. Blank where no sessions ran.
     pub events: Events,
+    /// The disk that was handed in.
+    pub disk: D,
 }
 
-impl Ended {
+impl<D: Drop> Ended<D> {
     // An end with nothing to tell of a run.
-    pub(crate) fn blank(alloc: Global, status: Status) -> Ended
+    pub(crate) fn blank(alloc: Global, status: Status, disk: D) -> Ended<D>
         ensures status { result.status ≡ status }
         ensures blank { IsBlank result.events result.book }
+        ensures disk { result.disk ≡ disk }
     {
         Ended {
             status,
@@ -82,6 +107,7 @@ impl Ended {
                 history: Sequence::of(Vec::new(alloc)),
             },
             events: Sequence::of(Vec::new(alloc)),
+            disk,
         }
     }
 }

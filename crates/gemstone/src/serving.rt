@@ -1,39 +1,45 @@
 //! The program without its devices.
-ghost use Rattle.std.specs.Prelude.{◌≡◌, ◌<◌, ◌↔◌, ℕ, drop, map, string_bytes, IsErrOf, OnOk};
-ghost use Rattle.gem_io.specs.Faults.{HasRisen};
-ghost use Rattle.gem_server.specs.Server.{IsServe, IsNoScript, IsReported};
+ghost use Rattle.std.specs.Prelude.{◌≡◌, drop, map, string_bytes, MatchOption};
+ghost use Rattle.program_words.specs.Asked.{files_of};
+ghost use Rattle.gem_server.specs.Devices.{seen};
+ghost use Rattle.gemstone.specs.Ends.{Ends, NamesFiles, NamesNone};
 
 use crate::failure::{Failure, end_of};
+use gem_disk::Disk;
 use gem_io::{Sink, Source};
 use gem_server::gemstone;
+use program_words::{Paths, Usage, Words, read_words};
 use std::alloc::Global;
 use std::thread::Threads;
 
-/// Serves the script that the source gives and writes its report to the sink, where the words of
-/// the command line ask for it. The first of them is the program's own name, and doesn't count.
-pub fn serve<R: Threads, S: Source, K: Sink>(
+/// Does what the words of the command line ask for, over the disk of the files that they name, or
+/// over any where they name none. The first word is the program's own name, and doesn't count.
+pub fn serve<R: Threads, S: Source, K: Sink, D: Disk + Send + Drop + 'static>(
     rt: &R,
     alloc: Global,
     words: &[String],
     source: &mut S,
+    disk: D,
     sink: &mut K,
 ) -> Result<(), Failure>
-    ensures usage { IsErrOf result Failure.Usage
-        ↔ (IsServe (map string_bytes (drop 1 words.now)) → ⊥) }
-    ensures read_fault { IsErrOf result Failure.ReadFault
-        → HasRisen (S.faults source.old) (S.faults source.new) }
-    ensures read_fault_told { S.faults source.old < S.faults source.new
-        → IsErrOf result Failure.ReadFault }
-    ensures write_fault { IsErrOf result Failure.WriteFault
-        → HasRisen (K.faults sink.old) (K.faults sink.new) }
-    ensures write_fault_told { K.faults sink.old < K.faults sink.new
-        → IsErrOf result Failure.WriteFault }
-    ensures script { (line rule : ℕ) → IsErrOf result (Failure.Script line rule)
-        → IsNoScript (S.left source.old) (S.left source.new) line rule }
-    ensures reported { OnOk result (IsReported (S.left source.old) (S.left source.new)
-        (K.written sink.old) (K.written sink.new)) }
+    ensures { Ends D.tells (map string_bytes (drop 1 words.now))
+        (seen S.left S.faults source.old source.new)
+        (seen K.written K.faults sink.old sink.new) result }
 {
-    end_of(gemstone(rt, alloc, own_words(words), source, sink).status)
+    end_of(gemstone(rt, alloc, own_words(words), source, disk, sink).status)
+}
+
+/// The files that the words of the command line name.
+pub fn paths_of(words: &[String]) -> Option<Paths<'_>>
+    ensures { MatchOption result (NamesNone (map string_bytes (drop 1 words.now)))
+        (λ paths. NamesFiles (map string_bytes (drop 1 words.now)) (files_of paths)) }
+{
+    match read_words(own_words(words)) {
+        Ok(Words::Serve(paths)) => paths,
+        Ok(Words::Init(paths)) => Some(paths),
+        Ok(Words::Check(paths)) => Some(paths),
+        Ok(Words::Demo { .. }) | Err(Usage) => None,
+    }
 }
 
 // The words after the program's own name.

@@ -10,14 +10,10 @@ mod full_log_tests;
 #[cfg(test)]
 mod gem_replies_tests;
 #[cfg(test)]
-mod gem_server_tests;
-#[cfg(test)]
 mod gem_session_tests;
 #[cfg(test)]
 mod halts;
 #[cfg(test)]
 mod keepers;
-#[cfg(test)]
-mod reports;
 #[cfg(test)]
 mod shell_words_tests;

@@ -28,9 +28,9 @@ use Rattle.history_laws.proofs.Views.{after_more}
 use Rattle.history_laws.proofs.Turns.{none_of}
 use Rattle.gem_session.specs.Running.{Arrives}
 use Rattle.gem_session.proofs.Others.{extends_by, extends_twice}
-use Rattle.gem_server.specs.Server.{kernel_opening}
+use Rattle.gem_server.specs.Alone.{kernel_opening}
 use Rattle.gem_server.proofs.Kernel.{kernel_serial}
-use Rattle.gem_server.proofs.Turns.{nothing_more}
+use Rattle.script_run.proofs.Turns.{nothing_more}
 use Rattle.side_by_side_tests.specs.Overtaken.{is_overtaken, IsOvertaking}
 
 -- a Stone that nobody else uses, as a port

@@ -4,7 +4,7 @@ ghost use Rattle.shell_words.specs.declared.limits.TheConstants.{SESSION_LIMIT};
 ghost use Rattle.gem_meaning.specs.Opened.{base_serial};
 ghost use Rattle.gem_meaning.specs.Events.{events_of};
 ghost use Rattle.gem_meaning.specs.Serial.{CanServe};
-ghost use Rattle.gem_server.specs.Server.{kernel_opening};
+ghost use Rattle.gem_server.specs.Alone.{kernel_opening};
 
 use crate::overtaken::{Overtaken, Turns};
 use crate::scripts::{MADE, MADE_REPORT, ROWS};

@@ -1,5 +1,5 @@
 use Rattle.std.proofs.Common.{refl}
-use Rattle.gem_server.proofs.Sessions.{one_session}
+use Rattle.script_run.proofs.Sessions.{one_session}
 use Rattle.sessions_tests.proofs.keepers.run_all.Goals as goal
 
 pub loop-index-preserved : goal.loop-index-preserved

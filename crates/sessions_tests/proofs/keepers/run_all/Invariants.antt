@@ -1,4 +1,4 @@
-use Rattle.gem_server.proofs.Sessions.{HaveRun}
+use Rattle.script_run.proofs.Sessions.{HaveRun}
 use Rattle.sessions_tests.proofs.keepers.run_all.Given as goal
 
 abbrev pub invariant-loop-index : goal.invariant-loop-index

@@ -2,7 +2,7 @@ use Rattle.std.proofs.Common.{refl, subst}
 use Rattle.std.proofs.lemmas.Bool.{false≢true}
 use Rattle.gem_record.specs.gem_image.Image.{Image}
 use Rattle.gem_meaning.specs.Serial.{CanServe}
-use Rattle.gem_server.specs.Server.{kernel_opening}
+use Rattle.gem_server.specs.Alone.{kernel_opening}
 use Rattle.gem_server.proofs.Kernel.{can_serve}
 use Rattle.side_by_side_tests.proofs.Others.{kernel_base}
 use Rattle.side_by_side_tests.proofs.side_by_side_tests.opened.Goals as goal

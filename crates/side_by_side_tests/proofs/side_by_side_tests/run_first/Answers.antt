@@ -1,5 +1,5 @@
 use Rattle.std.proofs.Common.{refl, arith}
-use Rattle.gem_server.proofs.Sessions.{one_session}
+use Rattle.script_run.proofs.Sessions.{one_session}
 use Rattle.side_by_side_tests.proofs.side_by_side_tests.run_first.Goals as goal
 
 pub loop-index-preserved : goal.loop-index-preserved

@@ -1,4 +1,4 @@
-use Rattle.gem_server.proofs.Sessions.{HaveRun}
+use Rattle.script_run.proofs.Sessions.{HaveRun}
 use Rattle.side_by_side_tests.proofs.side_by_side_tests.run_first.Given as goal
 
 abbrev pub invariant-loop-index : goal.invariant-loop-index

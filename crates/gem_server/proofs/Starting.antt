@@ -1,0 +1,108 @@
+-- Opening a store for a run.
+use Rattle.std.proofs.Common.{◌≡◌, ◌≢◌, ℕ, ◌+◌, ◌<◌, ◌≤◌, Bool, true, IsTrue, List, length, Option, Some, None, Result, Ok, Err, is_some, refl, sym, ap, subst, ◌∙◌, arith}
+use Rattle.std.specs.FinMap.{get}
+use Rattle.gem_object.specs.declared.object.Object.{Object}
+use Rattle.gem_disk.specs.Disk.{Files, Past, as_read, CrashImages}
+use Rattle.gem_disk.specs.Runs.{LeavesOnly}
+use Rattle.gem_disk.proofs.Moments.{started as nothing_done}
+use Rattle.gem_image.specs.Image.{Image, IsImage}
+use Rattle.shell_words.specs.Script.{SessionCommands}
+use Rattle.gem_keeper.specs.Found.{StandsFor}
+use Rattle.gem_keeper.specs.Crashes.{FitsNow}
+use Rattle.stone_store.specs.declared.parts.FoundImage.{FoundImage}
+use Rattle.stone_store.specs.declared.parts.Parts.{Parts}
+use Rattle.stone_store.specs.declared.fault.StoreFault.{StoreFault}
+use Rattle.stone_store.specs.declared.fault.StoreFault.TheVariants as fault
+use Rattle.stone_store.specs.Store.{store_of}
+use Rattle.stone_store.specs.Left.{FilesStandFor, StandsInAll}
+use Rattle.stone_store.specs.Opening.{IsFound, MayGoOn, OpensNot, ReadsSame}
+use Rattle.stone_store.specs.Resting.{stored_by, IsStoredIn}
+use Rattle.stone_store.specs.Whole.{StoreOf, StoresBy, store_moment, store_stands, store_left}
+use Rattle.gem_meaning.specs.commit_check.Conflicts.{changed_of, last_change}
+use Rattle.gem_meaning.specs.Opened.{base_serial}
+use Rattle.gem_meaning.specs.Serial.{CanServe}
+use Rattle.script_run.specs.Run.{opened_by, CanRun}
+use Rattle.gem_server.specs.declared.status.Status.{Status}
+use Rattle.gem_server.specs.Devices.{Seen, seen, HasFailed}
+use Rattle.gem_server.specs.Course.{Stays, IsOpenedOn}
+use Rattle.gem_server.specs.Serving.{status_of_store}
+use Rattle.gem_server.specs.Starting.{HasRoom, IsFull, IsStarted, IsRefused, IsWhyRefused, kept_in, is_open}
+
+-- a disk that wasn't used
+pub stays_unused : (tells : Bool) (disk : Seen Past) → disk.after ≡ disk.before → Stays tells disk
+stays_unused tells disk same = record {
+  same = λ told. subst (ReadsSame disk.before) (sym same) (record { extent = refl; log = refl });
+  crash_since = λ image number told all. subst (λ (p : Past). LeavesOnly disk.before p (FilesStandFor image number)) (sym same)
+      (nothing_done disk.before (FilesStandFor image number) all.each);
+}
+
+changed_in : (here : Option Object) (number : ℕ) → ((object : Object) → here ≡ Some object → object.changed ≤ number) → changed_of here ≤ number
+changed_in None number all = omega arith
+changed_in (Some object) number all = all object refl
+
+stored_there : (files : Files) (parts : Option Parts) → is_some parts ≡ true → StoresBy files parts
+    → IsStoredIn files (stored_by parts)
+stored_there files None open_so stored = absurd cc
+stored_there files (Some parts) open_so stored = stored
+
+module _ {D : Type 0} (tells : Bool) (past : D → Past) (faults : D → ℕ) (disk : D) (script : List SessionCommands) where
+  pub is_started : (found : FoundImage) (base : ℕ) (store : StoreOf D) → IsImage found.image → MayGoOn found
+      → HasRoom found script base → is_some store.parts ≡ true
+      → (IsTrue tells → IsFound (store_of (as_read (past disk))) found)
+      → (IsTrue tells → FitsNow (store_moment past) (store_stands past) (store_left past) store (StandsFor found.image found.number))
+      → (IsTrue tells → StoresBy (as_read (past disk)) store.parts)
+      → Stays tells (seen past faults disk store.disk) → faults disk ≤ faults store.disk
+      → IsStarted tells past faults disk script (record { image = found.image; number = found.number; base = base; keeper = store })
+  unfolding base_serial
+  is_started found base store named go room is_ready is stands stored stays later =
+      let can_serve : CanServe (opened_by true kept_in (record { image = found.image; number = found.number; base = base; keeper = store }) script) = record {
+        image = named;
+        sound = go.sound;
+        number = room.number;
+        changed = λ oid. changed_in (get found.image oid) found.number (go.changed oid);
+        serials = let base_is = room.base_is in let serials = room.serials in omega (arith, base_is, serials);
+      } in
+      record {
+        can_run = record {
+          serves = can_serve;
+          base_is = room.base_is;
+          is_ready = is_ready;
+          stands_for = stands;
+        };
+        opened_on = record {
+          counts = refl;
+          can_serve = can_serve;
+          found = is;
+          stored = λ told. stored_there (as_read (past disk)) store.parts is_ready (stored told);
+        };
+        stays = stays;
+        later = later;
+      }
+
+  why_refused : (why : StoreFault) (disk' : D) → (IsTrue tells → OpensNot (store_of (as_read (past disk))) why)
+      → (why ≡ fault.Disk → HasFailed (seen past faults disk disk'))
+      → IsWhyRefused tells past faults disk script (status_of_store why) disk'
+  why_refused (fault.NotStore flaw) disk' flawed failed = flawed
+  why_refused fault.Disk disk' flawed failed = failed refl
+  why_refused fault.NoMemory disk' flawed failed = tt
+
+  pub is_refused : (why : StoreFault) (status : Status) (disk' back : D) → status ≡ status_of_store why → back ≡ disk'
+      → (IsTrue tells → OpensNot (store_of (as_read (past disk))) why)
+      → (why ≡ fault.Disk → HasFailed (seen past faults disk disk'))
+      → Stays tells (seen past faults disk disk')
+      → IsRefused tells past faults disk script (record { status = status; disk = back })
+  is_refused why status disk' back status_is disk_is flawed failed stays = record {
+    why = subst (λ (s : Status). IsWhyRefused tells past faults disk script s back) (sym status_is)
+        (subst (IsWhyRefused tells past faults disk script (status_of_store why)) (sym disk_is) (why_refused why disk' flawed failed));
+    stays = subst (λ d. Stays tells (seen past faults disk d)) (sym disk_is) stays;
+  }
+
+  pub is_full : (found : FoundImage) (full status : Status) (disk' back : D) → IsFull found script full → status ≡ full → back ≡ disk'
+      → (IsTrue tells → IsFound (store_of (as_read (past disk))) found)
+      → Stays tells (seen past faults disk disk')
+      → IsRefused tells past faults disk script (record { status = status; disk = back })
+  is_full found full status disk' back is status_is disk_is held stays = record {
+    why = subst (λ (s : Status). IsWhyRefused tells past faults disk script s back) (sym (status_is ∙ is.status_is))
+        (found, subst (IsFull found script) is.status_is is, held);
+    stays = subst (λ d. Stays tells (seen past faults disk d)) (sym disk_is) stays;
+  }

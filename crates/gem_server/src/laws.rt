@@ -1,0 +1,23 @@
+//! What follows from the definitions alone. Each law is the contract of a function that does
+//! nothing.
+ghost use Rattle.std.specs.Prelude.{[]};
+ghost use Rattle.gem_disk.specs.Disk.{Files};
+ghost use Rattle.gem_server.specs.Course.{IsHonest};
+ghost use Rattle.gem_server.specs.Completeness.{ServingCompletes, LookingCompletes};
+
+/// Nothing but a device, or want of memory, keeps a script from its report over a store that holds a
+/// sound image with room for the sessions.
+pub fn serving_completes()
+    ensures { ServingCompletes }
+{}
+
+/// Nothing but a device, or want of memory, keeps the line from being written that tells of a store
+/// that holds a sound image.
+pub fn looking_completes()
+    ensures { LookingCompletes }
+{}
+
+/// What is said of crashes since a call's start holds of a disk with nothing pending.
+pub fn new_disks_are_honest()
+    ensures { (first : Files) → IsHonest (record { first = first; steps = [] }) }
+{}

@@ -1,0 +1,9 @@
+//! Room: sessions and server. Tests the top call of `gem_server`, without a store and over one.
+#![tactic(auto)]
+
+#[cfg(test)]
+mod alone_tests;
+#[cfg(test)]
+mod reports;
+#[cfg(test)]
+mod store_tests;
