@@ -1,0 +1,11 @@
+session DataCurator
+printit
+Checking balance
+%
+printit
+Savings balance
+%
+printit
+Vault balance
+%
+commit
