@@ -1,13 +1,13 @@
 -- A legal run: the book of a run, by what the Stone was opened with and all its events.
-use Rattle.std.specs.Prelude.{◌≡◌, ◌≢◌, ℕ, ◌+◌, ◌++◌, nat_lt, List, [], ◌∷◌, length}
-use Rattle.std.specs.List.{filter, AllByRecursion}
+use Rattle.std.specs.Prelude.{◌≡◌, ◌≢◌, ℕ, ◌+◌, List, [], ◌∷◌}
+use Rattle.std.specs.List.{AllByRecursion}
 use Rattle.shell_words.specs.Script.{SessionCommands}
 use Rattle.gem_replies.specs.declared.reply.Line.TheVariants.{NoMemory, DiskFault}
 use Rattle.gem_replies.specs.declared.reply.Reply.{Reply}
 use Rattle.gem_replies.specs.declared.reply.RunBook.{RunBook}
 use Rattle.gem_replies.specs.declared.reply.Transcript.{Transcript}
 use Rattle.gem_meaning.specs.Opened.{base_serial}
-use Rattle.gem_meaning.specs.Events.{Event, Told, entries_of, events_of}
+use Rattle.gem_meaning.specs.Events.{Told, entries_of}
 use Rattle.gem_meaning.specs.Serial.{IsConsistent}
 use Rattle.gem_meaning.specs.Session.{Says}
 
@@ -44,28 +44,3 @@ WasServed reply = (reply.line ≢ NoMemory) × (reply.line ≢ DiskFault)
 abbrev pub AlwaysServed : RunBook → Type 0
 AlwaysServed book =
     AllByRecursion (λ transcript. AllByRecursion WasServed transcript.replies) book.transcripts
-
--- the events of the sessions before this one
-abbrev pub events_before : ℕ → List Event → List Event
-events_before session events = filter (λ event. nat_lt event.0 session) events
-
--- the same, as a Stone that has seen no others
-abbrev pub told_before : ℕ → Told → Told
-told_before session t = record t { events = events_before session t.events }
-
--- A session's turn: its events follow those of the sessions before it, its login saw all these, and
--- what it says it says by these and its own alone.
-pub record IsTurn (t : Told) (session : ℕ) (script : SessionCommands)
-    (transcript : Transcript) : Type 0 where
-  pub order : events_before (session + 1) t.events
-      ≡ events_before session t.events ++ events_of session t.events
-  pub says : Says (told_before (session + 1) t) session
-      (length (events_before session t.events)) script transcript.replies
-
--- The sessions, whose numbers go on from this one, took turns in the order of the script.
-abbrev pub AreInTurn : Told → ℕ → List SessionCommands → List Transcript → Type 0
-AreInTurn t session [] [] = Unit {0}
-AreInTurn t session (script ∷ scripts) (transcript ∷ transcripts) =
-    IsTurn t session script transcript × AreInTurn t (session + 1) scripts transcripts
-AreInTurn t session [] (transcript ∷ transcripts) = ⊥
-AreInTurn t session (script ∷ scripts) [] = ⊥

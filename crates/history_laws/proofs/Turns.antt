@@ -1,10 +1,9 @@
 -- Events by the sessions that made them.
-use Rattle.std.proofs.Common.{◌≡◌, ◌≢◌, ◌∙◌, refl, sym, ap, subst, ℕ, ◌≤◌, ◌<◌, ◌==◌, Bool, true, false, true≢false, nat_lt, cond, List, [], ◌∷◌, ◌++◌, length, take, drop, arith, append_assoc, append-nil, eq-eqb, eqb-true, ltb-true, ltb-false, take-append-drop}
-use Rattle.std.specs.List.{AllByRecursion}
+use Rattle.std.proofs.Common.{◌≡◌, ◌≢◌, ◌∙◌, refl, sym, ap, subst, ℕ, ◌==◌, Bool, true, false, true≢false, cond, List, [], ◌∷◌, ◌++◌, length, take, drop, arith, append_assoc, append-nil, eq-eqb, eqb-true, take-append-drop}
+use Rattle.std.specs.List.{All, AllByRecursion}
 use Rattle.std.proofs.lemmas.List.{append_cancel_left}
-use Rattle.std.proofs.lemmas.List.Elements.{filter-append}
+use Rattle.std.proofs.lemmas.List.Elements.{filter-append, All-nil, All-cons}
 use Rattle.gem_meaning.specs.Events.{Event, events_of, OthersCame}
-use Rattle.gem_meaning.specs.Legal.{events_before}
 
 -- what holds of all items of a list holds of those of its front, and of its back
 module _ {X : Type 0} (P : X → Type 0) where
@@ -111,24 +110,25 @@ one_came session before after others later e own first last is =
           ∙ ap (λ es. before ++ (e ∷ es)) no_later,
     )
 
--- events of sessions before this one
-pub all_before : (session : ℕ) (es : List Event) → AllByRecursion (λ event. event.0 < session) es
-    → events_before session es ≡ es
-all_before session [] are = refl
-all_before session (e ∷ es) are = go (nat_lt e.0 session) refl (all_before session es are.1)
-  where
-    go : (b : Bool) → nat_lt e.0 session ≡ b → events_before session es ≡ es
-        → cond b (e ∷ events_before session es) (events_before session es) ≡ e ∷ es
-    go true is rest = ap (λ xs. e ∷ xs) rest
-    go false is rest = absurd (omega (arith, ltb-false e.0 session is, are.0))
+-- a session that has as many events as before has none of the further ones
+pub nothing_more : (session : ℕ) (es more : List Event)
+    → events_of session (es ++ more) ≡ events_of session es → events_of session more ≡ []
+nothing_more session es more same =
+    append_cancel_left (events_of session es) (events_of session more) []
+    (sym (filter-append (λ event. event.0 == session) es more)
+    ∙ same ∙ sym (append-nil (events_of session es)))
 
--- events of this session and of those after it
-pub none_before : (session : ℕ) (es : List Event)
-    → AllByRecursion (λ event. session ≤ event.0) es → events_before session es ≡ []
-none_before session [] are = refl
-none_before session (e ∷ es) are = go (nat_lt e.0 session) refl (none_before session es are.1)
+-- Events of which no other session has one are the session's own.
+pub own_alone : (session : ℕ) (es : List Event)
+    → ((other : ℕ) → other ≢ session → events_of other es ≡ [])
+    → All (λ event. event.0 ≡ session) es
+own_alone session [] none = All-nil (λ event. event.0 ≡ session)
+own_alone session (e ∷ es) none =
+    All-cons (λ event. event.0 ≡ session) e es (own (e.0 == session) refl)
+    (own_alone session es
+    (λ other different. (not_taken (e.0 == other) e (events_of other es) (none other different)).1))
   where
-    go : (b : Bool) → nat_lt e.0 session ≡ b → events_before session es ≡ []
-        → cond b (e ∷ events_before session es) (events_before session es) ≡ []
-    go true is rest = absurd (omega (arith, ltb-true e.0 session is, are.0))
-    go false is rest = rest
+    own : (b : Bool) → (e.0 == session) ≡ b → e.0 ≡ session
+    own true is = eqb-true e.0 session is
+    own false is = absurd (made_by_one e es (none e.0
+        (λ same. true≢false (sym (eq-eqb e.0 session same) ∙ is))))
