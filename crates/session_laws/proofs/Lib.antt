@@ -1,8 +1,9 @@
 pub mod Adds
+pub mod ClaimedByOne
 pub mod Claims
 pub mod Held
 pub mod Lines
-pub mod OneReport
+pub mod OneTranscript
 pub mod Own
 pub mod Printed
 pub mod Replay

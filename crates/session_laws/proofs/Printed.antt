@@ -298,7 +298,7 @@ says_printed t session seen script rs made e some before more is whole says =
     says.point says.view rs made e some before more is says.sees.1 says.sees.0 says.says whole
 
 -- the transcript in a place is that of the script's session there
-transcript_of : (t : Told) (first : ℕ) (scripts : List SessionCommands)
+pub transcript_of : (t : Told) (first : ℕ) (scripts : List SessionCommands)
     (transcripts : List Transcript) (i : ℕ) (transcript : Transcript)
     → AreTranscripts t first scripts transcripts → slice_get transcripts i ≡ Some transcript
     → (script : SessionCommands) × (slice_get scripts i ≡ Some script)
@@ -338,7 +338,7 @@ placed t before more session made e some whole serial =
     (serial_back t.opened [] before ((session, made) ∷ more)
     (subst (IsSerialFrom t.opened []) whole serial)).0
 
-of_script : (script : List SessionCommands) (before more : List Event) (event : Event)
+pub of_script : (script : List SessionCommands) (before more : List Event) (event : Event)
     → AllByRecursion (IsOfScript script) (before ++ event ∷ more) → IsOfScript script event
 of_script script [] more event all = all.0
 of_script script (x ∷ before) more event all = of_script script before more event all.1

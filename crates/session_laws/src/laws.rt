@@ -1,7 +1,7 @@
 //! What follows from the definitions alone. Each law is the contract of a function that does
 //! nothing.
 ghost use Rattle.std.specs.Prelude.{◌≡◌, ◌≤◌, ◌<◌, ◌-◌, ℕ, true, Some, List, [], ◌∷◌, ◌++◌, map};
-ghost use Rattle.std.specs.List.{slice_get};
+ghost use Rattle.std.specs.List.{slice_get, AllByRecursion};
 ghost use Rattle.std.specs.Option.{option_map};
 ghost use Rattle.gem_meaning.specs.shell_words.Script.{SessionCommands};
 ghost use Rattle.gem_meaning.specs.shell_words.declared.script.Command.{Command};
@@ -15,9 +15,10 @@ ghost use Rattle.gem_meaning.specs.Opened.{commands_of};
 ghost use Rattle.gem_meaning.specs.Events.{Event, Told, told_more, run_at_place, after_events, entry_in, events_of};
 ghost use Rattle.gem_meaning.specs.Session.{Says};
 ghost use Rattle.gem_meaning.specs.gem_replies.declared.reply.RunBook.{RunBook};
-ghost use Rattle.gem_meaning.specs.Legal.{IsLegal, AlwaysServed, AreInTurn};
+ghost use Rattle.gem_meaning.specs.Legal.{IsLegal, WasServed};
 ghost use Rattle.gem_meaning.specs.Claims.{claimed_by, claims_of, lines_of};
 ghost use Rattle.session_laws.specs.Places.{runs_before};
+ghost use Rattle.session_laws.specs.Points.{points_of, FailsBetweenNone};
 
 /// What a session says by some events it says by them with later events of other sessions, too.
 pub fn says_stay()
@@ -50,13 +51,29 @@ pub fn printed_at_place()
         ≡ Some (lines_of n transcript.replies) }
 {}
 
-/// Two legal runs of one script over one opened image, in which the sessions took turns and none
-/// was short of memory or met a failure of the disk, have the same events and the same book, and so
-/// the same report.
-pub fn one_report()
-    ensures { (t t' : Told) (book book' : RunBook) → t.opened ≡ t'.opened →
-        IsLegal t book → IsLegal t' book' →
-        AreInTurn t 1 t.opened.script book.transcripts →
-        AreInTurn t' 1 t'.opened.script book'.transcripts →
-        AlwaysServed book → AlwaysServed book' → (t ≡ t') × (book ≡ book') }
+/// In a legal run each event is of a session that has a transcript, and a session's events are
+/// those that the replies of its transcript claim, in their order: each is that of exactly one
+/// reply.
+pub fn claimed_by_one()
+    ensures claimed { (t : Told) (book : RunBook) (session : ℕ) (transcript : Transcript) →
+        IsLegal t book → slice_get book.transcripts (session - 1) ≡ Some transcript →
+        1 ≤ session →
+        map claimed_by (events_of session t.events) ≡ claims_of transcript.replies }
+    ensures there { (t : Told) (book : RunBook) (before more : List Event) (session : ℕ)
+        (what : What) → IsLegal t book → t.events ≡ before ++ (session, what) ∷ more →
+        (1 ≤ session) × (transcript : Transcript)
+        × (slice_get book.transcripts (session - 1) ≡ Some transcript)
+        × (transcript.session ≡ session) }
+{}
+
+/// What a session replies follows from all events and from how many of them it had seen when it
+/// gave each reply, where memory didn't run out, and the disk failed within none of its commands.
+/// Where the disk failed within a commit that has nothing to commit, both `unchanged` and `halted`
+/// may be the reply.
+pub fn one_transcript()
+    ensures { (t : Told) (session seen seen' : ℕ) (script : SessionCommands)
+        (rs rs' : List Reply) (says : Says t session seen script rs)
+        (says' : Says t session seen' script rs') →
+        points_of says ≡ points_of says' → FailsBetweenNone t (points_of says) →
+        AllByRecursion WasServed rs → AllByRecursion WasServed rs' → rs ≡ rs' }
 {}
