@@ -1,20 +1,22 @@
--- Records that don't fit behind a root, and images with records, as loops over a log find them.
-use Rattle.std.proofs.Common.{◌≡◌, ℕ, ◌+◌, ◌<◌, Bool, true, false, cond, eqb, ltb, List, [], ◌∷◌, length, All, Option, Some, None, option_map, refl, sym, ap, subst, ◌∙◌, arith}
+-- Records that don't fit behind a root, and images with records, as they are found one after the other.
+use Rattle.std.proofs.Common.{◌≡◌, ℕ, ◌+◌, ◌<◌, Bool, true, false, cond, eqb, ltb, List, [], ◌∷◌, All, Option, Some, None, option_map, refl, sym, ap, subst, ◌∙◌, arith}
 use Rattle.std.specs.List.{AllByRecursion}
-use Rattle.std.proofs.lemmas.Bool.Decides.{nat_tests}
+use Rattle.std.proofs.lemmas.Bool.{ltb-true, lt-ltb, le-ltb}
 use Rattle.std.proofs.lemmas.List.Elements.{All-from_recursion, recursion_from_All}
 use Rattle.gem_object.specs.declared.object.Object.{Object}
 use Rattle.gem_object.specs.Spelling.{IsSpelled}
 use Rattle.gem_image.specs.Image.{Image, with_objects}
-use Rattle.body_codec.specs.Stored.{IsStoredAt}
-use Rattle.tran_log.specs.Log.{LogRecord, effect_of, spelled, AreRecords, logged_from}
-use Rattle.tran_log.specs.Reads.{AreRead}
+use Rattle.gem_record.specs.declared.effect.Effect.{Effect}
+use Rattle.body_codec.specs.Stored.{IsStoredAt, IsStoredEffect}
+use Rattle.tran_log.specs.Reads.{TakesAll}
 use Rattle.tran_log.specs.declared.logged.Logged.{Logged}
 use Rattle.stone_store.specs.declared.parts.FoundImage.{FoundImage}
 use Rattle.stone_store.specs.Store.{is_after, records_after, last_of, misfit_among, misfit, with_records, last_number}
-use Rattle.stone_store.specs.Records.{next_at, old_at, after_record}
+use Rattle.stone_store.specs.declared.records.Restored.{Restored}
+use Rattle.stone_store.specs.Records.{next_at, old_at, after_record, with_record}
+use Rattle.stone_store.specs.Restoring.{IsRestored}
 
--- what a log shows, by what the records before it show
+-- what a log shows of which the records before showed an older place, and none is behind the root
 abbrev pub misfit_from : ℕ → Option ℕ → List Logged → Option ℕ
 misfit_from number older [] = older
 misfit_from number older (one ∷ logged) =
@@ -45,16 +47,6 @@ misfits number older last (one ∷ logged) is = by (is_after number one)
 pub misfit_is : (number : ℕ) (logged : List Logged) → misfit_from number None logged ≡ place_of (misfit number logged)
 misfit_is number logged = misfits number None None logged refl
 
-pub passes : (number : ℕ) (older : Option ℕ) (one : Logged) (logged : List Logged) → is_after number one ≡ false
-    → misfit_from number older (one ∷ logged) ≡ misfit_from number (old_at number one) logged
-passes number older one logged before =
-    ap (λ b. cond b (next_at number one) (misfit_from number (old_at number one) logged)) before
-
-pub stops : (number : ℕ) (older : Option ℕ) (one : Logged) (logged : List Logged) → is_after number one ≡ true
-    → misfit_from number older (one ∷ logged) ≡ next_at number one
-stops number older one logged behind =
-    ap (λ b. cond b (next_at number one) (misfit_from number (old_at number one) logged)) behind
-
 -- ---- images with records
 
 abbrev pub all_records : (root : ℕ) → FoundImage → List Logged → FoundImage
@@ -77,76 +69,105 @@ records_are root (one ∷ logged) found = by (is_after root one) (records_are ro
   by true rest = rest (record { image = with_objects found.image one.effect.objects; number = one.effect.number })
   by false rest = rest found
 
-pub after_there : (number : ℕ) (one : Logged) → number < one.effect.number → is_after number one ≡ true
-after_there number one behind = grind (arith, nat_tests, behind)
-
-pub ends : (number : ℕ) (older : Option ℕ) (logged : List Logged) → 0 ≡ length logged → misfit_from number older logged ≡ older
-ends number older [] none = refl
-ends number older (one ∷ logged) none = absurd (omega (arith, none))
-
 -- ---- objects that can be stored
-
-abbrev pub IsSpelledRecord : Logged → Type 0
-IsSpelledRecord one = All (λ (entry : ℕ × Object). IsSpelled entry.1) one.effect.objects
 
 spelled_objects : (number : ℕ) (entries : List (ℕ × Object)) → AllByRecursion (IsStoredAt number) entries
     → AllByRecursion (λ (entry : ℕ × Object). IsSpelled entry.1) entries
 spelled_objects number [] all = tt
 spelled_objects number (entry ∷ entries) all = (all.0.object.spelled, spelled_objects number entries all.1)
 
-spelled_from : (at : ℕ) (last : Option ℕ) (records : List LogRecord) → AreRecords last records
-    → AllByRecursion IsSpelledRecord (logged_from at records)
-spelled_from at last [] are = tt
-spelled_from at last (one ∷ records) are = (
-  All-from_recursion (λ (entry : ℕ × Object). IsSpelled entry.1) (effect_of one).objects
-      (spelled_objects (effect_of one).number (effect_of one).objects
-      (recursion_from_All (IsStoredAt (effect_of one).number) (effect_of one).objects are.0.stored.each)),
-  spelled_from (at + (1 + length (spelled one))) (Some (effect_of one).number) records are.1,
-)
+pub stored_spelled : (number : ℕ) (effect : Effect) → IsStoredEffect number effect
+    → All (λ (entry : ℕ × Object). IsSpelled entry.1) effect.objects
+stored_spelled number effect stored = All-from_recursion (λ (entry : ℕ × Object). IsSpelled entry.1) effect.objects
+    (spelled_objects number effect.objects (recursion_from_All (IsStoredAt number) effect.objects stored.each))
 
-pub are_spelled : (logged : List Logged) → AreRead logged → AllByRecursion IsSpelledRecord logged
-are_spelled logged read = subst (AllByRecursion IsSpelledRecord) (sym read.logged_is) (spelled_from 0 None read.records read.follow)
+-- ---- what is restored, one record after the other
 
--- records that are put into an image one after the other: what is left makes of it what all make of the first
-pub record IsUnderWay (root : ℕ) (first : FoundImage) (all : List Logged) (found : FoundImage) (left : List Logged) : Type 0 where
-  pub whole : all_records root found left ≡ all_records root first all
-  pub spelled : AllByRecursion IsSpelledRecord left
+abbrev all_with : (root : ℕ) → Restored → List Logged → Restored
+all_with root restored [] = restored
+all_with root restored (one ∷ logged) = all_with root (with_record root one restored) logged
 
-pub one_more : (root : ℕ) (first : FoundImage) (all : List Logged) (found : FoundImage) (rest : List Logged) (one : Logged)
-    (left : List Logged) (made : FoundImage) → IsUnderWay root first all found rest → rest ≡ one ∷ left
-    → made ≡ after_record root one found → IsUnderWay root first all made left
-one_more root first all found rest one left made at is put =
-    let now = subst (λ (xs : List Logged). IsUnderWay root first all found xs) is at in
+found_all : (root : ℕ) (restored : Restored) (logged : List Logged)
+    → (all_with root restored logged).found ≡ all_records root restored.found logged
+found_all root restored [] = refl
+found_all root restored (one ∷ logged) = found_all root (with_record root one restored) logged
+
+-- behind the root it stays
+number_behind : (root : ℕ) (one : Logged) (found : FoundImage) → root < found.number
+    → root < (after_record root one found).number
+number_behind root one found behind = by (is_after root one) refl where
+  by : (b : Bool) → is_after root one ≡ b
+      → root < (let f : FoundImage = cond b (record { image = with_objects found.image one.effect.objects; number = one.effect.number }) found in f.number)
+  by true is = ltb-true root one.effect.number is
+  by false is = behind
+
+misfit_stays : (root : ℕ) (restored : Restored) (logged : List Logged) → root < restored.found.number
+    → (all_with root restored logged).misfit ≡ restored.misfit
+misfit_stays root restored [] behind = refl
+misfit_stays root restored (one ∷ logged) behind =
+    misfit_stays root (with_record root one restored) logged (number_behind root one restored.found behind)
+    ∙ ap (λ b. cond b restored.misfit (cond (is_after root one) (next_at root one) (old_at root one)))
+    (lt-ltb root restored.found.number behind)
+
+-- what the records so far show is what the definition shows
+misfit_all : (root : ℕ) (restored : Restored) (logged : List Logged) → restored.found.number ≡ root
+    → (all_with root restored logged).misfit ≡ misfit_from root restored.misfit logged
+misfit_all root restored [] at = refl
+misfit_all root restored (one ∷ logged) at =
+    by (is_after root one) refl (misfit_all root (with_record root one restored) logged)
+  where
+    next : Restored
+    next = with_record root one restored
+
+    image : Image
+    image = with_objects restored.found.image one.effect.objects
+
+    first : ltb root restored.found.number ≡ false
+    first = le-ltb root restored.found.number (omega (arith, at))
+
+    misfit_is : (b : Bool) → is_after root one ≡ b → next.misfit ≡ cond b (next_at root one) (old_at root one)
+    misfit_is b is = ap (λ t. cond t restored.misfit (cond (is_after root one) (next_at root one) (old_at root one))) first
+        ∙ ap (λ t. cond t (next_at root one) (old_at root one)) is
+
+    found_is : (b : Bool) → is_after root one ≡ b
+        → next.found ≡ cond b (record { image = image; number = one.effect.number }) restored.found
+    found_is b is = ap (λ t. cond t (record { image = image; number = one.effect.number }) restored.found) is
+
+    by : (b : Bool) → is_after root one ≡ b
+        → (next.found.number ≡ root → (all_with root next logged).misfit ≡ misfit_from root next.misfit logged)
+        → (all_with root next logged).misfit ≡ cond b (next_at root one) (misfit_from root (old_at root one) logged)
+    by true is more = misfit_stays root next logged
+        (subst (λ (n : ℕ). root < n) (sym (ap (λ (f : FoundImage). f.number) (found_is true is))) (ltb-true root one.effect.number is))
+        ∙ misfit_is true is
+    by false is more = more (ap (λ (f : FoundImage). f.number) (found_is false is) ∙ at)
+        ∙ ap (λ (o : Option ℕ). misfit_from root o logged) (misfit_is false is)
+
+-- what takes the records of a log, by its root and by what it has restored
+abbrev restores : {T : Type 0} → (T → ℕ) → (T → Restored) → T → Logged → T → Type 0
+restores root restored old one new = (root new ≡ root old) × (restored new ≡ with_record (root old) one (restored old))
+
+taken_all : {T : Type 0} (root : T → ℕ) (restored : T → Restored) (old new : T) (logged : List Logged)
+    → TakesAll (restores root restored) old logged new → restored new ≡ all_with (root old) (restored old) logged
+taken_all root restored old new [] taken = ap restored taken
+taken_all root restored old new (one ∷ logged) taken = taken_all root restored taken.0 new logged taken.2
+    ∙ ap (λ (n : ℕ). all_with n (restored taken.0) logged) taken.1.0
+    ∙ ap (λ (r : Restored). all_with (root old) r logged) taken.1.1
+
+pub all_restored : {T : Type 0} (old new : T) (root : T → ℕ) (restored : T → Restored) (logged : List Logged) (first : Image)
+    (number : ℕ) → TakesAll (restores root restored) old logged new → root old ≡ number
+    → (restored old).found.image ≡ first → (restored old).found.number ≡ number → (restored old).misfit ≡ None
+    → IsRestored first number logged (restored new)
+all_restored old new root restored logged first number taken root_is image_is number_is none =
+    let is : restored new ≡ all_with number (restored old) logged =
+    taken_all root restored old new logged taken ∙ ap (λ (n : ℕ). all_with n (restored old) logged) root_is in
+    let found : (restored new).found ≡ all_records number (restored old).found logged =
+    ap (λ (r : Restored). r.found) is ∙ found_all number (restored old) logged in
+    let both = records_are number logged (restored old).found in
     record {
-      whole = ap (λ (f : FoundImage). all_records root f left) put ∙ now.whole;
-      spelled = now.spelled.1;
+      image_is = ap (λ (f : FoundImage). f.image) found ∙ both.0
+          ∙ ap (λ (i : Image). with_records i (records_after number logged)) image_is;
+      number_is = ap (λ (f : FoundImage). f.number) found ∙ both.1
+          ∙ ap (λ (n : ℕ). last_number n (records_after number logged)) number_is;
+      misfit_is = ap (λ (r : Restored). r.misfit) is ∙ misfit_all number (restored old) logged number_is
+          ∙ ap (λ (o : Option ℕ). misfit_from number o logged) none ∙ misfit_is number logged;
     }
-
-pub next_spelled : (root : ℕ) (first : FoundImage) (all : List Logged) (found : FoundImage) (rest : List Logged) (one : Logged)
-    (left : List Logged) → IsUnderWay root first all found rest → rest ≡ one ∷ left → IsSpelledRecord one
-next_spelled root first all found rest one left at is = (subst (λ (xs : List Logged). IsUnderWay root first all found xs) is at).spelled.0
-
-pub all_put : (root : ℕ) (first : FoundImage) (all : List Logged) (found : FoundImage) (left : List Logged)
-    → IsUnderWay root first all found left → left ≡ [] → found ≡ all_records root first all
-all_put root first all found left at none =
-    (subst (λ (xs : List Logged). IsUnderWay root first all found xs) none at).whole
-
--- in the end all have been put
-module _ (root : ℕ) (image : Image) (all logged : List Logged) (same : all ≡ logged) (found : FoundImage)
-    (left : List Logged) (is : IsUnderWay root (record { image = image; number = root }) all found left)
-    (none : 0 ≡ length left) where
-  abbrev first : FoundImage
-  first = record { image = image; number = root }
-
-  no_more : (xs : List Logged) → 0 ≡ length xs → xs ≡ []
-  no_more [] e = refl
-  no_more (one ∷ xs) e = absurd (omega (arith, e))
-
-  found_is : found ≡ all_records root first logged
-  found_is = all_put root first all found left is (no_more left none) ∙ ap (all_records root first) same
-
-  pub put_image : found.image ≡ with_records image (records_after root logged)
-  put_image = ap (λ (f : FoundImage). f.image) found_is ∙ (records_are root logged first).0
-
-  pub put_number : found.number ≡ last_number root (records_after root logged)
-  put_number = ap (λ (f : FoundImage). f.number) found_is ∙ (records_are root logged first).1

@@ -1,17 +1,18 @@
 -- What crashes leave of a store while it is opened, and what it stands for then.
-use Rattle.std.proofs.Common.{◌≡◌, ℕ, ◌<◌, ◌≤◌, List, [], ◌∷◌, length, Option, Some, None, IfSome, Result, Ok, Err, refl, sym, ap, ap₂, subst, ◌∙◌, inl, inr, arith}
+use Rattle.std.proofs.Common.{◌≡◌, ℕ, ◌<◌, ◌≤◌, List, [], ◌∷◌, length, Option, Some, None, option_map, IfSome, Result, Ok, Err, refl, sym, ap, ap₂, subst, ◌∙◌, inl, inr, arith}
 use Rattle.std.proofs.lemmas.Bool.{cases_lt}
 use Rattle.std.specs.FinMap.{get}
-use Rattle.gem_object.specs.declared.object.Object.{Object}
-use Rattle.gem_sound.specs.Sound.{IsSoundImage}
+use Rattle.gem_sound.specs.Sound.{IsSoundImage, BreaksFirst}
+use Rattle.image_check.specs.declared.fault.SoundFault.{SoundFault}
+use Rattle.image_check.specs.declared.fault.SoundFault.TheVariants as sound
+use Rattle.image_check.specs.Faults.{IsFault as BreaksSoundness, rule_of}
 use Rattle.page_file.specs.Opening.{IsUnchanged}
-use Rattle.tran_log.specs.Reads.{AreRead}
 use Rattle.gem_disk.specs.declared.disk.Which.TheVariants.{Extent as OfExtent, Log as OfLog}
 use Rattle.gem_disk.specs.Disk.{Files, Past, Synced, reads, as_read, stepped, FileImages, CrashImages}
 use Rattle.gem_disk.specs.Runs.{LeavesOnly}
 use Rattle.gem_disk.proofs.Moments.{started, goes_on, leaves_less}
 use Rattle.gem_disk.proofs.Leaves.{reads_on}
-use Rattle.gem_image.specs.Image.{Image}
+use Rattle.gem_image.specs.Image.{Image, objects_in}
 use Rattle.extent_pages.specs.Extent.{Extent, extent_of}
 use Rattle.extent_pages.specs.declared.fault.PageFault.{PageFault}
 use Rattle.extent_pages.specs.declared.fault.PageFault.TheVariants.{NotPages, Disk, NoMemory}
@@ -21,6 +22,7 @@ use Rattle.page_file.specs.PageFile.{IsAtRest as ExtentRests, AreFound}
 use Rattle.tran_log.specs.declared.logged.Logged.{Logged}
 use Rattle.tran_log.specs.declared.fault.LogFault.{LogFault}
 use Rattle.tran_log.specs.declared.fault.LogFault.TheVariants as logs
+use Rattle.tran_log.specs.declared.fault.LogRule.TheVariants as rule
 use Rattle.tran_log.specs.Log.{log_of}
 use Rattle.tran_log.specs.Reads.{LogFails}
 use Rattle.tran_log.specs.Resting.{SameExtent, IsOldOrRead}
@@ -30,10 +32,11 @@ use Rattle.stone_store.specs.declared.fault.StoreFlaw.{StoreFlaw}
 use Rattle.stone_store.specs.declared.fault.StoreFlaw.TheVariants as flaw
 use Rattle.stone_store.specs.declared.parts.Parts.{Parts}
 use Rattle.stone_store.specs.declared.parts.FoundImage.{FoundImage}
-use Rattle.stone_store.specs.declared.opening.Read.{Read}
-use Rattle.stone_store.specs.Store.{Held, held_unless, held_by, store_of, found_by, image_of, number_of, found_in, root_number, misfit, records_after, with_records, last_number}
+use Rattle.stone_store.specs.declared.records.Restored.{Restored}
+use Rattle.stone_store.specs.Store.{Held, held_unless, held_by, store_of, found_by, image_of, number_of, found_in, root_image, root_number, misfit}
 use Rattle.stone_store.specs.Left.{FilesStandFor, StandsInAll}
-use Rattle.stone_store.specs.Opening.{of_pages, of_log, OpensNot, IsFound, MayGoOn, ReadsSame, RestsAs, StoreRead, image_read}
+use Rattle.stone_store.specs.Opening.{of_pages, of_log, of_sound, OpensNot, IsFound, MayGoOn, ReadsSame}
+use Rattle.stone_store.specs.Restoring.{image_read, IsRestored, IsFromRecords, RestsAs, IsStoreOf}
 use Rattle.stone_store.specs.Resting.{BothRest}
 use Rattle.stone_store.specs.Whole.{StoresBy}
 use Rattle.stone_store.proofs.Standing.{held_of, stands_itself, changed_by}
@@ -140,12 +143,14 @@ log_flaw files root logs.NoMemory extent is = tt
 
 -- ---- what was read
 
--- what both files hold, by what was read of them
-pub rest_store : (past : Past) (parts : Parts) (read : Read) → RestsAs past parts read → StoreRead read (store_of (as_read past))
-rest_store past parts read rest = (
+-- what both files hold, by what was restored of them
+pub rest_store : (past : Past) (parts : Parts) (restored : Restored) → RestsAs past parts restored
+    → IsStoreOf restored (store_of (as_read past))
+rest_store past parts restored rest = (
   rest.root,
-  rest.found,
-  ap₂ held_by rest.extent.stands (rest_reads past read.logged.items parts.log rest.log),
+  rest.logged,
+  rest.restored_is,
+  ap₂ held_by rest.extent.stands (rest_reads past rest.logged parts.log rest.log),
 )
 
 ok_held : (x y : Held) → ◌≡◌ {A = Result Held StoreFlaw} (Ok x) (Ok y) → x ≡ y
@@ -175,36 +180,98 @@ held_fits : (root : Option Extent) (logged : List Logged) (held : Held) (one : O
 held_fits root logged held None is = refl
 held_fits root logged held (Some one) is = absurd cc
 
--- what was read is at rest, where it is a store
-pub both_rest : (past : Past) (parts : Parts) (read : Read) (found : FoundImage) → RestsAs past parts read
+-- what was restored is at rest, where it is a store
+pub both_rest : (past : Past) (parts : Parts) (restored : Restored) (found : FoundImage) → RestsAs past parts restored
     → IsFound (store_of (as_read past)) found → BothRest past parts
-unfolding rest_store
-both_rest past parts read found rest is = record {
+both_rest past parts restored found rest is = record {
   root = rest.root;
-  logged = read.logged.items;
+  logged = rest.logged;
   extent = rest.extent;
   log = rest.log;
-  fits = held_fits rest.root read.logged.items is.held (misfit (root_number rest.root) read.logged.items)
-      (sym (rest_store past parts read rest).2 ∙ is.store_is);
+  fits = held_fits rest.root rest.logged is.held (misfit (root_number rest.root) rest.logged)
+      (sym (ap₂ held_by rest.extent.stands (rest_reads past rest.logged parts.log rest.log)) ∙ is.store_is);
   counted = rest.counted;
 }
 
--- ---- whatever the disk tells
+-- ---- what was restored, by what was read
 
-image_unchanged : (image : Option Image) → IfSome image IsUnchanged → IsUnchanged (image_read image)
-image_unchanged None all = kernel_is_unchanged
-image_unchanged (Some image) all = all
+pub first_is : (image : Option Image) (number : ℕ) (root : Option Extent) → AreFound image number root
+    → image_read image ≡ root_image root
+first_is None number None is = refl
+first_is None number (Some extent) is = absurd is
+first_is (Some image) number None is = absurd is
+first_is (Some image) number (Some extent) is = is.0
 
--- sessions can go on with what was restored
-pub goes_on_with : (image : Option Image) (number : ℕ) (logged : List Logged) (found : FoundImage) → AreRead logged
-    → IfSome image IsUnchanged → misfit number logged ≡ None
-    → found.image ≡ with_records (image_read image) (records_after number logged)
-    → found.number ≡ last_number number (records_after number logged) → IsSoundImage found.image → MayGoOn found
-goes_on_with image number logged found read unchanged fits image_is number_is sound = record {
+pub restored_over : (first : Image) (number : ℕ) (logged : List Logged) (restored : Restored) (root : Option Extent)
+    → IsRestored first number logged restored → first ≡ root_image root → number ≡ root_number root
+    → IsRestored (root_image root) (root_number root) logged restored
+restored_over first number logged restored root is first_is number_is =
+    subst (λ (i : Image). IsRestored i (root_number root) logged restored) first_is
+    (subst (λ (n : ℕ). IsRestored first n logged restored) number_is is)
+
+pub image_unchanged : (image : Option Image) (first : Image) → first ≡ image_read image → IfSome image IsUnchanged
+    → IsUnchanged first
+image_unchanged None first is all = subst IsUnchanged (sym is) kernel_is_unchanged
+image_unchanged (Some image) first is all = subst IsUnchanged (sym is) all
+
+placed_none : (found : Option Logged) → option_map (λ (one : Logged). one.at) found ≡ None → found ≡ None
+placed_none None none = refl
+placed_none (Some one) none = absurd cc
+
+-- ---- the answer
+
+-- the records fit where no misfit was found
+none_found : (restored : Restored) (root : ℕ) (logged : List Logged) (first : Image) → IsRestored first root logged restored
+    → restored.misfit ≡ None → misfit root logged ≡ None
+none_found restored root logged first is none = placed_none (misfit root logged) (sym is.misfit_is ∙ none)
+
+same_place : (x y : ℕ) → ◌≡◌ {A = Option ℕ} (Some x) (Some y) → x ≡ y
+same_place x y e = cc
+
+-- the first record that doesn't fit is the flaw
+pub misfit_flaws : (restored : Restored) (at : ℕ) (store : Result Held StoreFlaw) → restored.misfit ≡ Some at
+    → IsStoreOf restored store → store ≡ Err (flaw.Log at rule.Number)
+misfit_flaws restored at store there is =
+    is.3 ∙ by (misfit (root_number is.0) is.1) (sym is.2.misfit_is ∙ there)
+  where
+    by : (one : Option Logged) → option_map (λ (o : Logged). o.at) one ≡ Some at
+        → held_unless is.0 is.1 one ≡ Err (flaw.Log at rule.Number)
+    by None e = absurd cc
+    by (Some one) e = ap (λ (n : ℕ). Err (flaw.Log n rule.Number)) (same_place one.at at e)
+
+-- what is held where all records fit
+held_there : (restored : Restored) (store : Result Held StoreFlaw) → restored.misfit ≡ None → IsStoreOf restored store
+    → (held : Held) × (store ≡ Ok held) × (restored.found.image ≡ image_of held) × (restored.found.number ≡ number_of held)
+held_there restored store none is = (
+  held_of is.0 is.1,
+  is.3 ∙ ap (held_unless is.0 is.1) (none_found restored (root_number is.0) is.1 (root_image is.0) is.2 none),
+  is.2.image_is,
+  is.2.number_is,
+)
+
+pub is_found : (restored : Restored) (store : Result Held StoreFlaw) → restored.misfit ≡ None → IsStoreOf restored store
+    → IsSoundImage restored.found.image → IsFound store restored.found
+is_found restored store none is sound =
+    let there = held_there restored store none is in
+    record { held = there.0; store_is = there.1; image_is = there.2; number_is = there.3; sound = sound }
+
+-- the first rule that the image breaks is the flaw
+pub sound_flaws : (restored : Restored) (store : Result Held StoreFlaw) (fault : SoundFault) → restored.misfit ≡ None
+    → IsStoreOf restored store → BreaksSoundness (objects_in restored.found.image) fault → OpensNot store (of_sound fault)
+sound_flaws restored store (sound.Broken oid broken) none is breaks =
+    let there = held_there restored store none is in
+    (there.0, there.1, subst (λ (i : Image). BreaksFirst (objects_in i) oid (rule_of broken)) there.2 breaks)
+sound_flaws restored store sound.NoMemory none is breaks = tt
+
+-- sessions can go on with what was restored, whatever the disk tells
+pub goes_on_with : (restored : Restored) → IsFromRecords restored → restored.misfit ≡ None → IsSoundImage restored.found.image
+    → MayGoOn restored.found
+goes_on_with restored is none sound = record {
   sound = sound;
-  changed = λ name object there. subst (λ (n : ℕ). object.changed ≤ n) (sym number_is)
-      (changed_by number logged (image_read image) read fits (image_unchanged image unchanged) name object
-      (sym (ap (λ (i : Image). get i name) image_is) ∙ there));
+  changed = λ name object there. subst (λ (n : ℕ). object.changed ≤ n) (sym is.restored_is.number_is)
+      (changed_by is.root is.logged is.first is.read
+      (none_found restored is.root is.logged is.first is.restored_is none) is.unchanged name object
+      (sym (ap (λ (i : Image). get i name) is.restored_is.image_is) ∙ there));
 }
 
 -- what is stored is what the files held when they were opened

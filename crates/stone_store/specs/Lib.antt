@@ -4,6 +4,7 @@ pub mod Rows
 pub mod Left
 pub mod Resting
 pub mod Opening
+pub mod Restoring
 pub mod Whole
 pub mod Counted
 pub mod FaultText

@@ -1,33 +1,26 @@
 -- What opening a store gives.
-use Rattle.std.specs.Prelude.{◌≡◌, ◌≤◌, ℕ, Option, Some, None, option_map, Result, Ok, Err}
+use Rattle.std.specs.Prelude.{◌≡◌, ◌≤◌, ℕ, Some, Result, Ok, Err}
 use Rattle.std.specs.FinMap.{get}
 use Rattle.gem_object.specs.declared.object.Object.{Object}
 use Rattle.gem_disk.specs.declared.disk.Which.TheVariants.{Extent as OfExtent, Log as OfLog}
 use Rattle.gem_disk.specs.Disk.{Past, reads}
-use Rattle.gem_image.specs.Image.{Image, objects_in}
+use Rattle.gem_image.specs.Image.{objects_in}
 use Rattle.gem_sound.specs.Sound.{IsSoundImage, BreaksFirst}
 use Rattle.image_check.specs.declared.fault.SoundFault.{SoundFault}
 use Rattle.image_check.specs.declared.fault.SoundFault.TheVariants as sound
 use Rattle.image_check.specs.Faults.{rule_of}
-use Rattle.kernel_image.specs.Objects.{kernel_image}
 use Rattle.extent_pages.specs.declared.fault.PageFault.{PageFault}
 use Rattle.extent_pages.specs.declared.fault.PageFault.TheVariants as pages
-use Rattle.extent_pages.specs.Extent.{Extent, extent_of}
-use Rattle.page_file.specs.PageFile.{AreFound, IsAtRest as ExtentRests}
-use Rattle.page_file.specs.Changing.{counted_root}
+use Rattle.extent_pages.specs.Extent.{extent_of}
 use Rattle.tran_log.specs.declared.fault.LogFault.{LogFault}
 use Rattle.tran_log.specs.declared.fault.LogFault.TheVariants as logs
 use Rattle.tran_log.specs.Log.{log_of}
-use Rattle.tran_log.specs.Resting.{IsAtRest as LogRests}
 use Rattle.stone_store.specs.declared.fault.StoreFlaw.{StoreFlaw}
 use Rattle.stone_store.specs.declared.fault.StoreFlaw.TheVariants as flaw
 use Rattle.stone_store.specs.declared.fault.StoreFault.{StoreFault}
 use Rattle.stone_store.specs.declared.fault.StoreFault.TheVariants as fault
 use Rattle.stone_store.specs.declared.parts.FoundImage.{FoundImage}
-use Rattle.stone_store.specs.declared.parts.Parts.{Parts}
-use Rattle.stone_store.specs.declared.opening.Read.{Read}
-use Rattle.stone_store.specs.Store.{Held, held_over, image_of, number_of}
-use Rattle.stone_store.specs.Resting.{stored_root}
+use Rattle.stone_store.specs.Store.{Held, image_of, number_of}
 
 -- ---- Faults of the parts, as faults of a store.
 
@@ -86,23 +79,3 @@ Opens store (Err why) = OpensNot store why
 pub record ReadsSame (old new : Past) : Type 0 where
   pub extent : extent_of (reads new OfExtent) ≡ extent_of (reads old OfExtent)
   pub log : log_of (reads new OfLog) ≡ log_of (reads old OfLog)
-
--- ---- Between.
-
--- the image of a root, or the kernel's
-abbrev pub image_read : Option Image → Image
-image_read None = kernel_image
-image_read (Some image) = image
-
--- both files are at rest, and this was read of them
-pub record RestsAs (past : Past) (parts : Parts) (read : Read) : Type 0 where
-  pub root : Option Extent
-  pub extent : ExtentRests past parts.pages root
-  pub found : AreFound read.image read.number root
-  pub log : LogRests past read.logged.items parts.log
-  pub counted : option_map stored_root parts.root ≡ counted_root root
-
--- what two files hold of which this was read
-abbrev pub StoreRead : Read → Result Held StoreFlaw → Type 0
-StoreRead read store = (root : Option Extent) × AreFound read.image read.number root
-    × (store ≡ held_over root (Ok read.logged.items))

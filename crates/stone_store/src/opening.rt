@@ -1,26 +1,25 @@
 //! Opens a store.
-ghost use Rattle.std.specs.Prelude.{◌≡◌, ◌≢◌, ◌≤◌, ◌<◌, ℕ, Result, Option, IsTrue, IfOk, IfErr, IfSome, IsErrOf, is_some, is_ok, length, option_map};
+ghost use Rattle.std.specs.Prelude.{◌≡◌, ◌≢◌, ◌≤◌, ◌<◌, ℕ, Result, Option, IsTrue, IfOk, IfErr, IsErrOf, is_some, is_ok, length, option_map};
 ghost use Rattle.gem_io.specs.Faults.{HasRisen};
 ghost use Rattle.gem_disk.specs.Disk.{Past, as_read};
 ghost use Rattle.gem_disk.specs.Runs.{LeavesOnly};
 ghost use Rattle.gem_image.specs.Image.{Image};
 ghost use Rattle.extent_pages.specs.Extent.{Extent, pages_used};
 ghost use Rattle.page_file.specs.PageFile.{IsAtRest as ExtentRests};
-ghost use Rattle.page_file.specs.Opening.{IsUnchanged};
 ghost use Rattle.page_file.specs.Changing.{counted_root};
-ghost use Rattle.tran_log.specs.Reads.{AreRead};
 ghost use Rattle.gem_keeper.specs.Found.{StandsFor};
 ghost use Rattle.gem_keeper.specs.Crashes.{FitsNow};
 ghost use Rattle.stone_store.specs.declared.fault.StoreFlaw.{StoreFlaw};
 ghost use Rattle.stone_store.specs.Store.{Held, root_number, store_of};
 ghost use Rattle.stone_store.specs.Left.{FilesStandFor, StandsInAll};
-ghost use Rattle.stone_store.specs.Opening.{image_read, StoreRead, IsFound, MayGoOn, OpensNot, Opens, ReadsSame, RestsAs};
+ghost use Rattle.stone_store.specs.Opening.{IsFound, MayGoOn, OpensNot, Opens, ReadsSame};
+ghost use Rattle.stone_store.specs.Restoring.{image_read, IsStoreOf, RestsAs, IsFromRecords};
 ghost use Rattle.stone_store.specs.Resting.{stored_root, BothRest};
 ghost use Rattle.stone_store.specs.Whole.{StoresBy, store_moment, store_stands, store_left};
 
 use crate::fault::{StoreFault, StoreFlaw};
 use crate::parts::{FoundImage, Parts, Root};
-use crate::records::{misfit, with_records};
+use crate::records::{Restored, Restoring, start_restoring};
 use crate::store::Store;
 use gem_disk::Disk;
 use gem_image::Image;
@@ -31,7 +30,7 @@ use radix_pages::Steps;
 use std::alloc::{AllocError, Global};
 use std::marker::Brand;
 use std::sync::ledger::{Blank, Ledger};
-use tran_log::{LogRule, Logged, open_log};
+use tran_log::{LogRule, replay_log};
 
 /// What opening a store gives: what was found, or why nothing was, and the store, which has the disk.
 #[derive(Drop)]
@@ -40,14 +39,6 @@ pub struct Opened<D: Disk + Drop> {
     pub result: Result<FoundImage, StoreFault>,
     /// The store. Where opening failed, it is only good for being closed.
     pub store: Store<D>,
-}
-
-// What stands in both files, as it was read.
-#[derive(Drop)]
-struct Read {
-    image: Option<Image>,
-    number: u64,
-    logged: Vec<Logged>,
 }
 
 // The image of the root, or the kernel's.
@@ -64,24 +55,20 @@ fn first_image<L: Ledger>(
     }
 }
 
-// The image for which the files stand, which is sound.
-fn restore<L: Ledger>(
-    alloc: Global,
-    read: Read,
-    steps: &mut Steps<L>,
-) -> Result<FoundImage, StoreFault>
-    requires records { AreRead read.logged.items }
-    requires unchanged { IfSome read.image IsUnchanged }
+// The image for which the files stand, by what was restored of them: the log fits, and the image is
+// sound.
+fn accept(alloc: Global, restored: Restored) -> Result<FoundImage, StoreFault>
+    requires { IsFromRecords restored }
     ensures may_go_on { IfOk result MayGoOn }
-    ensures opens { (store : Result Held StoreFlaw) → StoreRead read store → Opens store result }
+    ensures opens { (store : Result Held StoreFlaw) → IsStoreOf restored store →
+        Opens store result }
     ensures no_disk { IfErr result (λ fault. fault ≢ StoreFault.Disk) }
 {
-    if let Some(at) = misfit(read.number, &read.logged) {
+    let Restored { found, misfit } = restored;
+    if let Some(at) = misfit {
         let rule = LogRule::Number;
         return Err(StoreFault::NotStore(StoreFlaw::Log { at, rule }));
     }
-    let image = first_image(alloc, read.image, steps)?;
-    let found = with_records(alloc, image, read.number, read.logged, steps)?;
     sound(alloc, &found.image)?;
     Ok(found)
 }
@@ -95,15 +82,14 @@ fn root_of(pages: &PageFile, number: u64) -> Option<Root>
     Some(Root { number, pages })
 }
 
-// Reads both files.
+// Reads both files, the log one record after the other.
 fn read_both<D: Disk, L: Ledger>(
     alloc: Global,
     disk: &mut D,
-    steps: &mut Steps<L>,
-) -> Result<(Parts, Read), StoreFault>
+    mut steps: Steps<L>,
+) -> Result<(Parts, Restored), StoreFault>
     ensures rests { IsTrue D.tells → IfOk result (λ x. RestsAs (D.past disk.new) x.0 x.1) }
-    ensures records { IfOk result (λ x. AreRead x.1.logged.items) }
-    ensures unchanged { IfOk result (λ x. IfSome x.1.image IsUnchanged) }
+    ensures records { IfOk result (λ x. IsFromRecords x.1) }
     ensures flawed { IsTrue D.tells → IfErr result
         (OpensNot (store_of (as_read (D.past disk.old)))) }
     ensures same { IsTrue D.tells → ReadsSame (D.past disk.old) (D.past disk.new) }
@@ -114,18 +100,14 @@ fn read_both<D: Disk, L: Ledger>(
         HasRisen (D.faults disk.old) (D.faults disk.new) }
     ensures later { D.faults disk.old ≤ D.faults disk.new }
 {
-    let (pages, image, number) = open_pages(alloc, disk, steps)?;
-    let (log, logged) = open_log(alloc, disk)?;
+    let (pages, image, number) = open_pages(alloc, disk, &mut steps)?;
+    let first = first_image(alloc, image, &mut steps)?;
+    let mut restoring = start_restoring(first, number, steps);
+    let log = replay_log(alloc, disk, &mut restoring)?;
     let root = root_of(&pages, number);
     let parts = Parts { log, pages, root };
-    Ok((
-        parts,
-        Read {
-            image,
-            number,
-            logged,
-        },
-    ))
+    let Restoring { restored, .. } = restoring;
+    Ok((parts, restored))
 }
 
 // Opens both files, and gives the image for which they stand. Nobody counts the nodes that are built.
@@ -151,15 +133,15 @@ fn open_both<D: Disk, L: Ledger>(
         HasRisen (D.faults disk.old) (D.faults disk.new) }
     ensures later { D.faults disk.old ≤ D.faults disk.new }
 {
-    let mut steps = Steps::<L>::start(blank);
-    let (parts, read) = read_both(alloc, disk, &mut steps)?;
-    let found = restore(alloc, read, &mut steps)?;
+    let steps = Steps::<L>::start(blank);
+    let (parts, restored) = read_both(alloc, disk, steps)?;
+    let found = accept(alloc, restored)?;
     Ok((parts, found))
 }
 
 /// Opens the store of two files: gives the image for which they stand, with the number of its last
-/// commit, and the store. Each file is synced and then read once; a log of one byte at most becomes
-/// one without records. Where it fails, the disk is still in the store, which gives it back.
+/// commit, and the store. Each file is synced and then read once, the log in pieces: besides the
+/// image one record of it is held at a time. A log of one byte at most becomes one without records. Where it fails, the disk is still in the store, which gives it back.
 ///
 /// The files stand for the image of the extent's root, or for that of the kernel, with the records of
 /// the log of later commits, one after the other.

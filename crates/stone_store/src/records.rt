@@ -1,10 +1,7 @@
 //! The records of a log behind a root.
-ghost use Rattle.std.specs.Prelude.{◌≡◌, ◌<◌, All, option_map, IfOk, OnOk};
+ghost use Rattle.std.specs.Prelude.{◌≡◌, ◌<◌, All, None, OnOk};
 ghost use Rattle.gem_object.specs.Spelling.{IsSpelled};
-ghost use Rattle.tran_log.specs.declared.logged.Logged.{Logged};
-ghost use Rattle.tran_log.specs.Reads.{AreRead};
-ghost use Rattle.stone_store.specs.Store.{misfit, records_after, with_records, last_number};
-ghost use Rattle.stone_store.specs.Records.{next_at, old_at, after_record};
+ghost use Rattle.stone_store.specs.Records.{next_at, old_at, misfit_with, after_record};
 
 use crate::parts::FoundImage;
 use gem_image::Image;
@@ -12,7 +9,24 @@ use gem_record::Effect;
 use radix_pages::Steps;
 use std::alloc::{AllocError, Global};
 use std::sync::ledger::Ledger;
-use tran_log::Logged;
+use tran_log::{Logged, Replay};
+
+/// What was restored of a root and the records of a log: the image that they make, with the number of
+/// its last commit, and where the gate of the record stands for which the log doesn't fit behind the
+/// root.
+#[derive(Drop)]
+pub(crate) struct Restored {
+    pub found: FoundImage,
+    pub misfit: Option<u64>,
+}
+
+/// The same while the log is read, with the number of the root.
+#[derive(Drop)]
+pub(crate) struct Restoring<L: Ledger> {
+    pub root: u64,
+    pub restored: Restored,
+    pub steps: Steps<L>,
+}
 
 // Where the first record behind a root of this number stands, unless it is the next one.
 fn next_misfit(number: u64, one: &Logged) -> Option<u64>
@@ -37,20 +51,18 @@ fn old_misfit(number: u64, one: &Logged) -> Option<u64>
     }
 }
 
-/// Where the gate of the record stands for which a log doesn't fit behind a root of this number.
-pub(crate) fn misfit(number: u64, logged: &[Logged]) -> Option<u64>
-    ensures { result ≡ option_map (λ (one : Logged). one.at) (misfit number logged.now) }
+// Where the record stands for which a log doesn't fit, with one record more. The image has this
+// number so far, and by the records so far it was the older place.
+fn misfit_with(root: u64, number: u64, one: &Logged, older: Option<u64>) -> Option<u64>
+    ensures { result ≡ misfit_with root number one.now older }
 {
-    let mut rest = logged;
-    let mut last = None;
-    while let Some((one, behind)) = rest.split_first() {
-        if one.effect.number > number {
-            return next_misfit(number, one);
-        }
-        last = old_misfit(number, one);
-        rest = behind;
+    if number > root {
+        return older;
     }
-    last
+    if one.effect.number > root {
+        return next_misfit(root, one);
+    }
+    old_misfit(root, one)
 }
 
 // Puts the objects of a record into the image, where it is that of a commit after this one.
@@ -74,27 +86,37 @@ fn add_record<L: Ledger>(
     Ok(())
 }
 
-/// The image of a root with the objects of the records behind it, one record after the other, and
-/// the number of the last commit.
-pub(crate) fn with_records<L: Ledger>(
-    alloc: Global,
-    image: Image,
-    root: u64,
-    logged: Vec<Logged>,
-    steps: &mut Steps<L>,
-) -> Result<FoundImage, AllocError>
-    requires { AreRead logged.items }
-    ensures image { IfOk result (λ found.
-        found.image ≡ with_records image (records_after root logged.items)) }
-    ensures number { IfOk result (λ found.
-        found.number ≡ last_number root (records_after root logged.items)) }
+/// The image of a root of this number, before the first record.
+pub(crate) fn start_restoring<L: Ledger>(image: Image, root: u64, steps: Steps<L>) -> Restoring<L>
+    ensures root { result.root ≡ root }
+    ensures image { result.restored.found.image ≡ image }
+    ensures number { result.restored.found.number ≡ root }
+    ensures misfit { result.restored.misfit ≡ None }
 {
-    let mut found = FoundImage {
-        image,
-        number: root,
-    };
-    for one in logged {
-        add_record(alloc, root, one, &mut found, steps)?;
+    let number = root;
+    let found = FoundImage { image, number };
+    let misfit = None;
+    let restored = Restored { found, misfit };
+    Restoring {
+        root,
+        restored,
+        steps,
     }
-    Ok(found)
+}
+
+impl<L: Ledger> Replay for Restoring<L> {
+    ghost use Rattle.std.specs.Prelude.{◌≡◌};
+    ghost use Rattle.stone_store.specs.Records.{with_record};
+
+    ghost takes = { λ old one new. (new.root ≡ old.root)
+        × (new.restored ≡ with_record old.root one old.restored) };
+
+    fn take(&mut self, alloc: Global, one: Logged) -> Result<(), AllocError> {
+        let number = self.restored.found.number;
+        let misfit = misfit_with(self.root, number, &one, self.restored.misfit);
+        self.restored.misfit = misfit;
+        let found = &mut self.restored.found;
+        add_record(alloc, self.root, one, found, &mut self.steps)?;
+        Ok(())
+    }
 }

@@ -377,7 +377,7 @@ fn is_opened_small(alloc: Global, log: Vec<u8>, calls: u64, pick: Pick) -> Resul
     let images = disk.crash(pick)?;
     let is_closed = images.log.starts_with(b"\0") && images.log.len() == 1;
     let is_small = open_bytes(alloc, images.log) == Opened::Records(0);
-    Ok(is_small && is_open == (calls >= 5) && (is_closed || !is_open))
+    Ok(is_small && is_open == (calls >= 4) && (is_closed || !is_open))
 }
 
 // The same of the three that tell most: no byte, a closed gate and an open one.
@@ -390,7 +390,7 @@ fn are_opened_small(alloc: Global, calls: u64, pick: Pick) -> Result<bool, Fail>
 
 #[test]
 fn small_logs(rt: HostRuntime) -> Result<(), Fail> {
-    for calls in 0..=5 {
+    for calls in 0..=4 {
         assert!(rt; are_opened_small(rt.alloc(), calls, Pick::Old)?, "{calls}");
         assert!(rt; are_opened_small(rt.alloc(), calls, Pick::New)?, "{calls}");
         assert!(rt;
@@ -483,6 +483,21 @@ fn is_filled(alloc: Global) -> Result<bool, Fail> {
 #[test]
 fn filled_log(rt: HostRuntime) -> Result<(), Fail> {
     assert!(rt; is_filled(rt.alloc())?);
+    Ok(())
+}
+
+// Whether a log of two pieces is opened by so many calls of the disk.
+fn is_opened_by(alloc: Global, calls: u64) -> Result<bool, Fail> {
+    let mut disk = Untold::new(log_bytes(alloc, 2_000)?, Vec::new(alloc));
+    disk.stop_after(calls);
+    Ok(open_disk(alloc, &mut disk) == Opened::Records(2_000))
+}
+
+// The calls are a sync, one that asks for the length, and one for each piece.
+#[test]
+fn read_in_pieces(rt: HostRuntime) -> Result<(), Fail> {
+    assert!(rt; !is_opened_by(rt.alloc(), 3)?);
+    assert!(rt; is_opened_by(rt.alloc(), 4)?);
     Ok(())
 }
 

@@ -1,6 +1,8 @@
 pub mod Walks
 pub mod Again
 pub mod Through
+pub mod Fronts
+pub mod Replays
 pub mod Opening
 pub mod Appending
 pub mod Restarting

@@ -1,5 +1,5 @@
 -- What a crash leaves while a log is opened.
-use Rattle.std.proofs.Common.{◌≡◌, ℕ, ◌≤◌, List, [], ◌∷◌, length, drop, Ok, Err, Result, sym, ap, subst, ◌∙◌, inl, inr, refl, arith}
+use Rattle.std.proofs.Common.{◌≡◌, ℕ, ◌<◌, ◌≤◌, Bool, IsTrue, List, [], ◌∷◌, length, drop, None, Ok, Err, Result, sym, ap, subst, ◌∙◌, inl, inr, refl, arith}
 use Rattle.gem_disk.specs.declared.disk.Which.TheVariants.{Log}
 use Rattle.gem_disk.specs.Disk.{Files, Synced, Past, reads, as_read, stepped, CrashImages, Torn}
 use Rattle.gem_disk.specs.Runs.{LeavesOnly}
@@ -8,10 +8,10 @@ use Rattle.gem_disk.proofs.Leaves.{reads_on}
 use Rattle.tran_log.specs.declared.fault.LogFault.{LogFault}
 use Rattle.tran_log.specs.declared.fault.LogFault.TheVariants.{Disk}
 use Rattle.tran_log.specs.declared.logged.Logged.{Logged}
-use Rattle.tran_log.specs.Log.{log_of}
-use Rattle.tran_log.specs.Reads.{EndsAt}
-use Rattle.tran_log.specs.Resting.{StaysHonest, IsDurable, IsAtRest, Holds, IsOldOrRead, AllHold, IsTornAt, IsWritten}
-use Rattle.tran_log.proofs.Again.{small_log}
+use Rattle.tran_log.specs.Log.{walk, log_of}
+use Rattle.tran_log.specs.Reads.{LogFails, EndsAt, IsReplayed}
+use Rattle.tran_log.specs.Resting.{StaysHonest, IsDurable, IsAtRest, Holds, IsOldOrRead, AllHold, HasReplayed, IsTornAt, IsWritten}
+use Rattle.tran_log.proofs.Again.{log_is, log_long, small_log}
 
 abbrev failed : {X : Type 0} → LogFault → Result X LogFault
 failed fault = Err fault
@@ -75,6 +75,45 @@ module _ (past : Past) (logged : List Logged) (read : log_of (reads past Log) �
 
   pub all_held : (new : Past) → LeavesOnly past new (IsOldOrRead past) → LeavesOnly past new (Holds past logged)
   all_held new run = leaves_less past new (IsOldOrRead past) (Holds past logged) old_or_read run
+
+-- ---- what was taken of it
+
+log_ends : (bytes : List ℕ) (logged : List Logged) (end : ℕ) → EndsAt bytes logged end → log_of bytes ≡ Ok logged
+log_ends bytes logged end ends = ap log_of ends.file
+    ∙ log_is ends.chained ends.gate ends.behind ends.records ends.closed
+    ∙ ap (λ (l : List Logged). Ok l) (sym ends.logged_is)
+
+module _ {T : Type 0} (takes : T → Logged → T → Type 0) (first : T) (tells : Bool) (old : Past) where
+  -- a log of more than one byte
+  pub long_replayed : (now : T) (file : List ℕ) (new : Past) (end : ℕ) → (IsTrue tells → file ≡ reads old Log)
+      → (IsTrue tells → new ≡ synced old) → IsReplayed takes first now tells file end
+      → HasReplayed takes first now tells (reads old Log) new end
+  long_replayed now file new end file_is new_is is =
+      let ends : IsTrue tells → EndsAt (reads old Log) is.logged end =
+      λ tell. subst (λ (l : List ℕ). EndsAt l is.logged end) (file_is tell) (is.ends tell) in
+      record {
+        logged = is.logged;
+        read = is.read;
+        taken = is.taken;
+        holds = λ tell. log_ends (reads old Log) is.logged end (ends tell);
+        at_rest = λ tell. subst (λ (p : Past). IsAtRest p is.logged end) (sym (new_is tell)) (rests old is.logged end (ends tell));
+      }
+
+  -- one of one byte at most
+  pub short_replayed : (mid new : Past) → (IsTrue tells → length (reads old Log) ≤ 1)
+      → (IsTrue tells → IsWritten 0 (0 ∷ []) mid new) → HasReplayed takes first first tells (reads old Log) new 0
+  short_replayed mid new small written = record {
+    logged = [];
+    read = record { records = []; follow = tt; logged_is = refl };
+    taken = refl;
+    holds = λ tell. small_log (reads old Log) (small tell);
+    at_rest = λ tell. rests_empty mid new [] 0 refl refl (written tell);
+  }
+
+pub long_broken : (old : Past) (file : List ℕ) (fault : LogFault) → file ≡ reads old Log → 1 < length file
+    → LogFails (walk 0 0 None file) fault → LogFails (log_of (reads old Log)) fault
+long_broken old file fault same long fails = subst (λ (l : List ℕ). LogFails (log_of l) fault) same
+    (subst (λ r. LogFails r fault) (sym (log_long file long)) fails)
 
 -- what the log reads as in the end
 module _ (past new : Past) where

@@ -1,5 +1,5 @@
 -- How a chain of records is walked over.
-use Rattle.std.proofs.Common.{◌≡◌, ◌≢◌, ℕ, suc, ◌+◌, ◌-◌, ◌%◌, ◌^◌, ◌<◌, ◌≤◌, Bool, true, false, cond, eqb, ltb, leb, IsTrue, List, [], ◌∷◌, ◌++◌, length, take, drop, Option, Some, None, option_map, Result, Ok, Err, refl, sym, ap, ap₂, subst, ◌∙◌, append_assoc, append-nil, arith}
+use Rattle.std.proofs.Common.{◌≡◌, ℕ, suc, ◌+◌, ◌%◌, ◌^◌, ◌<◌, ◌≤◌, Bool, true, false, cond, eqb, ltb, leb, IsTrue, List, [], ◌∷◌, ◌++◌, length, take, drop, Option, Some, None, option_map, Result, Ok, Err, refl, sym, ap, ap₂, subst, ◌∙◌, append_assoc, append-nil, arith}
 use Rattle.std.specs.Int.{w32, w64}
 use Rattle.std.proofs.lemmas.Bool.{ltb-false, le-ltb, eqb-true, leb-true, leb-false}
 use Rattle.std.proofs.lemmas.List.{drop-drop, take-append-drop, length-append, length-take, length-drop}
@@ -10,16 +10,13 @@ use Rattle.body_codec.specs.Stored.{IsStoredEffect}
 use Rattle.body_codec.specs.Spelled.{four_bytes, eight_bytes}
 use Rattle.body_codec.specs.Reading.{number_at}
 use Rattle.body_codec.specs.Whole.{whole_effect}
-use Rattle.body_codec.proofs.Takes.{IsBytes, bytes_take, bytes_drop, four_reads, eight_reads}
+use Rattle.body_codec.proofs.Takes.{IsBytes, bytes_take, four_reads, eight_reads}
 use Rattle.body_codec.proofs.Lengths.{four_long, eight_long}
 use Rattle.body_codec.proofs.Whole.{whole_is}
 use Rattle.tran_log.specs.declared.fault.LogRule.{LogRule}
 use Rattle.tran_log.specs.declared.fault.LogRule.TheVariants as rule
-use Rattle.tran_log.specs.declared.fault.LogFault.{LogFault}
-use Rattle.tran_log.specs.declared.fault.LogFault.TheVariants.{NotLog, Disk, NoMemory}
 use Rattle.tran_log.specs.declared.logged.Logged.{Logged}
-use Rattle.tran_log.specs.Reads.{NextFails, IsLogged, LogFails, EndsAt}
-use Rattle.tran_log.specs.Log.{LogRecord, Format1, Format2, effect_of, mode_of, mode_byte, content, length_word, spelled, chain, follows, IsNext, AreRecords, logged_as, logged_from, last_number, word_in, number_in, is_format_2, length_in, behind, byte_mode, parts_of, whole, whole_parts, record_at, Fault, before, joined, walk}
+use Rattle.tran_log.specs.Log.{LogRecord, Format1, Format2, effect_of, mode_of, mode_byte, content, length_word, spelled, chain, follows, IsNext, AreRecords, logged_as, logged_from, last_number, word_in, number_in, is_format_2, length_in, behind, byte_mode, parts_of, whole, whole_parts, record_at, Fault, before, walk}
 
 -- ---- skipping
 
@@ -128,10 +125,7 @@ pub record IsRecord (last : Option ℕ) (bytes : List ℕ) (read : Mode × Effec
   pub effect_is : effect_of one ≡ read.1
   pub parts : bytes ≡ spelled one ++ behind bytes
   pub next : IsNext last one
-  pub number : number_in bytes ≡ (effect_of one).number
   pub long : 12 + length_in bytes ≡ length (spelled one)
-  pub inside : 12 + length_in bytes ≤ length bytes
-  pub fits : IsBytes (behind bytes)
 
 pub number_here : (bytes : List ℕ) → 12 ≤ length bytes → number_at w32 bytes ≡ Ok (word_in bytes, drop 4 bytes)
 number_here bytes long = rw (le-ltb (length bytes) 4 (omega (arith, long))) refl
@@ -194,25 +188,22 @@ record_is last bytes read fits e =
         short = omega (arith, long);
         number = subst (λ (n : ℕ). IsTrue (follows last n)) (sym same) f.0;
       };
-      number = sym same;
       long = omega (arith, long, record_long is.one);
-      inside = inside;
-      fits = bytes_drop size body body_fits;
     }
 
 -- ---- lists of records, one behind the other
 
-pub with_front : List Logged → Result (List Logged) Fault → Result (List Logged) Fault
+unfoldable pub with_front : List Logged → Result (List Logged) Fault → Result (List Logged) Fault
 with_front logged (Ok more) = Ok (logged ++ more)
 with_front logged (Err fault) = Err fault
 
-front_more : (logged : List Logged) (one : Logged) (more : Result (List Logged) Fault)
+pub front_more : (logged : List Logged) (one : Logged) (more : Result (List Logged) Fault)
     → with_front logged (before one more) ≡ with_front (logged ++ one ∷ []) more
 unfolding with_front
 front_more logged one (Ok more) = ap (λ (l : List Logged). Ok l) (sym (append_assoc logged (one ∷ []) more))
 front_more logged one (Err fault) = refl
 
-front_nil : (more : Result (List Logged) Fault) → with_front [] more ≡ more
+pub front_nil : (more : Result (List Logged) Fault) → with_front [] more ≡ more
 unfolding with_front
 front_nil (Ok more) = refl
 front_nil (Err fault) = refl
@@ -254,131 +245,3 @@ pub last_more : (last : Option ℕ) (logged : List Logged) (one : Logged)
     → last_number last (logged ++ one ∷ []) ≡ Some one.effect.number
 last_more last [] one = refl
 last_more last (first ∷ logged) one = last_more (Some first.effect.number) logged one
-
-same_logged : (one : Logged) (at : ℕ) (mode : Mode) (effect : Effect) → at ≡ one.at → mode ≡ one.mode → effect ≡ one.effect
-    → logged_as at mode effect ≡ one
-same_logged one at mode effect at_is mode_is effect_is =
-    ap (λ (n : ℕ). logged_as n mode effect) at_is
-    ∙ ap (λ (m : Mode). logged_as one.at m effect) mode_is
-    ∙ ap (λ (e : Effect). logged_as one.at one.mode e) effect_is
-
--- ---- a chain that was read
-
--- These records were read from the front of the bytes; the rest is still to be read, behind a record
--- of this number.
-pub record Told (bytes : List ℕ) (logged : List Logged) (last : Option ℕ) (rest : List ℕ) : Type 0 where
-  pub chained : List LogRecord
-  pub logged_is : logged ≡ logged_from 0 chained
-  pub whole : walk 0 0 None bytes ≡ with_front logged (walk 0 (length (chain chained)) last rest)
-  pub parts : bytes ≡ chain chained ++ rest
-  pub records : AreRecords None chained
-  pub last_is : last ≡ last_number None logged
-  pub fits : IsBytes rest
-
-pub told_first : (bytes : List ℕ) → IsBytes bytes → Told bytes [] None bytes
-told_first bytes fits = record {
-  chained = [];
-  logged_is = refl;
-  whole = sym (front_nil (walk 0 0 None bytes));
-  parts = refl;
-  records = tt;
-  last_is = refl;
-  fits = fits;
-}
-
-module _ (bytes : List ℕ) (logged : List Logged) (last : Option ℕ) where
-  pub place_of : (rest : List ℕ) → (told : Told bytes logged last rest) → length bytes ≡ length (chain told.chained) + length rest
-  place_of rest told = ap length told.parts ∙ length-append (chain told.chained) rest
-
-  pub told_more : (more : List ℕ) (one : Logged) → Told bytes logged last (1 ∷ more)
-      → IsLogged (length bytes - length (1 ∷ more)) (record_at last more) one
-      → Told bytes (logged ++ one ∷ []) (Some one.effect.number) (behind more)
-  told_more more one told read =
-      let is = record_is last more (one.mode, one.effect) (λ i. told.fits (suc i)) read.read_is in
-      let at = length (chain told.chained) in
-      let here : at ≡ one.at = omega (arith, place_of (1 ∷ more) told, read.at_is) in
-      let number : number_in more ≡ one.effect.number = is.number ∙ ap (λ (e : Effect). e.number) is.effect_is in
-      let skips : walk (12 + length_in more) (at + 1) (Some (number_in more)) more
-      ≡ walk 0 ((at + 1) + length (spelled is.one)) (Some one.effect.number) (behind more) =
-      ap₂ (λ (n : ℕ) (o : ℕ). walk n (at + 1) (Some o) more) is.long number
-      ∙ ap (walk (length (spelled is.one)) (at + 1) (Some one.effect.number)) is.parts
-      ∙ walk_skips (spelled is.one) (behind more) (at + 1) (Some one.effect.number) in
-      let chained = told.chained ++ is.one ∷ [] in
-      let place : (at + 1) + length (spelled is.one) ≡ length (chain chained) =
-      omega (arith, ap length (chain_more told.chained is.one), length-append (chain told.chained) (1 ∷ spelled is.one)) in
-      let first : walk 0 at last (1 ∷ more)
-      ≡ before one (walk 0 (length (chain chained)) (Some one.effect.number) (behind more)) =
-      ap (λ r. joined at r (walk (12 + length_in more) (at + 1) (Some (number_in more)) more)) read.read_is
-      ∙ ap₂ before (same_logged one at one.mode one.effect here refl refl)
-      (skips ∙ ap (λ (n : ℕ). walk 0 n (Some one.effect.number) (behind more)) place) in
-      let last_before : last ≡ last_number None (logged_from 0 told.chained) = told.last_is ∙ ap (last_number None) told.logged_is in
-      record {
-        chained = chained;
-        logged_is = ap₂ (λ (xs : List Logged) (x : Logged). xs ++ x ∷ []) told.logged_is
-            (sym (same_logged one at (mode_of is.one) (effect_of is.one) here is.mode_is is.effect_is))
-            ∙ sym (logged_first told.chained (is.one ∷ []));
-        whole = told.whole ∙ ap (with_front logged) first ∙ front_more logged one _;
-        parts = told.parts ∙ ap (λ (l : List ℕ). chain told.chained ++ (1 ∷ l)) is.parts
-            ∙ sym (append_assoc (chain told.chained) (1 ∷ spelled is.one) (behind more))
-            ∙ ap (λ (l : List ℕ). l ++ behind more) (sym (chain_more told.chained is.one));
-        records = records_joined None 0 told.chained (is.one ∷ []) told.records
-            (subst (λ o. IsNext o is.one) last_before is.next, tt);
-        last_is = sym (last_more None logged one);
-        fits = is.fits;
-      }
-
-  -- the three ends
-  pub told_closed : (gate : ℕ) (more : List ℕ) → Told bytes logged last (gate ∷ more) → eqb gate 1 ≡ false
-      → walk 0 0 None bytes ≡ Ok logged
-  unfolding with_front
-  told_closed gate more told closed = told.whole
-      ∙ ap (λ b. with_front logged (cond b (joined (length (chain told.chained)) (record_at last more)
-      (walk (12 + length_in more) (length (chain told.chained) + 1) (Some (number_in more)) more)) (Ok []))) closed
-      ∙ ap (λ (l : List Logged). Ok l) (append-nil logged)
-
-  pub told_broken : (more : List ℕ) (broken : LogRule) → (told : Told bytes logged last (1 ∷ more))
-      → record_at last more ≡ Err broken → walk 0 0 None bytes ≡ Err (length (chain told.chained), broken)
-  unfolding with_front
-  told_broken more broken told read = told.whole
-      ∙ ap (λ r. with_front logged (joined (length (chain told.chained)) r
-      (walk (12 + length_in more) (length (chain told.chained) + 1) (Some (number_in more)) more))) read
-
-  pub told_missing : (told : Told bytes logged last []) → walk 0 0 None bytes ≡ Err (length (chain told.chained), rule.Gate)
-  unfolding with_front
-  told_missing told = told.whole
-
--- what the ends of the loop know of the bytes
-pub ends_here : (bytes : List ℕ) (logged : List Logged) (last : Option ℕ) (gate : ℕ) (more : List ℕ)
-    → Told bytes logged last (gate ∷ more) → gate ≢ 1 → EndsAt bytes logged (length bytes - length (gate ∷ more))
-ends_here bytes logged last gate more told closed = record {
-  chained = told.chained;
-  gate = gate;
-  behind = more;
-  file = told.parts;
-  closed = closed;
-  records = told.records;
-  logged_is = told.logged_is;
-  end_is = omega (arith, place_of bytes logged last (gate ∷ more) told);
-}
-
--- where the next record fails
-pub next_failed : (bytes : List ℕ) (logged : List Logged) (last : Option ℕ) (more : List ℕ)
-    → Told bytes logged last (1 ∷ more) → (fault : LogFault)
-    → NextFails (length bytes - length (1 ∷ more)) (record_at last more) fault
-    → LogFails (walk 0 0 None bytes) fault
-next_failed bytes logged last more told (NotLog place broken) gives =
-    let at : length (chain told.chained) ≡ place = omega (arith, place_of bytes logged last (1 ∷ more) told, gives.0) in
-    told_broken bytes logged last more broken told gives.1 ∙ ap (λ (n : ℕ). Err (n, broken)) at
-next_failed bytes logged last more told Disk gives = tt
-next_failed bytes logged last more told NoMemory gives = tt
-
-nothing_left : (l : List ℕ) → length l ≡ 0 → l ≡ []
-nothing_left [] none = refl
-nothing_left (x ∷ l) none = absurd (omega (arith, none))
-
-pub missing_here : (bytes : List ℕ) (logged : List Logged) (last : Option ℕ) (rest : List ℕ) → length rest ≡ 0
-    → Told bytes logged last rest → walk 0 0 None bytes ≡ Err (length bytes, rule.Gate)
-missing_here bytes logged last rest none left =
-    let told = subst (λ (l : List ℕ). Told bytes logged last l) (nothing_left rest none) left in
-    let at : length (chain told.chained) ≡ length bytes = omega (arith, place_of bytes logged last [] told) in
-    told_missing bytes logged last told ∙ ap (λ (n : ℕ). Err (n, rule.Gate)) at

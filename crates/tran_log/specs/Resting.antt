@@ -1,12 +1,12 @@
 -- How a log stands on its disk between calls, and what a crash leaves of it.
-use Rattle.std.specs.Prelude.{◌≡◌, ◌⊎◌, ℕ, List, [], ◌∷◌, ◌++◌, Ok, None}
+use Rattle.std.specs.Prelude.{◌≡◌, ◌⊎◌, ℕ, Bool, IsTrue, List, [], ◌∷◌, ◌++◌, Ok, None}
 use Rattle.gem_record.specs.declared.mode.Mode.{Mode}
 use Rattle.gem_record.specs.declared.effect.Effect.{Effect}
 use Rattle.gem_disk.specs.declared.disk.Which.TheVariants.{Extent, Log}
 use Rattle.gem_disk.specs.Disk.{Files, Past, reads, as_read, FileImages, CrashImages, Torn, placed}
 use Rattle.tran_log.specs.declared.logged.Logged.{Logged}
 use Rattle.tran_log.specs.Log.{Format2, log_of, spelled_record, IsNext, AreRecords, logged_from, last_number, written, AreBodies}
-use Rattle.tran_log.specs.Reads.{EndsAt}
+use Rattle.tran_log.specs.Reads.{EndsAt, AreRead, TakesAll}
 
 -- all of the log is on the disk: a crash leaves what a read gives
 abbrev pub IsDurable : Past → Type 0
@@ -43,6 +43,16 @@ IsOldOrRead past images = CrashImages past images ⊎ HoldsAsRead past images
 -- at this moment a crash leaves these records in the log
 abbrev pub AllHold : Past → List Logged → Type 0
 AllHold past logged = (images : Files) → CrashImages past images → log_of images.log ≡ Ok logged
+
+-- A log was opened: its records were taken one after the other. Where the disk tells what it reads
+-- as, they are those of the file, and the log is at rest.
+pub record HasReplayed {T : Type 0} (takes : T → Logged → T → Type 0) (old new : T) (tells : Bool)
+    (file : List ℕ) (past : Past) (end : ℕ) : Type 0 where
+  pub logged : List Logged
+  pub read : AreRead logged
+  pub taken : TakesAll takes old logged new
+  pub holds : IsTrue tells → log_of file ≡ Ok logged
+  pub at_rest : IsTrue tells → IsAtRest past logged end
 
 -- What a write of so many bytes into a log that was all on the disk may leave, and of the extent
 -- what a crash might have left before.

@@ -7,10 +7,13 @@ mod fault;
 pub mod laws;
 mod log;
 mod logged;
+mod piece;
 mod read;
+mod replay;
 mod writing;
 
 pub use body::{add_body, spell_body};
 pub use fault::{LogFault, LogRule};
-pub use log::{AppendFault, LOG_LIMIT, Log, open_log};
+pub use log::{AppendFault, LOG_LIMIT, Log, open_log, replay_log};
 pub use logged::Logged;
+pub use replay::Replay;

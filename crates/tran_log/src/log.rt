@@ -1,20 +1,19 @@
 //! A log on a disk, and how it is opened.
-ghost use Rattle.std.specs.Prelude.{◌≡◌, ◌↔◌, ◌⊎◌, ◌+◌, ◌<◌, ◌≤◌, ℕ, List, [], ◌∷◌, ◌++◌, length, Ok, Err, IsTrue, IfOk, OnOk, OnErr, IsErrOf};
+ghost use Rattle.std.specs.Prelude.{◌≡◌, ◌↔◌, ◌⊎◌, ◌+◌, ◌<◌, ◌≤◌, ℕ, List, [], ◌∷◌, ◌++◌, length, Ok, Err, IsTrue, IfOk, IfErr, OnOk, OnErr, IsErrOf};
 ghost use Rattle.gem_io.specs.Faults.{HasRisen, HasCause};
 ghost use Rattle.gem_record.specs.declared.mode.Mode.{Mode};
 ghost use Rattle.gem_record.specs.declared.effect.Effect.{Effect};
 ghost use Rattle.gem_disk.specs.declared.disk.Which.TheVariants as which;
 ghost use Rattle.gem_disk.specs.Disk.{reads};
 ghost use Rattle.gem_disk.specs.Runs.{LeavesOnly};
-ghost use Rattle.tran_log.specs.declared.fault.LogRule.{LogRule};
 ghost use Rattle.tran_log.specs.declared.logged.Logged.{Logged};
 ghost use Rattle.tran_log.specs.Log.{log_of, logged_as};
-ghost use Rattle.tran_log.specs.Reads.{GivesLog, AreRead};
-ghost use Rattle.tran_log.specs.Resting.{SameExtent, StaysHonest, IsAtRest, Holds, IsOldOrRead, AllHold, MayAppend, MayChain, added, HoldsEither, ReadsEither, HoldsOrNone, ReadsOrNone};
+ghost use Rattle.tran_log.specs.Reads.{GivesLog, LogFails, AreRead};
+ghost use Rattle.tran_log.specs.Resting.{SameExtent, StaysHonest, IsAtRest, Holds, IsOldOrRead, AllHold, HasReplayed, MayAppend, MayChain, added, HoldsEither, ReadsEither, HoldsOrNone, ReadsOrNone};
 
 use crate::fault::LogFault;
 use crate::logged::Logged;
-use crate::read::read_log;
+use crate::replay::{Replay, replay_chain};
 use crate::writing::write_through;
 use gem_disk::{Disk, Which};
 use gem_io::Failed;
@@ -41,36 +40,61 @@ impl Model for Log {
     ghost invariant = { λ log. log.end + 1 < 2 ^ 64 };
 }
 
-// All bytes of the log.
-fn read_all<D: Disk>(alloc: Global, disk: &mut D) -> Result<Vec<u8>, LogFault>
-    ensures bytes { IsTrue D.tells → IfOk result (λ bytes.
-        bytes.items ≡ reads (D.past disk.old) which.Log) }
-    ensures past { IsTrue D.tells → D.past disk.new ≡ D.past disk.old }
-    ensures rule { (at : ℕ) (rule : LogRule) → result ≡ Err (LogFault.NotLog at rule) → ⊥ }
-    ensures failed { IsErrOf result LogFault.Disk → HasRisen (D.faults disk.old) (D.faults disk.new) }
-    ensures quiet { OnOk result (D.faults disk.new ≡ D.faults disk.old) }
-    ensures later { D.faults disk.old ≤ D.faults disk.new }
-{
-    let size = disk.length(Which::Log)?;
-    let mut bytes = vec![in alloc; 0; size as usize]?;
-    disk.read(Which::Log, 0, &mut bytes)?;
-    Ok(bytes)
-}
-
 // A gate that is closed, and one that is open.
 const CLOSED: &[u8] = &[0];
 
 const OPEN: &[u8] = &[1];
 
-/// Opens the log of a disk: gives its records, in their order, of either format. It begins with a
-/// sync, and brings a log of one byte at most to the state of one without records. A longer log
-/// reads as before, whatever the answer is.
+/// Opens the log of a disk: hands on its records, of either format, one after the other, and holds
+/// no more than one of them, and the piece of the log in which it stands. It begins with a sync, and
+/// brings a log of one byte at most to the state of one without records. A longer log is read once,
+/// in pieces, and reads as before, whatever the answer is.
 ///
 /// A crash meanwhile leaves what it might have left before, or a log that holds what this one read
 /// as.
 ///
 /// `NotLog`: the bytes are no log; the place and the rule are those of its first fault. `Disk`: the
-/// count of faults rose in this call. `NoMemory` may come in place of any answer.
+/// count of faults rose in this call. `NoMemory` may come in place of any answer. What was handed on
+/// before a fault isn't told.
+pub fn replay_log<D: Disk, R: Replay>(
+    alloc: Global,
+    disk: &mut D,
+    replay: &mut R,
+) -> Result<Log, LogFault>
+    ensures replayed { IfOk result (HasReplayed R.takes replay.old replay.new D.tells
+        (reads (D.past disk.old) which.Log) (D.past disk.new)) }
+    ensures broken { IsTrue D.tells → IfErr result
+        (LogFails (log_of (reads (D.past disk.old) which.Log))) }
+    ensures any_moment { (logged : List Logged) → IsTrue D.tells
+        → log_of (reads (D.past disk.old) which.Log) ≡ Ok logged
+        → AllHold (D.past disk.old) logged
+        → LeavesOnly (D.past disk.old) (D.past disk.new) (Holds (D.past disk.old) logged) }
+    ensures each_image { IsTrue D.tells → LeavesOnly (D.past disk.old) (D.past disk.new)
+        (IsOldOrRead (D.past disk.old)) }
+    ensures kept { IsTrue D.tells → 1 < length (reads (D.past disk.old) which.Log)
+        → reads (D.past disk.new) which.Log ≡ reads (D.past disk.old) which.Log }
+    ensures short { IsTrue D.tells → length (reads (D.past disk.old) which.Log) ≤ 1
+        → length (reads (D.past disk.new) which.Log) ≤ 1 }
+    ensures closed { IsTrue D.tells → length (reads (D.past disk.old) which.Log) ≤ 1
+        → OnOk result (reads (D.past disk.new) which.Log ≡ 0 ∷ []) }
+    ensures extent { IsTrue D.tells → SameExtent (D.past disk.old) (D.past disk.new) }
+    ensures honest { IsTrue D.tells → StaysHonest (D.past disk.old) (D.past disk.new) }
+    ensures failed { IsErrOf result LogFault.Disk
+        → HasRisen (D.faults disk.old) (D.faults disk.new) }
+    ensures quiet { OnOk result (D.faults disk.new ≡ D.faults disk.old) }
+    ensures later { D.faults disk.old ≤ D.faults disk.new }
+{
+    disk.sync(Which::Log)?;
+    let size = disk.length(Which::Log)?;
+    if size > 1 {
+        let end = replay_chain(alloc, disk, size, replay)?;
+        return Ok(Log { end: end as usize });
+    }
+    write_through(disk, 0, CLOSED)?;
+    Ok(Log { end: 0 })
+}
+
+/// Opens the log of a disk as `replay_log` does, and gives all its records at once, in their order.
 pub fn open_log<D: Disk>(alloc: Global, disk: &mut D) -> Result<(Log, Vec<Logged>), LogFault>
     ensures records { IsTrue D.tells → GivesLog (λ x. x.1.items)
         (log_of (reads (D.past disk.old) which.Log)) result }
@@ -96,14 +120,9 @@ pub fn open_log<D: Disk>(alloc: Global, disk: &mut D) -> Result<(Log, Vec<Logged
     ensures quiet { OnOk result (D.faults disk.new ≡ D.faults disk.old) }
     ensures later { D.faults disk.old ≤ D.faults disk.new }
 {
-    disk.sync(Which::Log)?;
-    let bytes = read_all(alloc, disk)?;
-    let (logged, end) = read_log(alloc, &bytes)?;
-    if bytes.len() > 1 {
-        return Ok((Log { end }, logged));
-    }
-    write_through(disk, 0, CLOSED)?;
-    Ok((Log { end }, logged))
+    let mut logged = Vec::new(alloc);
+    let log = replay_log(alloc, disk, &mut logged)?;
+    Ok((log, logged))
 }
 
 /// The greatest length of a log: that of its records and of the gate behind them.

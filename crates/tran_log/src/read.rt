@@ -1,10 +1,10 @@
-//! The records of a log's bytes.
-ghost use Rattle.std.specs.Prelude.{◌≡◌, ◌≢◌, ◌<◌, ◌≤◌, ◌+◌, ℕ, List, [], length, take, drop, Result, Ok, Err, Some, None, IfOk, IfErr};
+//! A record of a log, from its bytes.
+ghost use Rattle.std.specs.Prelude.{◌≡◌, ◌≤◌, length, Some, None, IfOk, IfErr};
 ghost use Rattle.gem_record.specs.declared.effect.Effect.{Effect};
 ghost use Rattle.body_codec.specs.Whole.{whole_effect};
 ghost use Rattle.tran_log.specs.declared.fault.LogRule.{LogRule};
-ghost use Rattle.tran_log.specs.Log.{follows, word_in, number_in, behind, byte_mode, parts_of, whole, whole_parts, record_at, walk, log_of};
-ghost use Rattle.tran_log.specs.Reads.{GivesRecord, GivesNext, GivesLog, EndsAt, AreRead};
+ghost use Rattle.tran_log.specs.Log.{follows, word_in, number_in, length_in, byte_mode, parts_of, whole, whole_parts, record_at};
+ghost use Rattle.tran_log.specs.Reads.{GivesRecord, NextFails, bytes_due, IsFront};
 
 use crate::body::FORMAT_2;
 use crate::fault::{LogFault, LogRule, ReadError};
@@ -108,89 +108,78 @@ fn read_content(
 }
 
 // The mode and the effect of the record that begins the bytes, behind a record of this number, and
-// what stands behind it.
+// how long is what stands behind its number.
 #[tactic(auto, unfolding(crate::specs::Log::record_at))]
 fn read_record(
     alloc: Global,
     last: Option<u64>,
     bytes: &[u8],
-) -> Result<((Mode, Effect), &[u8]), ReadError>
+) -> Result<((Mode, Effect), u32), ReadError>
     ensures gives { GivesRecord (λ x. x.0) result (record_at last bytes.now) }
-    ensures behind { IfOk result (λ x. x.1.now ≡ behind bytes.now) }
+    ensures size { IfOk result (λ x. x.1 ≡ length_in bytes.now) }
 {
     if bytes.len() < 12 {
         return Err(ReadError::Rule(LogRule::Length));
     }
     let word = word_in(bytes);
-    let size = (word % FORMAT_2) as usize;
+    let size = word % FORMAT_2;
     let (_, body) = bytes.split_at(12);
-    if body.len() < size {
+    if body.len() < size as usize {
         return Err(ReadError::Rule(LogRule::Length));
     }
     let number = number_in(bytes);
     if !follows(last, number) {
         return Err(ReadError::Rule(LogRule::Number));
     }
-    let (content, behind) = body.split_at(size);
+    let (content, _) = body.split_at(size as usize);
     Ok((
         read_content(alloc, number, word >= FORMAT_2, content)?,
-        behind,
+        size,
     ))
 }
 
-// The same as a record with its gate at this offset; faults are there, too.
-fn read_next<'a>(
+// A record that was read, and how many bytes it takes with its gate.
+#[derive(Drop)]
+pub(crate) struct Next {
+    pub one: Logged,
+    pub bytes: u64,
+}
+
+// The record that begins the bytes, with its gate at this offset; faults are there, too.
+pub(crate) fn read_front(
     alloc: Global,
     at: u64,
     last: Option<u64>,
-    bytes: &'a [u8],
-) -> Result<(Logged, &'a [u8]), LogFault>
-    ensures gives { GivesNext at (record_at last bytes.now) result }
-    ensures behind { IfOk result (λ x. x.1.now ≡ behind bytes.now) }
+    bytes: &[u8],
+) -> Result<Next, LogFault>
+    ensures broken { IfErr result (NextFails at (record_at last bytes.now)) }
+    ensures record { IfOk result (IsFront at last bytes.now) }
 {
     match read_record(alloc, last, bytes) {
-        Ok(((mode, effect), behind)) => Ok((Logged { at, mode, effect }, behind)),
+        Ok(found) => {
+            let (read, size) = found;
+            let mode = read.0;
+            let effect = read.1;
+            let one = Logged { at, mode, effect };
+            let bytes = 13 + size as u64;
+            Ok(Next { one, bytes })
+        }
         Err(ReadError::NoMemory) => Err(LogFault::NoMemory),
         Err(ReadError::Rule(rule)) => Err(LogFault::NotLog { at, rule }),
     }
 }
 
-// The records of these bytes, and the offset of the gate at which they end.
-fn read_chain(alloc: Global, bytes: &[u8]) -> Result<(Vec<Logged>, usize), LogFault>
-    ensures gives { GivesLog (λ x. x.0.items) (walk 0 0 None bytes.now) result }
-    ensures no_disk { IfErr result (λ fault. fault ≢ LogFault.Disk) }
-    ensures parts { IfOk result (λ x. EndsAt bytes.now x.0.items x.1) }
+// How many bytes the record takes that these bytes begin, with its gate; 13 where they are fewer.
+// None where they don't begin with an open gate.
+pub(crate) fn bytes_due(bytes: &[u8]) -> Option<u64>
+    ensures { result ≡ bytes_due bytes.now }
 {
-    let mut logged = Vec::new(alloc);
-    let mut last = None;
-    let mut rest = bytes;
-    while let Some((gate, behind)) = rest.split_first() {
-        let at = bytes.len() - rest.len();
-        if *gate != 1 {
-            return Ok((logged, at));
-        }
-        let (one, after) = read_next(alloc, at as u64, last, behind)?;
-        last = Some(one.effect.number);
-        logged.push(one)?;
-        rest = after;
+    let (gate, front) = bytes.split_first()?;
+    if *gate != 1 {
+        return None;
     }
-    Err(LogFault::NotLog {
-        at: bytes.len() as u64,
-        rule: LogRule::Gate,
-    })
-}
-
-// What the bytes of a log hold, and the offset of the gate at which it ends, where it has more than
-// one byte.
-pub(crate) fn read_log(alloc: Global, bytes: &[u8]) -> Result<(Vec<Logged>, usize), LogFault>
-    ensures gives { GivesLog (λ x. x.0.items) (log_of bytes.now) result }
-    ensures no_disk { IfErr result (λ fault. fault ≢ LogFault.Disk) }
-    ensures empty { length bytes.now ≤ 1 → IfOk result (λ x. (x.0.items ≡ []) × (x.1 ≡ 0)) }
-    ensures parts { 1 < length bytes.now → IfOk result (λ x. EndsAt bytes.now x.0.items x.1) }
-    ensures records { IfOk result (λ x. AreRead x.0.items) }
-{
-    if bytes.len() <= 1 {
-        return Ok((Vec::new(alloc), 0));
+    if front.len() < 12 {
+        return Some(13);
     }
-    read_chain(alloc, bytes)
+    Some(13 + (word_in(front) % FORMAT_2) as u64)
 }
