@@ -9,3 +9,5 @@ pub mod Keeps
 mod Calls
 mod First
 mod StoredEffect
+pub mod Others
+pub mod Sent

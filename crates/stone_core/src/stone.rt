@@ -155,6 +155,13 @@ impl<K: Keeper + Drop> Stone<K> {
         })
     }
 
+    /// The events, in order, each with the number of the session that made it.
+    pub fn events(&self) -> &[(u32, What)]
+        ensures { result.now ≡ self.now.told.events }
+    {
+        &self.events
+    }
+
     /// The image and the number of this moment.
     ///
     /// # Errors

@@ -1,3 +1,2 @@
 mod Names
 mod Ready
-mod Sent

@@ -1,6 +1,6 @@
 use denote.Exit.{yes}
 use denote.Param.Send.{arg_send, param_send}
-use Rattle.stone_tests.proofs.Sent.{stone_send}
+use Rattle.stone_core.proofs.Sent.{stone_send}
 use Rattle.stone_tests.proofs.sent_tests.is_stone_sent.Goals as goal
 
 pub is_sent-requires-send-T : goal.is_sent-requires-send-T

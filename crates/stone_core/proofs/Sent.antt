@@ -16,7 +16,7 @@ use Rattle.stone_core.specs.contracts.stone.Stone.{the_row}
 use Rattle.stone_core.specs.contracts.stone.Stone.TheInside as inside
 
 -- an image's nodes are shared by counted pointers
-image_send : IsSend image.the_row
+pub image_send : IsSend image.the_row
 image_send = search (object.the_send, object.the_sync, crosses, knot.crosses, sendable) depth 60 fits 20000
 
 -- the fields, in their order
