@@ -23,7 +23,7 @@ use Rattle.stone_store.proofs.Opens.{same_store}
 use Rattle.gem_meaning.specs.Opened.{Opened, base_serial}
 use Rattle.gem_meaning.specs.Events.{Event, Told, entries_of, halts_in, IsRunning, after_events}
 use Rattle.gem_meaning.specs.After.{stored_after}
-use Rattle.gem_meaning.specs.Legal.{IsLegal, AreInTurn, AreTranscripts}
+use Rattle.gem_meaning.specs.Legal.{IsLegal, AreTranscripts}
 use Rattle.gem_meaning.specs.Serial.{IsConsistent, most_at_opening, serial_limit}
 use Rattle.stone_store.specs.declared.parts.FoundImage.{FoundImage}
 use Rattle.stone_core.specs.Kept.{IsKept}
@@ -39,7 +39,7 @@ use Rattle.gem_server.specs.Devices.{Seen, seen, HasFailed, IsUnused, IsWritten,
 use Rattle.gem_server.specs.Writing.{HasWritten}
 use Rattle.gem_server.specs.Server.{IsRead, IsBlank, GivesScript, GivesNone, TellsOfSource}
 use Rattle.gem_server.specs.Course.{IsHonest, Stays, IsOpenedOn, IsKeptOn}
-use Rattle.gem_server.specs.Serving.{HasNoRoom, IsWhyNot, HasNotRun, IsLegalRun, HasEnded, HasRun, ServesStore}
+use Rattle.gem_server.specs.Serving.{HasNoRoom, IsWhyNot, HasNotRun, HasEnded, HasRun, ServesStore}
 use Rattle.gem_server.specs.Starting.{IsFull, IsStarted, IsRefused, IsWhyRefused, kept_in, is_open}
 use Rattle.gem_server.specs.Finishing.{WritesSo, TellsRun, IsFinished}
 use Rattle.gem_server.proofs.ScriptRules.{IsSilent, script_read}
@@ -231,7 +231,7 @@ pub record IsToldSo (sink : Seen (Option Bytes)) (t : Told) (book : RunBook) (st
 
 module _ (sink : Seen (Option Bytes)) (t : Told) (book : RunBook) (transcripts : List Transcript) (halted : Option ℕ)
     (none : book.transcripts ≡ []) (halts : option_to_list halted ≡ halts_in t.events)
-    (legal : IsLegalRun t (record book { transcripts = transcripts })) where
+    (legal : IsLegal t (record book { transcripts = transcripts })) where
   told_so : (status : Status) (told : RunBook) → TellsRun book transcripts halted sink status told → IsToldSo sink t book status told
   told_so NoMemory told (same, unused) = record {
     first = ap (λ (b : RunBook). b.first) same;
@@ -246,7 +246,7 @@ module _ (sink : Seen (Option Bytes)) (t : Told) (book : RunBook) (transcripts :
     first = ap (λ (b : RunBook). b.first) same;
     base = ap (λ (b : RunBook). b.base) same;
     history = ap (λ (b : RunBook). b.history) same;
-    ended = (subst (IsLegalRun t) (sym same) legal, no_halt halted t.events halts none_halted, has.0);
+    ended = (subst (IsLegal t) (sym same) legal, no_halt halted t.events halts none_halted, has.0);
     silent = tt;
     sink_told = λ lt. let quiet = has.1 in absurd (omega (arith, lt, quiet));
     later = let quiet = has.1 in omega (arith, quiet);
@@ -255,7 +255,7 @@ module _ (sink : Seen (Option Bytes)) (t : Told) (book : RunBook) (transcripts :
     first = ap (λ (b : RunBook). b.first) same;
     base = ap (λ (b : RunBook). b.base) same;
     history = ap (λ (b : RunBook). b.history) same;
-    ended = (subst (IsLegalRun t) (sym same) legal, no_halt halted t.events halts none_halted, has.0, has.1);
+    ended = (subst (IsLegal t) (sym same) legal, no_halt halted t.events halts none_halted, has.0, has.1);
     silent = tt;
     sink_told = λ lt. inl refl;
     later = has.2;
@@ -264,7 +264,7 @@ module _ (sink : Seen (Option Bytes)) (t : Told) (book : RunBook) (transcripts :
     first = ap (λ (b : RunBook). b.first) same;
     base = ap (λ (b : RunBook). b.base) same;
     history = ap (λ (b : RunBook). b.history) same;
-    ended = (subst (IsLegalRun t) (sym same) legal, some_halt halted t.events halts some, cut_or_whole sink (report_of told) wrote has);
+    ended = (subst (IsLegal t) (sym same) legal, some_halt halted t.events halts some, cut_or_whole sink (report_of told) wrote has);
     silent = tt;
     sink_told = λ lt. inr refl;
     later = wrote_later sink (report_of told) wrote has;
@@ -290,19 +290,16 @@ starved_so sink t book status told is (same, unused) none = subst (λ (s : Statu
 
 pub told_of : {X E : Type 0} (items : X → List Transcript) (sink : Seen (Option Bytes)) (t : Told) (book : RunBook) (halted : Option ℕ)
     (status : Status) (told : RunBook) (x : Result X E)
-    → IfOk x (λ ts. AreTranscripts t 1 t.opened.script (items ts)) → IfOk x (λ ts. AreInTurn t 1 t.opened.script (items ts))
+    → IfOk x (λ ts. AreTranscripts t 1 t.opened.script (items ts))
     → IfOk x (λ ts. TellsRun book (items ts) halted sink status told)
     → OnErr x (TellsRun book [] None sink NoMemory told × (status ≡ NoMemory))
     → book.first ≡ t.opened.number → book.base ≡ base_serial t.opened → book.history ≡ entries_of t.events → book.transcripts ≡ []
     → option_to_list halted ≡ halts_in t.events → IsConsistent t → IsToldSo sink t book status told
-told_of items sink t book halted status told (Ok x) transcripts in_turn tells starved first base history none halts consistent =
+told_of items sink t book halted status told (Ok x) transcripts tells starved first base history none halts consistent =
     told_so sink t book (items x) halted none halts
-    (record {
-      legal = record { first = first; base = base; history = history; transcripts = transcripts; consistent = consistent };
-      in_turn = in_turn;
-    })
+    (record { first = first; base = base; history = history; transcripts = transcripts; consistent = consistent })
     status told tells
-told_of items sink t book halted status told (Err e) transcripts in_turn tells starved first base history none halts consistent =
+told_of items sink t book halted status told (Err e) transcripts tells starved first base history none halts consistent =
     starved_so sink t book status told starved.1 starved.0 none
 
 module _ {D : Type 0} (tells : Bool) (past : D → Past) (faults : D → ℕ) (disk : D) (script : List SessionCommands)
@@ -345,7 +342,7 @@ module _ {D : Type 0} (tells : Bool) (past : D → Past) (faults : D → ℕ) (d
 
   pub store_served : ServesStore tells source sink (seen past faults disk ended.disk) ended.status ended.events ended.book
   store_served = store_ran (told_of (λ transcripts. transcripts.items) sink t done.book ran.closed.halted ended.status ended.book ran.transcripts
-      run.transcripts run.in_turn done.told done.starved
+      run.transcripts done.told done.starved
       (ap (λ (b : RunBook). b.first) done.book_is) (ap (λ (b : RunBook). b.base) done.book_is ∙ is.can_run.base_is)
       (ap (λ (b : RunBook). b.history) done.book_is ∙ run.history) (ap (λ (b : RunBook). b.transcripts) done.book_is)
       run.halted run.consistent)

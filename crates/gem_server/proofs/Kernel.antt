@@ -24,7 +24,7 @@ use Rattle.std.proofs.lemmas.Bool.{false≢true}
 use Rattle.gem_keeper.specs.declared.memory.MemKeeper.{MemKeeper}
 use Rattle.gem_keeper.specs.Memory.{stored_in}
 use Rattle.gem_keeper.specs.Found.{Found}
-use Rattle.gem_meaning.specs.Legal.{IsLegal, AreTranscripts, AreInTurn}
+use Rattle.gem_meaning.specs.Legal.{IsLegal, AreTranscripts}
 use Rattle.script_run.specs.declared.run.Start.{Start}
 use Rattle.script_run.specs.declared.run.Ran.{Ran}
 use Rattle.script_run.specs.Run.{opened_by, told_by, CanRun, HasRunOver}
@@ -127,7 +127,5 @@ kernel_run start script ran transcripts is run none whole =
         transcripts = when_ok (λ ts. AreTranscripts (told_by (opened_by false stored_in start script) ran) 1 script ts.items) ran.transcripts transcripts whole run.transcripts;
         consistent = run.consistent;
       });
-      in_turn = subst (λ (o : Opened). AreInTurn (record { opened = o; events = events }) 1 script transcripts.items) same
-          (when_ok (λ ts. AreInTurn (told_by (opened_by false stored_in start script) ran) 1 script ts.items) ran.transcripts transcripts whole run.in_turn);
       running = never_halted events (λ halted. none (run.kept.cause halted));
     }

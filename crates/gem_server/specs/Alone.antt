@@ -13,7 +13,7 @@ use Rattle.gem_keeper.specs.Memory.{stored_in}
 use Rattle.script_run.specs.declared.run.Start.{Start}
 use Rattle.gem_meaning.specs.Opened.{Opened, largest_serial}
 use Rattle.gem_meaning.specs.Events.{Event, Told, IsRunning}
-use Rattle.gem_meaning.specs.Legal.{IsLegal, AreInTurn}
+use Rattle.gem_meaning.specs.Legal.{IsLegal}
 use Rattle.gem_server.specs.declared.status.Status.{Status}
 use Rattle.gem_server.specs.declared.status.Status.TheVariants.{Done, Script, ReadFault, WriteFault, NoMemory}
 use Rattle.gem_server.specs.Devices.{Seen, HasFailed, IsUnused, IsWritten, IsPartWritten}
@@ -34,12 +34,10 @@ kernel_opening script = record {
 abbrev pub told_from_kernel : List SessionCommands → List Event → Told
 told_from_kernel script events = record { opened = kernel_opening script; events = events }
 
--- The events and the book are those of a legal run of the script, in which the sessions took turns.
--- There is no disk, so none failed.
+-- The events and the book are those of a legal run of the script. There is no disk, so none failed.
 pub record IsRunOfScript (script : List SessionCommands) (events : List Event) (book : RunBook)
     : Type 0 where
   pub legal : IsLegal (told_from_kernel script events) book
-  pub in_turn : AreInTurn (told_from_kernel script events) 1 script book.transcripts
   pub running : IsRunning events
 
 -- The text is a script, and the events and the book are those of a run of it.

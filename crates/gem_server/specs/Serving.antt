@@ -14,7 +14,7 @@ use Rattle.gem_replies.specs.Report.{report_of}
 use Rattle.gem_replies.specs.declared.reply.RunBook.{RunBook}
 use Rattle.gem_meaning.specs.Opened.{Opened, largest_serial, base_serial}
 use Rattle.gem_meaning.specs.Events.{Event, Told, entries_of, IsRunning}
-use Rattle.gem_meaning.specs.Legal.{IsLegal, AreInTurn}
+use Rattle.gem_meaning.specs.Legal.{IsLegal}
 use Rattle.gem_meaning.specs.Serial.{IsConsistent, most_at_opening, serial_limit}
 use Rattle.gem_server.specs.declared.status.Status.{Status}
 use Rattle.gem_server.specs.declared.status.Status.TheVariants.{Done, Script, NotStore, SerialsUsed, ReadFault, DiskFault, WriteFault, NoMemory}
@@ -66,20 +66,16 @@ pub record HasNotRun (tells : Bool) (source sink : Seen (Option Bytes)) (disk : 
 
 -- ---- They ran.
 
--- the book and the events are those of a legal run, in which the sessions took turns
-pub record IsLegalRun (t : Told) (book : RunBook) : Type 0 where
-  pub legal : IsLegal t book
-  pub in_turn : AreInTurn t 1 t.opened.script book.transcripts
-
--- How a run ended, by the status: with its whole report; with a part of it, where the sink failed;
--- where the disk had failed, with the report, or with a part of it where the sink failed, too; or, for
--- want of memory, with no transcript and nothing written.
+-- How a run ended, by the status. But for want of memory the book and the events are those of a legal
+-- run: with its whole report; with a part of it, where the sink failed; where the disk had failed,
+-- with the report, or with a part of it where the sink failed, too. Else there is no transcript, and
+-- nothing was written.
 abbrev pub HasEnded : Seen (Option Bytes) → Told → RunBook → Status → Type 0
 HasEnded sink t book Done =
-    IsLegalRun t book × IsRunning t.events × IsWritten sink (report_of book)
-HasEnded sink t book WriteFault = IsLegalRun t book × IsRunning t.events
+    IsLegal t book × IsRunning t.events × IsWritten sink (report_of book)
+HasEnded sink t book WriteFault = IsLegal t book × IsRunning t.events
     × HasFailed sink × IsPartWritten sink (report_of book)
-HasEnded sink t book DiskFault = IsLegalRun t book × (IsRunning t.events → ⊥)
+HasEnded sink t book DiskFault = IsLegal t book × (IsRunning t.events → ⊥)
     × (IsWritten sink (report_of book) ⊎ (HasFailed sink × IsPartWritten sink (report_of book)))
 HasEnded sink t book NoMemory = (book.transcripts ≡ []) × IsUnused sink
 HasEnded sink t book _ = ⊥

@@ -10,7 +10,7 @@ use crate::intake::take_script;
 use crate::output::write_out;
 use crate::status::{Ended, Events, Served, Status};
 use gem_image::Image;
-use gem_io::{Sink, Source};
+use gem_io::{Gate, Sink, Source};
 use gem_keeper::MemKeeper;
 use gem_replies::{History, RunBook, Transcripts, report_text};
 use kernel_image::kernel;
@@ -19,35 +19,42 @@ use script_run::{Ran, Start, run_script};
 use shell_words::{Script, ScriptFault, read_script};
 use std::alloc::{AllocError, Global};
 use std::marker::Brand;
+use std::sync::Wait;
 use std::sync::ledger::{Blank, Ledger};
 use std::thread::Threads;
 use stone_core::largest_serial;
 
-/// Serves the script that this text is, and gives the report. The sessions run one after another,
-/// in a thread of their own with a large stack, over an image that begins as the kernel's. No
-/// device is used, and nothing is stored.
+/// Serves the script that this text is, and gives the report. The sessions run side by side, as far as
+/// the gate lets them, over an image that begins as the kernel's. No device is used, and nothing is
+/// stored.
 ///
 /// # Errors
 ///
 /// `Rule` exactly where the text is no script, with the first line that breaks a rule, and that
 /// rule; `NoMemory`, which may also stand in place of the other answers, where memory ran out.
-pub fn serve_text<R: Threads>(rt: &R, alloc: Global, text: &[u8]) -> Result<Served, ScriptFault>
+pub fn serve_text<R: Threads + Wait + Sync, G: Gate + Sync>(
+    rt: &R,
+    alloc: Global,
+    gate: &G,
+    text: &[u8],
+) -> Result<Served, ScriptFault>
     ensures legal_run { IfOk result (λ served. IsRunOf text.now served.events served.book) }
     ensures report_written { IfOk result (λ served. served.report.items ≡ report_of served.book) }
     ensures script { IfErr result (IsScriptFault text.now) }
 {
     let script = read_script(alloc, text)?;
-    let served = serve_script(rt, alloc, script)?;
+    let served = serve_script(rt, alloc, gate, script)?;
     Ok(served)
 }
 
 /// Serves the script that the source gives, and writes its report to the sink. The disk is only
 /// handed back.
-pub(crate) fn serve_alone<R: Threads, S: Source, K: Sink, D: Drop>(
+pub(crate) fn serve_alone<R: Threads + Wait + Sync, S: Source, K: Sink, D: Drop, G: Gate + Sync>(
     rt: &R,
     alloc: Global,
     source: &mut S,
     disk: D,
+    gate: &G,
     sink: &mut K,
 ) -> Ended<D>
     ensures serves { ServesAlone (seen S.left S.faults source.old source.new)
@@ -58,7 +65,7 @@ pub(crate) fn serve_alone<R: Threads, S: Source, K: Sink, D: Drop>(
         Ok(script) => script,
         Err(status) => return Ended::blank(alloc, status, disk),
     };
-    let Ok(served) = serve_script(rt, alloc, script) else {
+    let Ok(served) = serve_script(rt, alloc, gate, script) else {
         return Ended::blank(alloc, Status::NoMemory, disk);
     };
     Ended {
@@ -70,11 +77,16 @@ pub(crate) fn serve_alone<R: Threads, S: Source, K: Sink, D: Drop>(
 }
 
 // Runs the script, and prints its report.
-fn serve_script<R: Threads>(rt: &R, alloc: Global, script: Script) -> Result<Served, AllocError>
+fn serve_script<R: Threads + Wait + Sync, G: Gate + Sync>(
+    rt: &R,
+    alloc: Global,
+    gate: &G,
+    script: Script,
+) -> Result<Served, AllocError>
     ensures run { IfOk result (λ served. IsRunOfScript script served.events served.book) }
     ensures report { IfOk result (λ served. served.report.items ≡ report_of served.book) }
 {
-    let (book, events) = run_alone(rt, alloc, script)?;
+    let (book, events) = run_alone(rt, alloc, gate, script)?;
     let report = report_text(alloc, &book)?;
     Ok(Served {
         report,
@@ -84,9 +96,10 @@ fn serve_script<R: Threads>(rt: &R, alloc: Global, script: Script) -> Result<Ser
 }
 
 // Runs the script over the kernel's image. No disk can fail.
-fn run_alone<R: Threads>(
+fn run_alone<R: Threads + Wait + Sync, G: Gate + Sync>(
     rt: &R,
     alloc: Global,
+    gate: &G,
     script: Script,
 ) -> Result<(RunBook, Events), AllocError>
     ensures { IfOk result (λ run. IsRunOfScript script run.1 run.0) }
@@ -97,7 +110,7 @@ fn run_alone<R: Threads>(
     let Ran {
         transcripts,
         closed,
-    } = run_script(rt, alloc, start, script);
+    } = run_script(rt, alloc, gate, start, script);
     let book = RunBook {
         first: 0,
         base,

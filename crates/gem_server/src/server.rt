@@ -11,9 +11,10 @@ use crate::looking::{check_store, init_store};
 use crate::serving::serve_store;
 use crate::status::{Ended, Status};
 use gem_disk::Disk;
-use gem_io::{Sink, Source};
+use gem_io::{Gate, Sink, Source};
 use program_words::{Usage, Words, read_words};
 use std::alloc::Global;
+use std::sync::Wait;
 use std::thread::Threads;
 
 /// Does what the words of the command line ask for, which come without the program's own name. The
@@ -46,14 +47,25 @@ use std::thread::Threads;
 /// Where sessions ran, the book has their transcripts and the commits, and the events are what
 /// happened to the Stone; with `NoMemory` the transcripts are missing. Else both are blank.
 ///
+/// The sessions of a script run side by side, each in a thread of its own, and pass the gate: before
+/// the login, before each command, and before the logout. It may hold them, and so fix their order;
+/// every order gives a legal run. Which of them comes to pass with an open gate isn't fixed.
+///
 /// Clauses on contents hold where source, sink and disk tell their contents to contracts; standard
 /// input and output and real files don't.
-pub fn gemstone<R: Threads, S: Source, K: Sink, D: Disk + Send + Drop + 'static>(
+pub fn gemstone<
+    R: Threads + Wait + Sync,
+    S: Source,
+    K: Sink,
+    D: Disk + Send + Drop + 'static,
+    G: Gate + Sync,
+>(
     rt: &R,
     alloc: Global,
     words: &[String],
     source: &mut S,
     disk: D,
+    gate: &G,
     sink: &mut K,
 ) -> Ended<D>
     // The words.
@@ -81,8 +93,8 @@ pub fn gemstone<R: Threads, S: Source, K: Sink, D: Disk + Send + Drop + 'static>
         × (source.new ≡ source.old) × IsBlank result.events result.book }
 {
     match read_words(words) {
-        Ok(Words::Serve(None)) => serve_alone(rt, alloc, source, disk, sink),
-        Ok(Words::Serve(Some(_))) => serve_store(rt, alloc, source, disk, sink),
+        Ok(Words::Serve(None)) => serve_alone(rt, alloc, source, disk, gate, sink),
+        Ok(Words::Serve(Some(_))) => serve_store(rt, alloc, source, disk, gate, sink),
         Ok(Words::Init(_)) => init_store(alloc, disk, sink),
         Ok(Words::Check(_)) => check_store(alloc, disk, sink),
         // The program has no generated load yet.

@@ -11,23 +11,24 @@ use crate::opening::open_for;
 use crate::output::write_out;
 use crate::status::{Ended, Events, Status};
 use gem_disk::Disk;
-use gem_io::{Sink, Source};
+use gem_io::{Gate, Sink, Source};
 use gem_replies::{History, RunBook, Transcript, Transcripts, report_text};
 use script_run::{Ran, run_script};
 use std::alloc::Global;
+use std::sync::Wait;
 use std::thread::Threads;
 use stone_core::Closed;
 use stone_store::Store;
 
 /// Serves the script that the source gives over the store on the disk, and writes its report to the
-/// sink. It makes no checkpoint by itself.
-pub(crate) fn serve_store<R: Threads, S: Source, K: Sink, D: Disk + Send + Drop + 'static>(
-    rt: &R,
-    alloc: Global,
-    source: &mut S,
-    disk: D,
-    sink: &mut K,
-) -> Ended<D>
+/// sink. The sessions pass the gate. It makes no checkpoint by itself.
+pub(crate) fn serve_store<
+    R: Threads + Wait + Sync,
+    S: Source,
+    K: Sink,
+    D: Disk + Send + Drop + 'static,
+    G: Gate + Sync,
+>(rt: &R, alloc: Global, source: &mut S, disk: D, gate: &G, sink: &mut K) -> Ended<D>
     ensures { ServesStore D.tells (seen S.left S.faults source.old source.new)
         (seen K.written K.faults sink.old sink.new) (seen D.past D.faults disk result.disk)
         result.status result.events result.book }
@@ -41,7 +42,7 @@ pub(crate) fn serve_store<R: Threads, S: Source, K: Sink, D: Disk + Send + Drop 
         Err(refused) => return Ended::blank(alloc, refused.status, refused.disk),
     };
     let (first, base) = (start.number, start.base);
-    let ran = run_script(rt, alloc, start, script);
+    let ran = run_script(rt, alloc, gate, start, script);
     finish(alloc, first, base, ran, sink)
 }
 

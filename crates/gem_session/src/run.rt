@@ -12,9 +12,11 @@ ghost use Rattle.gem_session.specs.Running.{goes_on, HoldsNone, Arrives, HasLogg
 
 use crate::names::user_in;
 use crate::session::Session;
+use gem_io::Gate;
 use gem_replies::{Line, Replies, Reply, Transcript};
 use shell_words::{Command, SessionScript};
 use std::alloc::{AllocError, Global};
+use std::sync::Wait;
 use stone_core::StonePort;
 
 /// Runs the session with this number to its end: a login, its commands up to the first logout, and
@@ -25,8 +27,12 @@ use stone_core::StonePort;
 /// the one that the port has for it. `serial` is that of the objects that the session makes. In any
 /// case the session holds no lock afterwards.
 ///
+/// The gate is passed before the login, before each command and before the logout, and told behind
+/// that that the session has left; where memory ran out, without being passed once more. It may hold
+/// the session, which holds no lock of the Stone's own then. No clause speaks of the gate.
+///
 /// Chunks take a stack of their own depth: who calls this provides a thread with stack for 2,000
-/// activations. An activation took some 2.5 KB, whatever is nested in it; the server reserves 4 GB.
+/// activations. An activation took some 2.5 KB, whatever is nested in it; the server reserves 256 MB.
 /// Nothing is proved of it.
 ///
 /// # Errors
@@ -35,9 +41,11 @@ use stone_core::StonePort;
 /// unlock gives, or for the replies, or where a transaction could not be begun. What the session
 /// has committed by then stays, and its locks are given back: its events are those of a session that
 /// does so many of the commands, from the first on, and then logs out.
-pub fn run_session<P: StonePort>(
+pub fn run_session<R: Wait, P: StonePort, G: Gate>(
+    rt: &R,
     alloc: Global,
     port: &mut P,
+    gate: &G,
     session: u32,
     serial: u32,
     script: &SessionScript,
@@ -50,10 +58,12 @@ pub fn run_session<P: StonePort>(
     ensures unlocked { HoldsNone (P.state port.new).told session }
     ensures port { GoesOn session (P.state port.old) (P.state port.new) }
 {
-    let Ok(replies) = all_replies(alloc, port, session, serial, script) else {
+    let Ok(replies) = all_replies(rt, alloc, port, gate, session, serial, script) else {
         port.logout(session);
+        gate.left(rt, session);
         return Err(AllocError);
     };
+    gate.left(rt, session);
     Ok(Transcript {
         session,
         user: script.user().clone()?,
@@ -62,9 +72,11 @@ pub fn run_session<P: StonePort>(
 }
 
 // All that the session replies.
-fn all_replies<P: StonePort>(
+fn all_replies<R: Wait, P: StonePort, G: Gate>(
+    rt: &R,
     alloc: Global,
     port: &mut P,
+    gate: &G,
     session: u32,
     serial: u32,
     script: &SessionScript,
@@ -77,24 +89,27 @@ fn all_replies<P: StonePort>(
     ensures unlocked { IfOk result (λ replies. HoldsNone (P.state port.new).told session) }
     ensures port { GoesOn session (P.state port.old) (P.state port.new) }
 {
+    gate.pass(rt, session, 0);
     let begun = port.begin(session)?;
     match user_in(&begun.image, script.user())? {
         Some(user) => {
             let running = Session::login(alloc, session, serial, user, begun)?;
-            let replies = serve(alloc, port, running, script)?;
+            let replies = serve(rt, alloc, port, gate, running, script)?;
             Ok(replies)
         }
         None => {
-            let replies = refuse(alloc, begun.number, script)?;
+            let replies = refuse(rt, alloc, gate, session, begun.number, script)?;
             Ok(replies)
         }
     }
 }
 
 // The replies of a session that has logged in.
-fn serve<P: StonePort>(
+fn serve<R: Wait, P: StonePort, G: Gate>(
+    rt: &R,
     alloc: Global,
     port: &mut P,
+    gate: &G,
     running: Session,
     script: &SessionScript,
 ) -> Result<Vec<Reply>, AllocError>
@@ -119,9 +134,11 @@ fn serve<P: StonePort>(
     let mut number = 0;
     for command in before_logout(script.commands()) {
         number += 1;
+        gate.pass(rt, running.session, number);
         let answer = running.reply(alloc, port, number, command)?;
         answer.push(&mut replies, number)?;
     }
+    gate.pass(rt, running.session, number + 1);
     port.logout(running.session);
     replies.push(Reply {
         command: number + 1,
@@ -131,7 +148,14 @@ fn serve<P: StonePort>(
 }
 
 // The replies of a session whose user isn't there: to the login, and to each command.
-fn refuse(alloc: Global, view: u64, script: &SessionScript) -> Result<Vec<Reply>, AllocError>
+fn refuse<R: Wait, G: Gate>(
+    rt: &R,
+    alloc: Global,
+    gate: &G,
+    session: u32,
+    view: u64,
+    script: &SessionScript,
+) -> Result<Vec<Reply>, AllocError>
     ensures { IfOk result (λ replies. replies.items
         ≡ reply_with 0 (NoUser view)
         ∷ not_logged_in 1 (length (until_logout script.now.commands))) }
@@ -143,6 +167,7 @@ fn refuse(alloc: Global, view: u64, script: &SessionScript) -> Result<Vec<Reply>
         line: Line::NoUser(view),
     })?;
     for index in 0..count {
+        gate.pass(rt, session, index + 1);
         replies.push(Reply {
             command: index + 1,
             line: Line::NotLoggedIn,

@@ -6,15 +6,16 @@ ghost use Rattle.gemstone.specs.Ends.{Ends, NamesFiles, NamesNone};
 
 use crate::failure::{Failure, end_of};
 use gem_disk::Disk;
-use gem_io::{Sink, Source};
+use gem_io::{OpenGate, Sink, Source};
 use gem_server::gemstone;
 use program_words::{Paths, Usage, Words, read_words};
 use std::alloc::Global;
+use std::sync::Wait;
 use std::thread::Threads;
 
 /// Does what the words of the command line ask for, over the disk of the files that they name, or
 /// over any where they name none. The first word is the program's own name, and doesn't count.
-pub fn serve<R: Threads, S: Source, K: Sink, D: Disk + Send + Drop + 'static>(
+pub fn serve<R: Threads + Wait + Sync, S: Source, K: Sink, D: Disk + Send + Drop + 'static>(
     rt: &R,
     alloc: Global,
     words: &[String],
@@ -26,7 +27,7 @@ pub fn serve<R: Threads, S: Source, K: Sink, D: Disk + Send + Drop + 'static>(
         (seen S.left S.faults source.old source.new)
         (seen K.written K.faults sink.old sink.new) result }
 {
-    end_of(gemstone(rt, alloc, own_words(words), source, disk, sink).status)
+    end_of(gemstone(rt, alloc, own_words(words), source, disk, &OpenGate, sink).status)
 }
 
 /// The files that the words of the command line name.

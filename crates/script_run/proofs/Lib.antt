@@ -1,3 +1,3 @@
-pub mod Turns
-pub mod Sessions
 pub mod Starts
+pub mod Filling
+pub mod Telling

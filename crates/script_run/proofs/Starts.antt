@@ -1,14 +1,13 @@
 -- What a run starts with, and what is left where there was none.
-use Rattle.std.proofs.Common.{◌≡◌, ℕ, Bool, true, IsTrue, List, [], Option, Some, None, Result, Ok, Err, IfOk, IsErr, refl, sym, ap, subst, ◌∙◌}
+use Rattle.std.proofs.Common.{◌≡◌, ℕ, Bool, List, [], Option, None, Result, Ok, Err, IfOk, IsErr, refl, sym, ap, subst, ◌∙◌}
 use Rattle.std.specs.Option.{option_to_list}
 use Rattle.gem_record.specs.Stored.{Stored}
-use Rattle.gem_record.specs.declared.record.Entry.{Entry}
 use Rattle.shell_words.specs.Script.{SessionCommands}
 use Rattle.gem_keeper.specs.Found.{Found}
 use Rattle.gem_meaning.specs.Opened.{Opened}
 use Rattle.gem_meaning.specs.Events.{Event, Told, entries_of, halts_in}
 use Rattle.gem_meaning.specs.Serial.{IsConsistent, IsSerial}
-use Rattle.gem_meaning.specs.Legal.{AreTranscripts, AreInTurn}
+use Rattle.gem_meaning.specs.Legal.{AreTranscripts}
 use Rattle.stone_core.specs.Kept.{IsKept}
 use Rattle.stone_core.proofs.Keeps.{first_kept}
 use Rattle.script_run.specs.declared.run.Start.{Start}
@@ -38,7 +37,6 @@ module _ {K : Type 0} {stored : K → Stored} {ready : K → Bool} {faults : K �
       (first_kept o ran.closed.events.items start.keeper start.keeper refl refl can.is_ready can.stands_for events).kept in
       record {
         transcripts = none_ok ran.transcripts _ starved;
-        in_turn = none_ok ran.transcripts _ starved;
         history = history ∙ sym (ap entries_of events);
         halted = ap option_to_list halted ∙ sym (ap halts_in events);
         consistent = no_events o ran.closed.events.items events;
@@ -48,13 +46,11 @@ module _ {K : Type 0} {stored : K → Stored} {ready : K → Bool} {faults : K �
   -- the sessions ran, and the Stone was closed, which had started with this keeper
   pub has_run : (o : Opened) (started first : K) (ran : Ran K) (t : Told) (last : K) → told_by o ran ≡ t
       → IfOk ran.transcripts (λ transcripts. AreTranscripts t 1 o.script transcripts.items)
-      → IfOk ran.transcripts (λ transcripts. AreInTurn t 1 o.script transcripts.items)
       → ran.closed.history.items ≡ entries_of t.events → option_to_list ran.closed.halted ≡ halts_in t.events → IsConsistent t
       → IsKept stored ready faults tells moment stands left_since t first last → first ≡ started → ran.closed.keeper ≡ last
       → HasRunOver stored ready faults tells moment stands left_since o started ran
-  has_run o started first ran t last is transcripts in_turn history halted consistent kept first_is last_is = record {
+  has_run o started first ran t last is transcripts history halted consistent kept first_is last_is = record {
     transcripts = subst (λ (u : Told). IfOk ran.transcripts (λ transcripts. AreTranscripts u 1 o.script transcripts.items)) (sym is) transcripts;
-    in_turn = subst (λ (u : Told). IfOk ran.transcripts (λ transcripts. AreInTurn u 1 o.script transcripts.items)) (sym is) in_turn;
     history = history ∙ sym (ap (λ (u : Told). entries_of u.events) is);
     halted = halted ∙ sym (ap (λ (u : Told). halts_in u.events) is);
     consistent = subst IsConsistent (sym is) consistent;

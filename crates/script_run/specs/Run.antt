@@ -8,7 +8,7 @@ use Rattle.gem_keeper.specs.Crashes.{FitsNow}
 use Rattle.gem_meaning.specs.Opened.{Opened, base_serial}
 use Rattle.gem_meaning.specs.Events.{Told, entries_of, halts_in}
 use Rattle.gem_meaning.specs.Serial.{CanServe, IsConsistent}
-use Rattle.gem_meaning.specs.Legal.{AreTranscripts, AreInTurn}
+use Rattle.gem_meaning.specs.Legal.{AreTranscripts}
 use Rattle.stone_core.specs.Kept.{IsKept}
 use Rattle.script_run.specs.declared.run.Start.{Start}
 use Rattle.script_run.specs.declared.run.Ran.{Ran}
@@ -43,14 +43,12 @@ module _ {K : Type 0} (counts_pages : Bool) (stored : K → Stored) (ready : K �
 module _ {K : Type 0} (stored : K → Stored) (ready : K → Bool) (faults : K → ℕ) (tells : Bool)
     (moment : K → ℕ) (stands : K → Option Found) (left_since : K → ℕ → Option Found → Type 0) where
   -- The sessions ran over a Stone that was opened so, with this keeper: the transcripts, if memory
-  -- sufficed for them, are what they said by its events, and they took turns; the history has the
-  -- commits. The events are those of a Stone, and the keeper is what they leave of it: this holds
+  -- sufficed for them, are what they said by its events; the history has the commits. The events are
+  -- those of a Stone, and the keeper is what they leave of it: this holds
   -- also where memory ran out.
   pub record HasRunOver (opened : Opened) (started : K) (ran : Ran K) : Type 0 where
     pub transcripts : IfOk ran.transcripts (λ transcripts.
         AreTranscripts (told_by opened ran) 1 opened.script transcripts.items)
-    pub in_turn : IfOk ran.transcripts (λ transcripts.
-        AreInTurn (told_by opened ran) 1 opened.script transcripts.items)
     pub history : ran.closed.history.items ≡ entries_of ran.closed.events.items
     pub halted : option_to_list ran.closed.halted ≡ halts_in ran.closed.events.items
     pub consistent : IsConsistent (told_by opened ran)

@@ -1,8 +1,9 @@
-//! Room: sessions and server. Runs the sessions of a script over an image and a keeper. Knows
-//! nothing of devices, and of where the image came from. Its tests stand in `server_tests`.
+//! Room: sessions and server. Runs the sessions of a script side by side over an image and a keeper.
+//! Knows nothing of devices, and of where the image came from. Its tests stand in `server_tests`.
 #![tactic(auto)]
 
-mod named;
 mod run;
+mod session;
+mod together;
 
 pub use run::{Ran, Start, run_script};

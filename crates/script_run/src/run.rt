@@ -1,29 +1,25 @@
-//! Runs the sessions of a script one after another.
-ghost use Rattle.std.specs.Prelude.{◌≡◌, ◌≤◌, ◌+◌, ◌^◌, [], Some, None, IsErr, IfOk, IsTrue, length};
-ghost use Rattle.shell_words.specs.declared.limits.TheConstants.{SESSION_LIMIT};
-ghost use Rattle.gem_keeper.specs.Crashes.{FitsNow};
-ghost use Rattle.gem_keeper.specs.Found.{StandsFor};
-ghost use Rattle.gem_meaning.specs.Opened.{base_serial};
-ghost use Rattle.gem_meaning.specs.Serial.{CanServe};
-ghost use Rattle.gem_meaning.specs.Legal.{AreTranscripts, AreInTurn};
+//! Runs the sessions of a script over an image and a keeper.
+ghost use Rattle.std.specs.Prelude.{◌≡◌, ◌≤◌, [], Some, None, IsErr, IfOk, length};
+ghost use Rattle.std.specs.Vec.{vec_capacity};
+ghost use Rattle.gem_clock.specs.Shown.{AreFirst, first_pen};
 ghost use Rattle.script_run.specs.Run.{opened_by, CanRun, HasRunOver};
+ghost use Rattle.script_run.specs.Workers.{Serves};
 
-use crate::named::{Named, StartsWith};
+use crate::session::{SessionEnd, Started};
+use crate::together::{gather, run_all};
+use gem_clock::{Clock, Pen, Stamp};
 use gem_image::Image;
+use gem_io::Gate;
 use gem_keeper::Keeper;
+use gem_meaning::What;
 use gem_replies::Transcript;
-use gem_session::run_session;
 use shell_words::{Script, SessionScript};
 use std::alloc::{AllocError, Global};
 use std::marker::Brand;
-use std::snapshot::Snapshot;
-use std::sync::Arc;
-use std::thread::{Builder, Promise, Threads};
+use std::sync::{Arc, Wait};
+use std::thread::Threads;
 use stone_core::{Closed, Stone};
-
-// The bytes of stack of the thread in which the sessions run, which takes memory only as they are
-// used. No script was found that takes more than 20 MB; which text takes most isn't known.
-const STACK: usize = 4 << 30;
+use stone_shared::{Named, SharedStone};
 
 /// What the sessions of a script start with.
 #[derive(Drop)]
@@ -47,45 +43,19 @@ pub struct Ran<K: Drop> {
     pub closed: Closed<K>,
 }
 
-// What the thread that runs this script over this gives.
-#[derive(Drop)]
-struct RunsScript<K: Drop>(Snapshot<Start<K>>, Snapshot<Script>);
-
-impl<K: Keeper + Drop> Promise<Ran<K>> for RunsScript<K> {
-    ghost use Rattle.script_run.specs.Run.{opened_by, HasRunOver};
-
-    ghost kept_by = { λ promise ran.
-        HasRunOver K.stored K.ready K.faults K.tells K.moment K.stands K.left_since
-        (opened_by K.counts_pages K.stored promise.0.value promise.1.value)
-        promise.0.value.keeper ran };
-}
-
-/// Runs the sessions of the script one after another, in a thread that has stack for the deepest
-/// chunks. Where none can be started they run in this one.
+/// Runs the sessions of the script side by side, each in a thread that has stack for the deepest
+/// chunks. Where none can be started for a session, it runs in the calling thread, before the next
+/// ones are started.
 ///
 /// The keeper always comes back, with what the Stone did; where memory ran out, without the
 /// transcripts.
-pub fn run_script<R: Threads, K: Keeper + Send + Drop + 'static>(
+pub fn run_script<R: Threads + Wait + Sync, K: Keeper + Send + Drop + 'static, G: Gate + Sync>(
     rt: &R,
     alloc: Global,
+    gate: &G,
     start: Start<K>,
     script: Script,
 ) -> Ran<K>
-    requires { CanRun K.counts_pages K.stored K.ready K.tells K.moment K.stands K.left_since
-        start script }
-    ensures { HasRunOver K.stored K.ready K.faults K.tells K.moment K.stands K.left_since
-        (opened_by K.counts_pages K.stored start script) start.keeper result }
-{
-    let promise = RunsScript(Snapshot::of(&start), Snapshot::of(&script));
-    let thread = Builder::new().stack_size(STACK);
-    match thread.spawn_with(rt, promise, move || run_here(alloc, start, script)) {
-        Ok(child) => child.join(rt),
-        Err(refused) => (refused.value)(),
-    }
-}
-
-// Runs the script in this thread.
-fn run_here<K: Keeper + Drop>(alloc: Global, start: Start<K>, script: Script) -> Ran<K>
     requires { CanRun K.counts_pages K.stored K.ready K.tells K.moment K.stands K.left_since
         start script }
     ensures { HasRunOver K.stored K.ready K.faults K.tells K.moment K.stands K.left_since
@@ -101,7 +71,7 @@ fn run_here<K: Keeper + Drop>(alloc: Global, start: Start<K>, script: Script) ->
         return not_run(alloc, keeper);
     };
     match Stone::start(alloc, image, number, shared, keeper) {
-        Ok(stone) => run_named::<K, Brand>(alloc, stone, base, script.sessions()),
+        Ok(stone) => run_stone(rt, alloc, gate, stone, base, script.sessions()),
         Err(keeper) => not_run(alloc, keeper),
     }
 }
@@ -134,55 +104,89 @@ fn not_run<K: Drop>(alloc: Global, keeper: K) -> Ran<K>
     }
 }
 
+// What is left where memory ran out before the first session.
+fn not_begun<K: Keeper + Drop>(stone: Stone<K>) -> Ran<K>
+    ensures { HasRunOver K.stored K.ready K.faults K.tells K.moment K.stands K.left_since
+        stone.told.opened stone.started result }
+{
+    Ran {
+        transcripts: Err(AllocError),
+        closed: stone.close(),
+    }
+}
+
 // Runs the sessions of the Stone's script, and closes it.
-fn run_named<K: Keeper + Drop, N: StartsWith<K>>(
+fn run_stone<R: Threads + Wait + Sync, K: Keeper + Send + Drop + 'static, G: Gate + Sync>(
+    rt: &R,
     alloc: Global,
+    gate: &G,
     stone: Stone<K>,
     base: u32,
     sessions: &[SessionScript],
 ) -> Ran<K>
-    requires named { N.keeper ≡ Some stone.started }
-    requires script { stone.told.opened.script ≡ sessions.now }
-    requires serves { CanServe stone.told.opened }
+    requires serves { Serves stone.told.opened base sessions.now }
     requires begun { stone.told.events ≡ [] }
-    requires base { base ≡ base_serial stone.told.opened }
-    requires bound { base ≤ 2 ^ 24 }
-    requires count { length sessions.now ≤ SESSION_LIMIT }
     ensures { HasRunOver K.stored K.ready K.faults K.tells K.moment K.stands K.left_since
         stone.told.opened stone.started result }
 {
-    let mut stone = Named::<K, N>::of(stone);
-    let transcripts = run_sessions(alloc, &mut stone, base, sessions);
+    let Ok((clock, pen, stamps)) = Clock::make(alloc, sessions.len() as u32) else {
+        return not_begun(stone);
+    };
+    run_named::<R, K, Brand, G>(rt, alloc, gate, stone, clock, pen, stamps, base, sessions)
+}
+
+// The same, where the Stone and the clock have a name.
+fn run_named<
+    R: Threads + Wait + Sync,
+    K: Keeper + Send + Drop + 'static,
+    N: Named<K> + Send + Sync + 'static,
+    G: Gate + Sync,
+>(
+    rt: &R,
+    alloc: Global,
+    gate: &G,
+    stone: Stone<K>,
+    clock: Clock<What>,
+    pen: Pen<What>,
+    stamps: Vec<Stamp<What>>,
+    base: u32,
+    sessions: &[SessionScript],
+) -> Ran<K>
+    requires opened { stone.told.opened ≡ N.opened }
+    requires started { N.keeper ≡ Some stone.started }
+    requires clock { clock ≡ N.clock }
+    requires pen { pen ≡ first_pen N.clock }
+    requires stamps { AreFirst N.clock (length sessions.now) stamps.items }
+    requires serves { Serves N.opened base sessions.now }
+    requires begun { stone.told.events ≡ [] }
+    ensures { HasRunOver K.stored K.ready K.faults K.tells K.moment K.stands K.left_since
+        stone.told.opened stone.started result }
+{
+    let Ok((all, ended, transcripts)) = reserve::<K, N>(alloc, sessions.len()) else {
+        return not_begun(stone);
+    };
+    let shared = SharedStone::<K, N>::make(stone, clock, pen);
+    let ended = run_all(rt, alloc, &shared, gate, base, sessions, stamps, all, ended);
+    let mut settled = shared.settle();
+    let transcripts = gather(&mut settled, ended, transcripts, sessions);
     Ran {
         transcripts,
-        closed: stone.into_stone().close(),
+        closed: settled.into_stone().close(),
     }
 }
 
-// What the sessions of the Stone's script reply, each after the one before it.
-fn run_sessions<K: Keeper + Drop, N: StartsWith<K>>(
+// Room for what so many sessions are and leave, so that no memory is taken for it once they run.
+fn reserve<K: Keeper + Send + Drop + 'static, N: Named<K>>(
     alloc: Global,
-    stone: &mut Named<K, N>,
-    base: u32,
-    sessions: &[SessionScript],
-) -> Result<Vec<Transcript>, AllocError>
-    requires script { stone.old.stone.told.opened.script ≡ sessions.now }
-    requires serves { CanServe stone.old.stone.told.opened }
-    requires begun { stone.old.stone.told.events ≡ [] }
-    requires base { base ≡ base_serial stone.old.stone.told.opened }
-    requires bound { base ≤ 2 ^ 24 }
-    requires count { length sessions.now ≤ SESSION_LIMIT }
-    ensures transcripts { IfOk result
-        (λ transcripts. AreTranscripts stone.new.stone.told 1 sessions.now transcripts.items) }
-    ensures in_turn { IfOk result
-        (λ transcripts. AreInTurn stone.new.stone.told 1 sessions.now transcripts.items) }
-    ensures opened { stone.new.stone.told.opened ≡ stone.old.stone.told.opened }
+    count: usize,
+) -> Result<(Vec<Started<K, N>>, Vec<SessionEnd>, Vec<Transcript>), AllocError>
+    ensures none { IfOk result (λ room. (room.0.items ≡ []) × (room.1.items ≡ []) × (room.2.items ≡ [])) }
+    ensures room { IfOk result (λ room. (count ≤ vec_capacity room.0)
+        × (count ≤ vec_capacity room.1) × (count ≤ vec_capacity room.2)) }
 {
-    let mut transcripts = Vec::new(alloc);
-    for (index, session) in sessions.iter().enumerate() {
-        let number = index as u32 + 1;
-        let serial = base + index as u32;
-        transcripts.push(run_session(alloc, stone, number, serial, session)?)?;
-    }
-    Ok(transcripts)
+    Ok((
+        Vec::with_capacity(alloc, count)?,
+        Vec::with_capacity(alloc, count)?,
+        Vec::with_capacity(alloc, count)?,
+    ))
 }

@@ -1,11 +1,14 @@
-// The server, from a script to its report, in threads as the program runs them.
+// The server, from a script to its report, in threads as the program runs them. Sessions run one
+// after another.
 ghost use Rattle.std.specs.Prelude.{◌<◌, None};
 
 use crate::reports::{LONG_REPORTS, REPORTS};
+use crate::turns::TurnGate;
 use gem_disk::MemDisk;
 use gem_io::{Failed, MemSink, MemSource, Sink, Source};
 use gem_server::{Ended, Status, gemstone};
 use std::alloc::{AllocError, Global};
+use std::sync::Wait;
 use std::test::Fail;
 use std::thread::Threads;
 
@@ -20,24 +23,27 @@ fn words(alloc: Global, line: &str) -> Result<Vec<String>, AllocError> {
 
 // How the program ends on a command line, over these devices. From this call a caller's proof
 // learns nothing of the run, so it stays short.
-fn run<R: Threads, S: Source, K: Sink>(
+fn run<R: Threads + Wait + Sync, S: Source, K: Sink>(
     rt: &R,
     alloc: Global,
     line: &str,
     source: &mut S,
     sink: &mut K,
-) -> Result<Ended<MemDisk>, AllocError> {
+) -> Result<Ended<MemDisk>, Fail> {
     let words = words(alloc, line)?;
     let disk = MemDisk::new(Vec::new(alloc), Vec::new(alloc));
-    Ok(gemstone(rt, alloc, &words, source, disk, sink))
+    let gate = TurnGate::new();
+    let ended = gemstone(rt, alloc, &words, source, disk, &gate, sink);
+    gate.check(rt)?;
+    Ok(ended)
 }
 
 // How a script ends, and what is written.
-fn served<R: Threads>(
+fn served<R: Threads + Wait + Sync>(
     rt: &R,
     alloc: Global,
     script: &[u8],
-) -> Result<(Ended<MemDisk>, MemSink), AllocError> {
+) -> Result<(Ended<MemDisk>, MemSink), Fail> {
     let mut source = MemSource::new(script.to_vec(alloc)?, Vec::new(alloc));
     let mut sink = MemSink::new(Vec::new(alloc));
     let ended = run(rt, alloc, "serve", &mut source, &mut sink)?;
@@ -53,35 +59,35 @@ fn not_always_no_memory(rt: HostRuntime) -> Result<(), Fail> {
 }
 
 // Whether a script ends so.
-fn ends<R: Threads>(
+fn ends<R: Threads + Wait + Sync>(
     rt: &R,
     alloc: Global,
     script: &[u8],
     status: Status,
-) -> Result<bool, AllocError> {
+) -> Result<bool, Fail> {
     let (ended, _) = served(rt, alloc, script)?;
     Ok(ended.status == status)
 }
 
 // Whether a script ends so, and this is written.
-fn writes<R: Threads>(
+fn writes<R: Threads + Wait + Sync>(
     rt: &R,
     alloc: Global,
     script: &[u8],
     status: Status,
     written: &[u8],
-) -> Result<bool, AllocError> {
+) -> Result<bool, Fail> {
     let (ended, sink) = served(rt, alloc, script)?;
     Ok(ended.status == status && sink.written() == written)
 }
 
 // Whether the report of a script is this.
-fn has_report<R: Threads>(
+fn has_report<R: Threads + Wait + Sync>(
     rt: &R,
     alloc: Global,
     script: &[u8],
     report: &[u8],
-) -> Result<bool, AllocError> {
+) -> Result<bool, Fail> {
     writes(rt, alloc, script, Status::Done, report)
 }
 
@@ -244,7 +250,7 @@ fn too_long_script(rt: HostRuntime) -> Result<(), Fail> {
 }
 
 // Whether the program doesn't know these words, and writes nothing.
-fn is_unknown<R: Threads>(rt: &R, alloc: Global, line: &str) -> Result<bool, AllocError> {
+fn is_unknown<R: Threads + Wait + Sync>(rt: &R, alloc: Global, line: &str) -> Result<bool, Fail> {
     let mut source = MemSource::new(Vec::new(alloc), Vec::new(alloc));
     let mut sink = MemSink::new(Vec::new(alloc));
     let ended = run(rt, alloc, line, &mut source, &mut sink)?;

@@ -7,3 +7,5 @@ mod alone_tests;
 mod reports;
 #[cfg(test)]
 mod store_tests;
+#[cfg(test)]
+mod turns;

@@ -1,8 +1,11 @@
-// The top call over a store in memory. Expected values are worked by hand.
+// The top call over a store in memory. Sessions run one after another. Expected values are worked
+// by hand.
+use crate::turns::TurnGate;
 use gem_disk::{MemDisk, Pick};
 use gem_io::{MemSink, MemSource};
 use gem_server::{Ended, Status, gemstone};
-use std::alloc::{AllocError, Global};
+use std::alloc::Global;
+use std::sync::Wait;
 use std::test::Fail;
 use std::thread::Threads;
 
@@ -15,20 +18,23 @@ struct Left {
 }
 
 // Does what the words ask for. From this call a caller's proof learns nothing, so it stays short.
-fn done<R: Threads>(
+fn done<R: Threads + Wait + Sync>(
     rt: &R,
     alloc: Global,
     command: &str,
     script: &[u8],
     disk: MemDisk,
-) -> Result<Left, AllocError> {
+) -> Result<Left, Fail> {
     let mut words = Vec::new(alloc);
     for word in [command, "extent", "log"] {
         words.push(String::from_str(alloc, word)?)?;
     }
     let mut source = MemSource::new(script.to_vec(alloc)?, Vec::new(alloc));
     let mut sink = MemSink::new(Vec::new(alloc));
-    let Ended { status, disk, .. } = gemstone(rt, alloc, &words, &mut source, disk, &mut sink);
+    let gate = TurnGate::new();
+    let ended = gemstone(rt, alloc, &words, &mut source, disk, &gate, &mut sink);
+    gate.check(rt)?;
+    let Ended { status, disk, .. } = ended;
     Ok(Left {
         status,
         written: sink.written().to_vec(alloc)?,
@@ -118,12 +124,12 @@ const DAYS: [Day; 8] = [
 ];
 
 // The store after a day, where that ended and was told as it should.
-fn lived<R: Threads>(
+fn lived<R: Threads + Wait + Sync>(
     rt: &R,
     alloc: Global,
     day: &Day,
     disk: MemDisk,
-) -> Result<Option<MemDisk>, AllocError> {
+) -> Result<Option<MemDisk>, Fail> {
     let Left {
         status,
         written,
@@ -136,11 +142,11 @@ fn lived<R: Threads>(
 }
 
 // The store after these days, one after the other.
-fn lived_all<R: Threads>(
+fn lived_all<R: Threads + Wait + Sync>(
     rt: &R,
     alloc: Global,
     days: &[Day],
-) -> Result<Option<MemDisk>, AllocError> {
+) -> Result<Option<MemDisk>, Fail> {
     let mut store = Some(empty(alloc));
     for day in days {
         store = match store {
@@ -182,13 +188,13 @@ fn acknowledged(report: &[u8]) -> usize {
 }
 
 // Whether a store holds so many commits.
-fn holds<R: Threads>(
+fn holds<R: Threads + Wait + Sync>(
     rt: &R,
     alloc: Global,
     disk: MemDisk,
     pick: Pick,
     commits: usize,
-) -> Result<bool, AllocError> {
+) -> Result<bool, Fail> {
     let images = disk.crash(pick)?;
     let again = MemDisk::new(images.extent, images.log);
     let left = done(rt, alloc, "check", b"", again)?;
@@ -199,9 +205,14 @@ fn holds<R: Threads>(
     Ok(written == same.as_bytes() || written == next.as_bytes())
 }
 
-// The disk stops behind so many calls; what a crash leaves has each acknowledged commit, and at most
-// the one in flight besides.
-fn survives<R: Threads>(rt: &R, alloc: Global, calls: u64, pick: Pick) -> Result<bool, AllocError> {
+// The disk stops behind so many calls; what a crash leaves has each acknowledged commit, and at
+// most the one in flight besides.
+fn survives<R: Threads + Wait + Sync>(
+    rt: &R,
+    alloc: Global,
+    calls: u64,
+    pick: Pick,
+) -> Result<bool, Fail> {
     let mut made = done(rt, alloc, "init", b"", empty(alloc))?;
     made.disk.stop_after(calls);
     let left = done(rt, alloc, "serve", COUNTED, made.disk)?;

@@ -1,3 +1,4 @@
 mod Alone
 mod Beside
 mod Crowded
+mod InTurn

@@ -113,7 +113,7 @@ commits 1
 #[test]
 fn full_extent(rt: HostRuntime) -> Result<(), Fail> {
     let keeper = CrowdedKeeper { length: 1 };
-    let told = reported(rt.alloc(), CROWDED, keeper)?;
+    let told = reported(&rt, rt.alloc(), CROWDED, keeper)?;
     assert!(rt; told.as_slice() == CROWDED_REPORT.as_bytes());
     Ok(())
 }

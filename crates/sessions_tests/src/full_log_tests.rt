@@ -11,6 +11,7 @@ use gem_object::{Body, ByteString, Object, Oid};
 use gem_record::{ByName, Effect, Mode};
 use std::alloc::{AllocError, Global};
 use std::process::Abort;
+use std::sync::Wait;
 use std::test::Fail;
 use tran_log::spell_body;
 
@@ -60,10 +61,10 @@ fn filled(rt: &impl Abort, alloc: Global, room: usize) -> Result<MemKeeper, Fail
     Ok(keeper)
 }
 
-// The bytes of the record of a commit that changes the user's own globals, which then hold themselves
-// and K: 14, 4 for the count of objects, 8 for the name, 17 for the class, segment and kind, 4 for
-// the count of pairs, 23 for the key UserGlobals with a reference, and 13 for the key K with an
-// integer.
+// The bytes of the record of a commit that changes the user's own globals, which then hold
+// themselves and K: 14, 4 for the count of objects, 8 for the name, 17 for the class, segment and
+// kind, 4 for the count of pairs, 23 for the key UserGlobals with a reference, and 13 for the key K
+// with an integer.
 const RECORD: usize = 83;
 
 /// The first commit fills the log to its last byte. The second one has no room, as often as it is
@@ -146,18 +147,18 @@ commits 1
 ";
 
 // Whether a script is reported so over a log that has so many bytes of room.
-fn is_reported(
-    rt: &impl Abort,
+fn is_reported<R: Abort + Wait>(
+    rt: &R,
     alloc: Global,
     room: usize,
     script: &str,
     report: &str,
 ) -> Result<bool, Fail> {
     let keeper = filled(rt, alloc, room)?;
-    Ok(reported(alloc, script, keeper)?.as_slice() == report.as_bytes())
+    Ok(reported(rt, alloc, script, keeper)?.as_slice() == report.as_bytes())
 }
 
-fn check_sessions(rt: &impl Abort, alloc: Global) -> Result<(), Fail> {
+fn check_sessions<R: Abort + Wait>(rt: &R, alloc: Global) -> Result<(), Fail> {
     assert!(rt; is_reported(rt, alloc, RECORD, FILLED, FILLED_REPORT)?);
     assert!(rt; is_reported(rt, alloc, RECORD - 1, ONE_BYTE_SHORT, ONE_BYTE_SHORT_REPORT)?);
     Ok(())

@@ -1,6 +1,7 @@
 // What sessions are replied to beside another one that holds a lock, and where the disk fails.
 use crate::halts::HALTS;
 use crate::keepers::{opened, reported};
+use gem_io::OpenGate;
 use gem_keeper::{FailingKeeper, MemKeeper};
 use gem_object::Oid;
 use gem_replies::{History, RunBook, Transcript, Transcripts, report_text};
@@ -9,8 +10,8 @@ use lock_table::LockKind;
 use shell_words::{Script, read_script};
 use std::alloc::{AllocError, Global};
 use std::marker::Brand;
-use std::sync::Arc;
 use std::sync::ledger::Blank;
+use std::sync::{Arc, Wait};
 use std::test::Fail;
 
 /// The first session is run, and the second one holds a lock meanwhile.
@@ -82,7 +83,8 @@ commits 0
 
 // What the first session of a script is replied to, while the second one, if there is one, holds
 // Globals in this kind.
-fn beside_lock(
+fn beside_lock<R: Wait>(
+    rt: &R,
     alloc: Global,
     script: Script,
     kind: LockKind,
@@ -95,7 +97,8 @@ fn beside_lock(
         return Ok(None);
     }
     stone.lock(2, Oid::from_parts(0, 27), kind);
-    Ok(Some(run_session(alloc, &mut stone, 1, 1, &sessions[0])?))
+    let first = run_session(rt, alloc, &mut stone, &OpenGate, 1, 1, &sessions[0])?;
+    Ok(Some(first))
 }
 
 // The report of one transcript alone, or nothing where there is none.
@@ -114,19 +117,19 @@ fn told(alloc: Global, transcript: Option<Transcript>) -> Result<Vec<u8>, AllocE
 }
 
 // Whether this is the report of the first session beside a lock of this kind.
-fn is_told(alloc: Global, kind: LockKind, report: &str) -> Result<bool, Fail> {
+fn is_told<R: Wait>(rt: &R, alloc: Global, kind: LockKind, report: &str) -> Result<bool, Fail> {
     let Ok(script) = read_script(alloc, SCRIPT.as_bytes()) else {
         return Err(Fail::new("it is no script"));
     };
-    let told = told(alloc, beside_lock(alloc, script, kind)?)?;
+    let told = told(alloc, beside_lock(rt, alloc, script, kind)?)?;
     Ok(told.as_slice() == report.as_bytes())
 }
 
 #[test]
 fn replies_beside_a_lock(rt: HostRuntime) -> Result<(), Fail> {
     let alloc = rt.alloc();
-    assert!(rt; is_told(alloc, LockKind::Read, BESIDE_READ_LOCK)?);
-    assert!(rt; is_told(alloc, LockKind::Write, BESIDE_WRITE_LOCK)?);
+    assert!(rt; is_told(&rt, alloc, LockKind::Read, BESIDE_READ_LOCK)?);
+    assert!(rt; is_told(&rt, alloc, LockKind::Write, BESIDE_WRITE_LOCK)?);
     Ok(())
 }
 
@@ -135,7 +138,7 @@ fn replies_beside_a_lock(rt: HostRuntime) -> Result<(), Fail> {
 fn replies_of_a_failing_disk(rt: HostRuntime) -> Result<(), Fail> {
     let alloc = rt.alloc();
     for (calls, script, report) in HALTS {
-        let told = reported(alloc, script, FailingKeeper::after(calls))?;
+        let told = reported(&rt, alloc, script, FailingKeeper::after(calls))?;
         assert!(rt; told.as_slice() == report.as_bytes(), "{script}");
     }
     Ok(())

@@ -5,6 +5,7 @@ ghost use Rattle.kernel_image.specs.Objects.{kernel_image};
 ghost use Rattle.gem_meaning.specs.Opened.{base_serial};
 ghost use Rattle.gem_meaning.specs.Serial.{CanServe};
 
+use gem_io::OpenGate;
 use gem_keeper::Keeper;
 use gem_replies::{History, RunBook, Transcript, Transcripts, report_text};
 use gem_session::run_session;
@@ -13,8 +14,8 @@ use radix_pages::Steps;
 use shell_words::{Script, SessionScript, read_script};
 use std::alloc::{AllocError, Global};
 use std::marker::Brand;
-use std::sync::Arc;
 use std::sync::ledger::{Blank, Ledger};
+use std::sync::{Arc, Wait};
 use std::test::Fail;
 use stone_core::Stone;
 
@@ -47,7 +48,8 @@ pub(crate) fn opened<K: Keeper + Drop, L: Ledger>(
 }
 
 // What the sessions of the Stone's script reply, one after another.
-fn run_all<K: Keeper + Drop>(
+fn run_all<R: Wait, K: Keeper + Drop>(
+    rt: &R,
     alloc: Global,
     stone: &mut Stone<K>,
     sessions: &[SessionScript],
@@ -61,13 +63,14 @@ fn run_all<K: Keeper + Drop>(
     let mut transcripts = Vec::new(alloc);
     for (index, session) in sessions.iter().enumerate() {
         let number = index as u32 + 1;
-        transcripts.push(run_session(alloc, stone, number, number, session)?)?;
+        transcripts.push(run_session(rt, alloc, stone, &OpenGate, number, number, session)?)?;
     }
     Ok(transcripts)
 }
 
 // The book of a run of the script.
-fn book_of<K: Keeper + Drop>(
+fn book_of<R: Wait, K: Keeper + Drop>(
+    rt: &R,
     alloc: Global,
     script: Script,
     keeper: K,
@@ -78,7 +81,7 @@ fn book_of<K: Keeper + Drop>(
     let script = Arc::new(alloc, script)?;
     let sessions = script.sessions();
     let mut stone = opened::<K, Brand>(alloc, script.clone()?, keeper, Blank::new(1))?;
-    let transcripts = run_all(alloc, &mut stone, sessions)?;
+    let transcripts = run_all(rt, alloc, &mut stone, sessions)?;
     Ok(RunBook {
         first: 0,
         base: 1,
@@ -87,8 +90,9 @@ fn book_of<K: Keeper + Drop>(
     })
 }
 
-/// The report of a script whose sessions take turns on a Stone with this keeper.
-pub(crate) fn reported<K: Keeper + Drop>(
+/// The report of a script whose sessions run one after another on a Stone with this keeper.
+pub(crate) fn reported<R: Wait, K: Keeper + Drop>(
+    rt: &R,
     alloc: Global,
     script: &str,
     keeper: K,
@@ -99,6 +103,6 @@ pub(crate) fn reported<K: Keeper + Drop>(
     let Ok(script) = read_script(alloc, script.as_bytes()) else {
         return Err(Fail::new("it is no script"));
     };
-    let book = book_of(alloc, script, keeper)?;
+    let book = book_of(rt, alloc, script, keeper)?;
     Ok(report_text(alloc, &book)?)
 }

@@ -1,14 +1,24 @@
-//! Room: sessions and server. Tests of two sessions side by side: the one comes to its end while the
-//! other one is between its login and its logout.
-//!
-//! It is a crate of its own, so that these tests are checked without the others of the room.
+//! Room: sessions and server. Tests of sessions side by side, through the server: whole reports of
+//! scripts whose sessions go on in an order that a gate fixes, and runs in which none is fixed.
 #![tactic(auto)]
 
 #[cfg(test)]
+mod accounts;
+#[cfg(test)]
+mod conflicts;
+#[cfg(test)]
+mod crowd_tests;
+#[cfg(test)]
+mod gates;
+#[cfg(test)]
+mod locks;
+#[cfg(test)]
 mod merges;
 #[cfg(test)]
-mod overtaken;
+mod row;
 #[cfg(test)]
-mod scripts;
+mod row_tests;
 #[cfg(test)]
-mod side_by_side_tests;
+mod unguarded_tests;
+#[cfg(test)]
+mod views;

@@ -1,12 +1,12 @@
-// Scripts of sessions side by side over objects that Samqelun merges: counters, bags, queues and
-// dictionaries.
+// Scripts of sessions side by side over objects whose updates are merged (counters, bags, queues
+// and dictionaries), with what they report. It is worked out by hand.
 
-use crate::overtaken::Turns;
+use crate::row::Row;
 
 /// Both count, and both counts stand.
-pub(crate) const COUNTS_ADD_UP: (Turns, &str, &str) = (
-    (2, 0),
-    "\
+const COUNTS_ADD_UP: Row = Row {
+    order: &[(3, 0, 1), (2, 0, 2), (3, 2, 3), (4, 0, 0)],
+    script: "\
 session DataCurator
 printit
 1 to: 10 do: [:i | Hits increment]. Hits value
@@ -25,7 +25,7 @@ printit
 Hits value
 %
 ",
-    "\
+    report: "\
 session 2 DataCurator
 [0] login view 1
 [1] 10
@@ -46,12 +46,12 @@ commits 3
 2 session 2 transaction 1 view 1
 3 session 3 transaction 1 view 1
 ",
-);
+};
 
 /// The second count would be past the largest integer.
-pub(crate) const COUNT_TOO_LARGE: (Turns, &str, &str) = (
-    (2, 0),
-    "\
+const COUNT_TOO_LARGE: Row = Row {
+    order: &[(2, 0, 2), (4, 0, 1), (3, 0, 2), (4, 2, 4), (5, 0, 0)],
+    script: "\
 session DataCurator
 run
 Hits incrementBy: 1152921504606846974
@@ -76,7 +76,7 @@ printit
 Hits value
 %
 ",
-    "\
+    report: "\
 session 2 DataCurator
 [0] login view 1
 [1] ok
@@ -104,12 +104,12 @@ commits 3
 2 session 2 transaction 1 view 1
 3 session 3 transaction 1 view 2
 ",
-);
+};
 
 /// Both take the one occurrence out of the bag.
-pub(crate) const ONE_TO_REMOVE: (Turns, &str, &str) = (
-    (2, 0),
-    "\
+const ONE_TO_REMOVE: Row = Row {
+    order: &[(2, 0, 2), (4, 0, 1), (3, 0, 2), (4, 2, 2), (5, 0, 0)],
+    script: "\
 session DataCurator
 run
 Bag add: #x
@@ -130,7 +130,7 @@ printit
 Bag size
 %
 ",
-    "\
+    report: "\
 session 2 DataCurator
 [0] login view 1
 [1] ok
@@ -156,12 +156,12 @@ commits 3
 2 session 2 transaction 1 view 1
 3 session 3 transaction 1 view 2
 ",
-);
+};
 
 /// There are two, and each takes one.
-pub(crate) const TWO_TO_REMOVE: (Turns, &str, &str) = (
-    (2, 0),
-    "\
+const TWO_TO_REMOVE: Row = Row {
+    order: &[(2, 0, 2), (4, 0, 1), (3, 0, 2), (4, 2, 2), (5, 0, 0)],
+    script: "\
 session DataCurator
 run
 Bag add: #x; add: #x
@@ -182,7 +182,7 @@ printit
 Bag size
 %
 ",
-    "\
+    report: "\
 session 2 DataCurator
 [0] login view 1
 [1] ok
@@ -208,12 +208,12 @@ commits 4
 3 session 3 transaction 1 view 2
 4 session 4 transaction 1 view 2
 ",
-);
+};
 
 /// One adds to the queue's end, and then the other one takes its front.
-pub(crate) const ADDED_THEN_TAKEN: (Turns, &str, &str) = (
-    (2, 0),
-    "\
+const ADDED_THEN_TAKEN: Row = Row {
+    order: &[(2, 0, 2), (4, 0, 1), (3, 0, 2), (4, 2, 2), (5, 0, 0)],
+    script: "\
 session DataCurator
 run
 Line add: 1; add: 2
@@ -234,7 +234,7 @@ printit
 Line asArray
 %
 ",
-    "\
+    report: "\
 session 2 DataCurator
 [0] login view 1
 [1] ok
@@ -260,12 +260,12 @@ commits 4
 3 session 3 transaction 1 view 2
 4 session 4 transaction 1 view 2
 ",
-);
+};
 
 /// The same the other way about.
-pub(crate) const TAKEN_THEN_ADDED: (Turns, &str, &str) = (
-    (2, 0),
-    "\
+const TAKEN_THEN_ADDED: Row = Row {
+    order: &[(2, 0, 2), (4, 0, 1), (3, 0, 2), (4, 2, 2), (5, 0, 0)],
+    script: "\
 session DataCurator
 run
 Line add: 1; add: 2
@@ -286,7 +286,7 @@ printit
 Line asArray
 %
 ",
-    "\
+    report: "\
 session 2 DataCurator
 [0] login view 1
 [1] ok
@@ -312,12 +312,12 @@ commits 4
 3 session 3 transaction 1 view 2
 4 session 4 transaction 1 view 2
 ",
-);
+};
 
 /// Both take the queue's front.
-pub(crate) const FRONT_TAKEN_TWICE: (Turns, &str, &str) = (
-    (2, 0),
-    "\
+const FRONT_TAKEN_TWICE: Row = Row {
+    order: &[(2, 0, 2), (4, 0, 1), (3, 0, 2), (4, 2, 2), (5, 0, 0)],
+    script: "\
 session DataCurator
 run
 Line add: 1; add: 2
@@ -338,7 +338,7 @@ printit
 Line asArray
 %
 ",
-    "\
+    report: "\
 session 2 DataCurator
 [0] login view 1
 [1] ok
@@ -364,12 +364,12 @@ commits 3
 2 session 2 transaction 1 view 1
 3 session 3 transaction 1 view 2
 ",
-);
+};
 
 /// One takes the item that it added itself, which is no longer the front.
-pub(crate) const OWN_ITEM_TAKEN: (Turns, &str, &str) = (
-    (2, 0),
-    "\
+const OWN_ITEM_TAKEN: Row = Row {
+    order: &[(3, 0, 1), (2, 0, 2), (3, 2, 2), (4, 0, 0)],
+    script: "\
 session DataCurator
 run
 Line add: 8
@@ -385,7 +385,7 @@ printit
 Line asArray
 %
 ",
-    "\
+    report: "\
 session 2 DataCurator
 [0] login view 1
 [1] ok
@@ -405,12 +405,12 @@ commits 2
 1 session 1 transaction 1 view 0
 2 session 2 transaction 1 view 1
 ",
-);
+};
 
 /// Both write the table, at different keys.
-pub(crate) const TWO_KEYS: (Turns, &str, &str) = (
-    (2, 0),
-    "\
+const TWO_KEYS: Row = Row {
+    order: &[(3, 0, 1), (2, 0, 2), (3, 2, 2), (4, 0, 0)],
+    script: "\
 session DataCurator
 run
 Tab at: #a put: 1
@@ -429,7 +429,7 @@ printit
 Tab at: #b
 %
 ",
-    "\
+    report: "\
 session 2 DataCurator
 [0] login view 1
 [1] ok
@@ -450,12 +450,12 @@ commits 3
 2 session 2 transaction 1 view 1
 3 session 3 transaction 1 view 1
 ",
-);
+};
 
 /// At the same key, with the same value.
-pub(crate) const ONE_KEY: (Turns, &str, &str) = (
-    (2, 0),
-    "\
+const ONE_KEY: Row = Row {
+    order: &[(3, 0, 1), (2, 0, 2), (3, 2, 2), (4, 0, 0)],
+    script: "\
 session DataCurator
 run
 Tab at: #a put: 1
@@ -471,7 +471,7 @@ printit
 Tab at: #a
 %
 ",
-    "\
+    report: "\
 session 2 DataCurator
 [0] login view 1
 [1] ok
@@ -491,4 +491,18 @@ commits 2
 1 session 1 transaction 1 view 0
 2 session 2 transaction 1 view 1
 ",
-);
+};
+
+/// All of them.
+pub(crate) const ROWS: [Row; 10] = [
+    COUNTS_ADD_UP,
+    COUNT_TOO_LARGE,
+    ONE_TO_REMOVE,
+    TWO_TO_REMOVE,
+    ADDED_THEN_TAKEN,
+    TAKEN_THEN_ADDED,
+    FRONT_TAKEN_TWICE,
+    OWN_ITEM_TAKEN,
+    TWO_KEYS,
+    ONE_KEY,
+];

@@ -5,19 +5,19 @@ use Rattle.sessions_tests.proofs.Beside.{is_served, globals_there, arrives, port
 use Rattle.sessions_tests.proofs.gem_session_tests.beside_lock.Goals as goal
 
 pub lock-requires-clause-serves : goal.lock-requires-clause-serves
-lock-requires-clause-serves c =
+lock-requires-clause-serves g c =
     let few = c.if-sessions-lt2.false in
     let size = ap length (c.sessions-sessions.ensures.sessions ∙ c.deref.ensures ∙ sym c.in_ok-clone.ensures.cases
     ∙ sym c.in_ok-stone.ensures.script) in
     is_served c.in_ok-stone.stone.told.opened.script 2 (omega arith) (omega (arith, few, size))
 
 pub lock-requires-clause-there : goal.lock-requires-clause-there
-lock-requires-clause-there c =
+lock-requires-clause-there g c =
     globals_there c.in_ok-stone.stone.told c.from_parts.result c.in_ok-stone.ensures.image c.in_ok-stone.ensures.begun
     c.from_parts.ensures
 
 pub run_session-requires : goal.run_session-requires
-run_session-requires c =
+run_session-requires g c =
     let same = c.sessions-sessions.ensures.sessions ∙ c.deref.ensures ∙ sym c.in_ok-clone.ensures.cases in
     let few = c.if-sessions-lt2.false in
     let size = ap length same in

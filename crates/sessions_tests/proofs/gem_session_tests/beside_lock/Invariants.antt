@@ -1,4 +1,4 @@
 use Rattle.sessions_tests.proofs.gem_session_tests.beside_lock.Given as goal
 
 abbrev pub ghosts-opened : goal.ghosts-opened
-ghosts-opened a = record { name = a.blank.name; parts = a.blank.parts }
+ghosts-opened g a = record { name = a.blank.name; parts = a.blank.parts }
