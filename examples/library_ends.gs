@@ -1,6 +1,6 @@
 session DataCurator
 printit
-"The library at its ends: nothing, one, and equal ones. This script is served behind library.gs."
+"The library at its ends: nothing, one, and equal ones. This script is served over a store with the library."
 (#() sorted: [:a :b | a < b]) size
 %
 printit

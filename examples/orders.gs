@@ -1,6 +1,6 @@
 session DataCurator
 run
-"Sales come as text, a line for each. This script is served behind library.gs."
+"Sales come as text, a line for each. This script is served over a store with the library."
 Object subclass: #Sale instVarNames: #(customer article pieces price) inDictionary: Globals
 %
 classmethod: Sale

@@ -16,7 +16,3 @@ run
 Vault add: 5
 %
 commit
-session DataCurator
-printit
-Checking balance + Vault balance
-%

@@ -8,4 +8,7 @@ Savings balance
 printit
 Vault balance
 %
+printit
+Checking balance + Vault balance
+%
 commit

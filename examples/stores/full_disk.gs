@@ -14,8 +14,9 @@ Globals at: #Late put: 1
 %
 commit
 checkpoint
-session DataCurator
+abort
 printit
+"What met the fault isn't in the view, and no later commit is accepted, also where nothing was changed."
 Globals includesKey: #Large
 %
 commit

@@ -1,0 +1,5 @@
+session DataCurator
+printit
+Checking balance + Savings balance
+%
+commit

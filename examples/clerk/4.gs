@@ -1,0 +1,5 @@
+session DataCurator
+run
+Books group: #clerks authorization: #write
+%
+commit

@@ -1,0 +1,5 @@
+session Carol
+printit
+Ledger at: 2 put: 950
+%
+commit

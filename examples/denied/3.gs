@@ -1,0 +1,5 @@
+session DataCurator
+printit
+Till balance
+%
+commit

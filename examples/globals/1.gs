@@ -1,0 +1,5 @@
+session DataCurator
+run
+Globals at: #T put: 2 + 3
+%
+commit

@@ -1,0 +1,5 @@
+session DataCurator
+printit
+T * T
+%
+commit

@@ -1,0 +1,5 @@
+session DataCurator
+run
+Jobs add: #iron
+%
+commit

@@ -1,0 +1,7 @@
+session Erin
+lock read Prices
+lock write Prices
+unlock Prices
+printit
+Prices at: 1
+%

@@ -1,0 +1,5 @@
+session DataCurator
+run
+Globals at: #Rate put: Rate + 1
+%
+commit

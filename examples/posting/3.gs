@@ -1,0 +1,11 @@
+session Alice
+printit
+Posts size
+%
+printit
+Checking balance
+%
+printit
+Savings balance
+%
+commit

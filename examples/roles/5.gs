@@ -1,0 +1,8 @@
+session Max
+run
+Limits at: #order put: 800
+%
+run
+Orders removeLast
+%
+commit

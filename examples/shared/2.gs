@@ -1,0 +1,5 @@
+session DataCurator
+printit
+A add: 10; add: 20
+%
+commit

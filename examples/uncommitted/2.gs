@@ -1,0 +1,4 @@
+session DataCurator
+printit
+T
+%
