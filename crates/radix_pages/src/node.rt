@@ -95,15 +95,22 @@ impl<T> Node<T> {
         requires { key < 2 ^ (self.now.bits * (self.now.height + 1)) }
         ensures { option_copied result ≡ map.get self.now.map key }
     {
-        let shift = self.bits * self.height;
-        let at = (key >> shift) as usize;
-        if at >= self.slots.len() {
-            return None;
-        }
-        match &self.slots[at] {
-            Slot::Empty => None,
-            Slot::Value(value) => Some(&**value),
-            Slot::Branch(below) => below.get(rest_of(key, shift)),
+        let mut node = self;
+        let mut rest = key;
+        'down: loop {
+            let shift = node.bits * node.height;
+            let at = (rest >> shift) as usize;
+            if at >= node.slots.len() {
+                return None;
+            }
+            match &node.slots[at] {
+                Slot::Empty => return None,
+                Slot::Value(value) => return Some(&**value),
+                Slot::Branch(below) => {
+                    node = &**below;
+                    rest = rest_of(rest, shift);
+                }
+            }
         }
     }
 }

@@ -1,4 +1,0 @@
-use Rattle.radix_pages.proofs.node.Node.+get.Given as goal
-
-abbrev pub decreases-get : goal.decreases-get
-decreases-get g l = l.self.now.height
