@@ -63,6 +63,7 @@ impl Value {
 impl Clone for Value {
     ghost is_clone = { λ value copy. copy ≡ value };
 
+    #[inline(always)]
     fn clone(&self) -> Result<Value, AllocError> {
         Ok(match self {
             Value::Nil => Value::Nil,

@@ -53,6 +53,7 @@ impl<T: Drop> ListStack<T> {
     /// # Errors
     ///
     /// `AllocError` where memory ran out. The stack is as it was.
+    #[inline(always)]
     pub fn open(&mut self) -> Result<(), AllocError>
         ensures opened { OnOk result (self.new ≡ self.old ++ [] ∷ []) }
         ensures unchanged { OnErr result (self.new ≡ self.old) }
@@ -86,6 +87,7 @@ impl<T: Drop> ListStack<T> {
     /// # Errors
     ///
     /// `AllocError` where memory ran out. The stack is as it was.
+    #[inline(always)]
     pub fn push(&mut self, item: T) -> Result<(), AllocError>
         requires { 0 < length self.old }
         ensures pushed { OnOk result (self.new ≡ with_last self.old item) }

@@ -71,6 +71,7 @@ impl Model for Parts {
 
 impl Parts {
     /// The object of this name, if there is one, as it is now.
+    #[inline(always)]
     pub(crate) fn look(&self, oid: Oid) -> Option<&Object>
         ensures { option_map contents_of (option_copied result) ≡ object_at oid self.now.seen }
     {

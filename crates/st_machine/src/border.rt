@@ -74,6 +74,7 @@ pub(crate) fn known_place<O: FindsMethods>(
 }
 
 /// What the primitive of this number comes to.
+#[inline(never)]
 pub(crate) fn primitive<O: Objects>(
     alloc: Global,
     objects: &mut O,

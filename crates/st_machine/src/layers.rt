@@ -46,6 +46,7 @@ impl<T: Drop> Layers<T> {
     }
 
     /// Puts an item on top. Where it finds no memory all is as before.
+    #[inline(always)]
     pub(crate) fn push(&mut self, item: T) -> Result<(), AllocError>
         ensures pushed { OnOk result (self.new.own ≡ item ∷ self.old.own) }
         ensures unchanged { OnErr result (self.new.own ≡ self.old.own) }
@@ -66,6 +67,7 @@ impl<T: Drop> Layers<T> {
     }
 
     /// The item at this depth, of which 0 is the uppermost one's.
+    #[inline(always)]
     pub(crate) fn item(&self, depth: usize) -> Option<&T>
         ensures { option_copied result ≡ slice_get self.now.own depth }
     {
@@ -91,6 +93,7 @@ impl<T: Drop> Layers<T> {
     }
 
     /// Puts an item in place of the one at this depth, if there is one. It takes no memory.
+    #[inline(always)]
     pub(crate) fn put(&mut self, depth: usize, item: T)
         ensures own { self.new.own ≡ set self.old.own depth item }
         ensures below { self.new.below ≡ self.old.below }
@@ -102,6 +105,7 @@ impl<T: Drop> Layers<T> {
     }
 
     /// Drops so many of the uppermost items.
+    #[inline(always)]
     pub(crate) fn drop_upper(&mut self, count: usize)
         requires { count ≤ length self.old.own }
         ensures own { self.new.own ≡ drop count self.old.own }

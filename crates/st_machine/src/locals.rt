@@ -146,6 +146,7 @@ impl Locals {
 
     /// Puts a value into a variable of the scope of this number. Where there is no such variable
     /// nothing changes. It takes no memory.
+    #[inline(always)]
     pub(crate) fn set_value(&mut self, scope: u64, index: usize, value: Value)
         ensures { self.new ≡ with_value scope index value self.old }
     {

@@ -128,6 +128,7 @@ fn instr_at(instrs: &[Instr], at: usize) -> Option<&Instr>
 
 /// Carries out an instruction that `turn` leaves.
 #[cycle(machine)]
+#[inline(never)]
 fn step<O: FindsMethods>(
     alloc: Global,
     objects: &mut O,

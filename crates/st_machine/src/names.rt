@@ -23,6 +23,7 @@ use tree_meaning::Mark;
 
 /// Puts a variable.
 #[tactic(auto, unfolding(tree_meaning::specs::Scopes::variable_value))]
+#[inline(always)]
 pub(crate) fn push_local<O: Objects>(
     objects: &O,
     locals: &Locals,
