@@ -113,16 +113,18 @@ pub record ChainRuns (tells : Type 0) (before now : Past) (was is : ℕ) (marks_
     (pages payload : List ℕ) (page left : ℕ) : Type 0 where
   pub past : tells → now ≡ before
   pub later : was ≤ is
+  pub quiet : is ≡ was
   pub long : length marks ≡ most_pages
   pub so_far : (taken : List ℕ) → tells → Marks marks_before taken
       → ChainSoFar (pages_of (reads before Extent)) taken first marks pages payload page left
 
 pub runs_first : (tells : Type 0) (before now : Past) (was is : ℕ) (marks : List Bool) (first left : ℕ) → left ≡ most_pages
-    → (tells → now ≡ before) → was ≤ is → length marks ≡ most_pages
+    → (tells → now ≡ before) → is ≡ was → length marks ≡ most_pages
     → ChainRuns tells before now was is marks marks first [] [] first left
-runs_first tells before now was is marks first left most past later long = record {
+runs_first tells before now was is marks first left most past quiet long = record {
   past = past;
-  later = later;
+  later = omega (arith, quiet);
+  quiet = quiet;
   long = long;
   so_far = λ taken tell marked. chain_first (pages_of (reads before Extent)) taken first marks left most marked;
 }
@@ -168,13 +170,14 @@ module _ (tells : Type 0) (before now : Past) (was is : ℕ) (marks_before marks
         subst (λ (l : List ℕ). Marks marks' (l ++ taken)) (sym pages_are)
         (chain_marked (pages_of (reads before Extent)) taken first marks pages payload page less so marks' (marked_new so.used tell so.marked))
 
-    pub runs_more : next ≢ 0 → (later : Past) (then : ℕ) → (tells → later ≡ now) → is ≤ then → length marks' ≡ most_pages
+    pub runs_more : next ≢ 0 → (later : Past) (then : ℕ) → (tells → later ≡ now) → then ≡ is → length marks' ≡ most_pages
         → ChainRuns tells before later was then marks_before marks' first pages' payload' next less
     runs_more some later then same after long =
         let goes : eqb (next_in bytes) 0 ≡ false = grind (arith, nat_tests, some, next_is) in
         record {
           past = λ tell. same tell ∙ runs.past tell;
           later = omega (arith, runs.later, after);
+          quiet = after ∙ runs.quiet;
           long = long;
           so_far = λ taken tell marked.
               let so = here taken tell marked in

@@ -151,6 +151,7 @@ module _ (tells : Type 0) (before now : Past) (was is : ℕ) (marks_before marks
   pub record LeavesRun : Type 0 where
     pub past : tells → now ≡ before
     pub later : was ≤ is
+    pub quiet : is ≡ was
     pub long : length marks ≡ most_pages
     pub stored : AreStoredSoFar entries leaves rest
     pub so_far : (taken : List ℕ) → tells → Marks marks_before taken
@@ -161,6 +162,7 @@ pub leaves_first : (tells : Type 0) (before : Past) (was : ℕ) (marks : List Bo
 leaves_first tells before was marks entries long = record {
   past = λ tell. refl;
   later = omega arith;
+  quiet = refl;
   long = long;
   stored = record { each = tt; numbers = refl };
   so_far = λ taken tell marked. record {
@@ -208,12 +210,13 @@ module _ (tells : Type 0) (before now : Past) (was is : ℕ) (marks_before marks
     pub leaves_more : (leaf : Leaf) (marks' : List Bool) (leaves' : List Leaf) (later : Past) (then : ℕ) → leaves' ≡ leaves ++ leaf ∷ []
         → ((taken : List ℕ) → tells → Marks marks taken → leaf_in (pages_of (reads now which.Extent)) taken entry ≡ Ok leaf)
         → ((taken : List ℕ) → tells → Marks marks taken → Marks marks' (leaf.pages ++ taken))
-        → (tells → later ≡ now) → is ≤ then → length marks' ≡ most_pages
+        → (tells → later ≡ now) → then ≡ is → length marks' ≡ most_pages
         → IsStoredLeaf leaf × (leaf.number ≡ entry.0)
         → LeavesRun tells before later was then marks_before marks' entries leaves' behind
     leaves_more leaf marks' leaves' later then leaves_are read marked_new same after long stored = record {
       past = λ tell. same tell ∙ run.past tell;
       later = omega (arith, run.later, after);
+      quiet = after ∙ run.quiet;
       long = long;
       stored = subst (λ (l : List Leaf). AreStoredSoFar entries l behind) (sym leaves_are)
           (stored_more entries leaves rest entry behind leaf one run.stored stored.0 stored.1);

@@ -1,5 +1,5 @@
 //! Chains of pages.
-ghost use Rattle.std.specs.Prelude.{◌≡◌, ◌≤◌, ◌<◌, ◌*◌, ℕ, List, ◌++◌, length, get_or, IsTrue, IfOk, IsErrOf};
+ghost use Rattle.std.specs.Prelude.{◌≡◌, ◌≤◌, ◌<◌, ◌*◌, ℕ, List, ◌++◌, length, get_or, IsTrue, IfOk, IsErrOf, OnOk};
 ghost use Rattle.gem_io.specs.Faults.{HasRisen};
 ghost use Rattle.gem_disk.specs.declared.disk.Which.TheVariants as which;
 ghost use Rattle.gem_disk.specs.Disk.{reads};
@@ -52,6 +52,7 @@ pub(crate) fn read_chain<D: Disk>(
     ensures marks { length marks.new.items ≡ most_pages }
     ensures past { IsTrue D.tells → D.past disk.new ≡ D.past disk.old }
     ensures failed { IsErrOf result PageFault.Disk → HasRisen (D.faults disk.old) (D.faults disk.new) }
+    ensures quiet { OnOk result (D.faults disk.new ≡ D.faults disk.old) }
     ensures later { D.faults disk.old ≤ D.faults disk.new }
 {
     let mut pages = Vec::new(alloc);

@@ -1,5 +1,5 @@
 //! What a root stands for.
-ghost use Rattle.std.specs.Prelude.{◌≡◌, ◌≤◌, ◌<◌, ◌^◌, ℕ, List, ◌++◌, length, map, IsTrue, IfOk, IfSome, IsErrOf};
+ghost use Rattle.std.specs.Prelude.{◌≡◌, ◌≤◌, ◌<◌, ◌^◌, ℕ, List, ◌++◌, length, map, IsTrue, IfOk, IfSome, IsErrOf, OnOk};
 ghost use Rattle.std.specs.List.{AllByRecursion};
 ghost use Rattle.gem_io.specs.Faults.{HasRisen};
 ghost use Rattle.gem_disk.specs.declared.disk.Which.TheVariants as which;
@@ -74,6 +74,7 @@ fn read_leaf_of<D: Disk>(
     ensures marks { length marks.new.items ≡ most_pages }
     ensures past { IsTrue D.tells → D.past disk.new ≡ D.past disk.old }
     ensures failed { IsErrOf result PageFault.Disk → HasRisen (D.faults disk.old) (D.faults disk.new) }
+    ensures quiet { OnOk result (D.faults disk.new ≡ D.faults disk.old) }
     ensures later { D.faults disk.old ≤ D.faults disk.new }
 {
     let chain = read_chain(alloc, disk, size, marks, entry.1)?;
@@ -104,6 +105,7 @@ fn read_leaves<D: Disk>(
         ≡ map (λ entry. entry.0) entries.now) }
     ensures past { IsTrue D.tells → D.past disk.new ≡ D.past disk.old }
     ensures failed { IsErrOf result PageFault.Disk → HasRisen (D.faults disk.old) (D.faults disk.new) }
+    ensures quiet { OnOk result (D.faults disk.new ≡ D.faults disk.old) }
     ensures later { D.faults disk.old ≤ D.faults disk.new }
 {
     let mut leaves = Vec::new(alloc);
@@ -143,6 +145,7 @@ fn read_extent<D: Disk>(
     ensures stored { IfOk result (λ extent. IsStoredExtent extent) }
     ensures past { IsTrue D.tells → D.past disk.new ≡ D.past disk.old }
     ensures failed { IsErrOf result PageFault.Disk → HasRisen (D.faults disk.old) (D.faults disk.new) }
+    ensures quiet { OnOk result (D.faults disk.new ≡ D.faults disk.old) }
     ensures later { D.faults disk.old ≤ D.faults disk.new }
 {
     let at = (page as u64) * PAGE_SIZE;
@@ -186,6 +189,7 @@ fn find_extent<D: Disk>(alloc: Global, disk: &mut D) -> Result<Option<Extent>, P
     ensures stored { IfOk result (λ found. IfSome found (λ extent. IsStoredExtent extent)) }
     ensures past { IsTrue D.tells → D.past disk.new ≡ D.past disk.old }
     ensures failed { IsErrOf result PageFault.Disk → HasRisen (D.faults disk.old) (D.faults disk.new) }
+    ensures quiet { OnOk result (D.faults disk.new ≡ D.faults disk.old) }
     ensures later { D.faults disk.old ≤ D.faults disk.new }
 {
     let size = disk.length(Which::Extent)?;
@@ -209,13 +213,15 @@ fn find_extent<D: Disk>(alloc: Global, disk: &mut D) -> Result<Option<Extent>, P
 /// The leaves can be stored as they are, whether or not the disk tells what its file reads as.
 ///
 /// `NotPages`: the bytes are no extent; the page and the rule are those of its first fault. `Disk`:
-/// the count of faults rose in this call. `NoMemory` may come in place of any answer.
+/// the count of faults rose in this call; after `Ok` it is as it was. `NoMemory` may come in place of
+/// any answer.
 pub fn open_extent<D: Disk>(alloc: Global, disk: &mut D) -> Result<Option<Extent>, PageFault>
     ensures extent { IsTrue D.tells → Gives (λ extent. extent) result
         (extent_of (reads (D.past disk.old) which.Extent)) }
     ensures stored { IfOk result (λ found. IfSome found (λ extent. IsStoredExtent extent)) }
     ensures past { IsTrue D.tells → SyncsOnce (D.past disk.old) result (D.past disk.new) }
     ensures failed { IsErrOf result PageFault.Disk → HasRisen (D.faults disk.old) (D.faults disk.new) }
+    ensures quiet { OnOk result (D.faults disk.new ≡ D.faults disk.old) }
     ensures later { D.faults disk.old ≤ D.faults disk.new }
 {
     disk.sync(Which::Extent)?;

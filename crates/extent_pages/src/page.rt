@@ -57,6 +57,7 @@ pub(crate) fn read_slice<D: Disk>(
     ensures past { IsTrue D.tells → D.past disk.new ≡ D.past disk.old }
     ensures rule { (at : ℕ) (rule : PageRule) → result ≡ Err (PageFault.NotPages at rule) → ⊥ }
     ensures failed { IsErrOf result PageFault.Disk → HasRisen (D.faults disk.old) (D.faults disk.new) }
+    ensures quiet { OnOk result (D.faults disk.new ≡ D.faults disk.old) }
     ensures later { D.faults disk.old ≤ D.faults disk.new }
 {
     let mut bytes = vec![in alloc; 0; count]?;
@@ -87,6 +88,7 @@ pub(crate) fn read_page<D: Disk>(
     ensures past { IsTrue D.tells → D.past disk.new ≡ D.past disk.old }
     ensures rule { (at : ℕ) (rule : PageRule) → result ≡ Err (PageFault.NotPages at rule) → ⊥ }
     ensures failed { IsErrOf result PageFault.Disk → HasRisen (D.faults disk.old) (D.faults disk.new) }
+    ensures quiet { OnOk result (D.faults disk.new ≡ D.faults disk.old) }
     ensures later { D.faults disk.old ≤ D.faults disk.new }
 {
     if !is_inside(size, page) {
@@ -167,6 +169,7 @@ pub(crate) fn enter_page<D: Disk>(
     ensures filled { IfOk result (λ bytes. is_filled bytes.items ≡ true) }
     ensures past { IsTrue D.tells → D.past disk.new ≡ D.past disk.old }
     ensures failed { IsErrOf result PageFault.Disk → HasRisen (D.faults disk.old) (D.faults disk.new) }
+    ensures quiet { OnOk result (D.faults disk.new ≡ D.faults disk.old) }
     ensures later { D.faults disk.old ≤ D.faults disk.new }
 {
     let at = (page as u64) * PAGE_SIZE;

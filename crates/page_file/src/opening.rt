@@ -116,7 +116,8 @@ fn read_selected<D: Disk>(disk: &mut D) -> Result<u8, Failed>
 /// as before, and where it succeeds a crash leaves what it reads as.
 ///
 /// `NotPages`: the bytes are no extent; the page and the rule are those of its first fault. `Disk`:
-/// the count of faults rose in this call. `NoMemory` may come in place of any answer.
+/// the count of faults rose in this call; after `Ok` it is as it was. `NoMemory` may come in place of
+/// any answer.
 pub fn open_pages<D: Disk, L: Ledger>(
     alloc: Global,
     disk: &mut D,
@@ -127,6 +128,7 @@ pub fn open_pages<D: Disk, L: Ledger>(
     ensures unchanged { IfOk result (λ x. IfSome x.1 IsUnchanged) }
     ensures past { IsTrue D.tells → SyncsOnce (D.past disk.old) result (D.past disk.new) }
     ensures failed { IsErrOf result PageFault.Disk → HasRisen (D.faults disk.old) (D.faults disk.new) }
+    ensures quiet { OnOk result (D.faults disk.new ≡ D.faults disk.old) }
     ensures later { D.faults disk.old ≤ D.faults disk.new }
 {
     let Some(extent) = open_extent(alloc, disk)? else {

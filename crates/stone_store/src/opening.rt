@@ -1,5 +1,5 @@
 //! Opens a store.
-ghost use Rattle.std.specs.Prelude.{◌≡◌, ◌≢◌, ◌≤◌, ◌<◌, ℕ, Result, Option, IsTrue, IfOk, IfErr, IsErrOf, is_some, is_ok, length, option_map};
+ghost use Rattle.std.specs.Prelude.{◌≡◌, ◌≢◌, ◌≤◌, ◌<◌, ℕ, Result, Option, IsTrue, IfOk, IfErr, IsErrOf, is_some, is_ok, length, option_map, OnOk};
 ghost use Rattle.gem_io.specs.Faults.{HasRisen};
 ghost use Rattle.gem_disk.specs.Disk.{Past, as_read};
 ghost use Rattle.gem_disk.specs.Runs.{LeavesOnly};
@@ -98,6 +98,7 @@ fn read_both<D: Disk, L: Ledger>(
         LeavesOnly (D.past disk.old) (D.past disk.new) (FilesStandFor image number) }
     ensures failed { IsErrOf result StoreFault.Disk →
         HasRisen (D.faults disk.old) (D.faults disk.new) }
+    ensures quiet { OnOk result (D.faults disk.new ≡ D.faults disk.old) }
     ensures later { D.faults disk.old ≤ D.faults disk.new }
 {
     let (pages, image, number) = open_pages(alloc, disk, &mut steps)?;
@@ -131,6 +132,7 @@ fn open_both<D: Disk, L: Ledger>(
         LeavesOnly (D.past disk.old) (D.past disk.new) (FilesStandFor image number) }
     ensures failed { IsErrOf result StoreFault.Disk →
         HasRisen (D.faults disk.old) (D.faults disk.new) }
+    ensures quiet { OnOk result (D.faults disk.new ≡ D.faults disk.old) }
     ensures later { D.faults disk.old ≤ D.faults disk.new }
 {
     let steps = Steps::<L>::start(blank);
@@ -141,7 +143,8 @@ fn open_both<D: Disk, L: Ledger>(
 
 /// Opens the store of two files: gives the image for which they stand, with the number of its last
 /// commit, and the store. Each file is synced and then read once, the log in pieces: besides the
-/// image one record of it is held at a time. A log of one byte at most becomes one without records. Where it fails, the disk is still in the store, which gives it back.
+/// image one record of it is held at a time. A log of one byte at most becomes one without records.
+/// Where it fails, the disk is still in the store, which gives it back.
 ///
 /// The files stand for the image of the extent's root, or for that of the kernel, with the records of
 /// the log of later commits, one after the other.
@@ -154,8 +157,8 @@ fn open_both<D: Disk, L: Ledger>(
 /// # Errors
 ///
 /// `NotStore` exactly where the files are no store: for the first flaw of the extent, of the log or of
-/// the image. `Disk`: the count of faults rose in this call. `NoMemory` may come in place of any
-/// answer.
+/// the image. `Disk`: the count of faults rose in this call; after `Ok` it is as it was. `NoMemory` may
+/// come in place of any answer.
 pub fn open_store<D: Disk + Drop>(alloc: Global, disk: D) -> Opened<D>
     ensures opens { IsTrue D.tells →
         Opens (store_of (as_read (D.past disk))) result.result }
@@ -171,6 +174,7 @@ pub fn open_store<D: Disk + Drop>(alloc: Global, disk: D) -> Opened<D>
         LeavesOnly (D.past disk) (D.past result.store.disk) (FilesStandFor image number) }
     ensures failed { IsErrOf result.result StoreFault.Disk →
         HasRisen (D.faults disk) (D.faults result.store.disk) }
+    ensures quiet { OnOk result.result (D.faults result.store.disk ≡ D.faults disk) }
     ensures later { D.faults disk ≤ D.faults result.store.disk }
 {
     let mut disk = disk;

@@ -12,7 +12,7 @@ loop-init g c =
     rw (c.new-pages.ensures.items, c.new-payload.ensures.items) (
       refl,
       runs_first (IsTrue g.D.Disk.tells) past past faults faults c.args.marks.now.items c.args.first 262144 refl
-          (λ tell. refl) (omega arith) c.requires.marks,
+          (λ tell. refl) refl c.requires.marks,
     )
 
 pub returns-in_err-bytes-clause-chain : goal.returns-in_err-bytes-clause-chain
@@ -73,7 +73,7 @@ loop-preserved g c =
           c.in_ok-bytes.ensures.page c.in_ok-bytes.ensures.marked c.push.new.self.items c.extend_from_slice.new.self.items
           c.in_ok-push.ensures.items payload_is c.if-next-eq0.false
           (g.D.Disk.past c.enter_page.new.disk) (g.D.Disk.faults c.enter_page.new.disk)
-          c.in_ok-bytes.ensures.past c.in_ok-bytes.ensures.later c.in_ok-bytes.ensures.marks,
+          c.in_ok-bytes.ensures.past c.in_ok-bytes.ensures.quiet c.in_ok-bytes.ensures.marks,
     )
 
 pub returns-then-next-eq0-clause-filled : goal.returns-then-next-eq0-clause-filled

@@ -24,7 +24,7 @@ loop-entry-preserved g c =
     c.args.entries.now c.loop-entry.leaves.items c.loop-entry.rest.now c.in-Some.entry.now c.in-Some.behind.now
     c.in-Some.ensures.cases.0 c.loop-entry.invariant c.in_ok-leaf.leaf c.read_leaf_of.new.marks.items c.push.new.self.items
     (g.D.Disk.past c.read_leaf_of.new.disk) (g.D.Disk.faults c.read_leaf_of.new.disk) c.in_ok-push.ensures.items
-    c.in_ok-leaf.ensures.leaf c.in_ok-leaf.ensures.marked c.in_ok-leaf.ensures.past c.in_ok-leaf.ensures.later
+    c.in_ok-leaf.ensures.leaf c.in_ok-leaf.ensures.marked c.in_ok-leaf.ensures.past c.in_ok-leaf.ensures.quiet
     c.in_ok-leaf.ensures.marks c.in_ok-leaf.ensures.stored
 
 pub returns-clause-leaves : goal.returns-clause-leaves
