@@ -20,8 +20,12 @@ use Rattle.stone_core.specs.declared.port.CheckAnswer.TheVariants.{Full}
 use Rattle.stone_core.specs.Port.{size_at, IsFree, MayPlace, AnswerFits, CheckFits}
 use Rattle.gem_keeper.specs.Found.{Found, StandsFor}
 use Rattle.gem_keeper.specs.Crashes.{FitsNow, KeepsOnly, StandsForEither}
-use Rattle.stone_core.specs.Crashes.{StandsAfter, MayBeLeft, MayHaveBeenLeft}
-use Rattle.stone_core.specs.Kept.{IsHalting}
+use Rattle.stone_core.specs.Crashes.{StandsAfter, MayBeLeft, MayBeLeftDuring, MayHaveBeenLeft}
+use Rattle.stone_core.specs.declared.port.CommitAnswer.{CommitAnswer}
+use Rattle.stone_core.specs.declared.port.CheckAnswer.{CheckAnswer}
+use Rattle.stone_core.specs.declared.port.CheckAnswer.TheVariants as check
+use Rattle.stone_core.specs.declared.port.CommitAnswer.TheVariants as commit
+use Rattle.stone_core.specs.Kept.{IsKept, IsHalting, CommitKeeps, CheckKeeps, HoldsDuring, CommitHolds, CheckHolds}
 use Rattle.stone_core.proofs.Crashes.{keeps_less, keeps_then, nothing_done, fits_less, IsSameImage, same_image_after, stands_as, placed_stands, stands_stood, been_left, been_left_more, still_may_be_left, flies_next}
 
 not_running : (before : List Event) (session number : ℕ) (entry : Option Entry) → IsRunning before
@@ -59,6 +63,36 @@ module _ {K : Type 0} {stored : K → Stored} {ready : K → Bool} {faults : K �
               (λ left since. stands_stood o events left ((now told).crash left since)));
         };
       }
+
+  -- ---- crashes in a call, by its answer
+
+  module _ (t : Told) (events : List Event) (started keeper now : K)
+      (kept : IsKept stored ready faults tells moment stands left_since t started keeper) where
+    -- nothing was done
+    held_still : now ≡ keeper → HoldsDuring tells moment left_since t.opened t.events events keeper now
+    held_still same told =
+        subst (λ k. KeepsOnly moment left_since keeper k (MayBeLeftDuring t.opened t.events events)) (sym same)
+        (nothing_done keeper (MayBeLeftDuring t.opened t.events events) (λ left since. inl (kept.crash told left since)))
+
+    pub held_in_commit : (answer : CommitAnswer) → CommitKeeps faults keeper now answer
+        → CommitHolds tells moment left_since t.opened t.events events keeper now answer
+        → HoldsDuring tells moment left_since t.opened t.events events keeper now
+    held_in_commit (commit.Placed number) keeps holds = holds
+    held_in_commit commit.DiskFault keeps holds = holds
+    held_in_commit (commit.Halted number) keeps holds = held_still keeps
+    held_in_commit (commit.ReadOnly number) keeps holds = held_still keeps
+    held_in_commit (commit.Conflicts found) keeps holds = held_still keeps
+    held_in_commit (commit.LogFull length size) keeps holds = held_still keeps
+    held_in_commit commit.NoMemory keeps holds = held_still keeps
+
+    pub held_in_check : (answer : CheckAnswer) → CheckKeeps faults keeper now answer
+        → CheckHolds tells moment left_since t.opened t.events events keeper now answer
+        → HoldsDuring tells moment left_since t.opened t.events events keeper now
+    held_in_check (check.Made number) keeps holds = holds
+    held_in_check check.DiskFault keeps holds = holds
+    held_in_check (check.Halted number) keeps holds = held_still keeps
+    held_in_check (check.Full pages) keeps holds = held_still keeps
+    held_in_check check.NoMemory keeps holds = held_still keeps
 
   module _ (t : Told) (halted : Option ℕ) (started keeper : K) (is : IsHalting stored ready faults tells moment stands left_since t halted started keeper) where
     pub runs : halted ≡ None → IsRunning t.events
@@ -218,6 +252,37 @@ module _ {K : Type 0} {stored : K → Stored} {ready : K → Bool} {faults : K �
         subst (λ es. IsHalting stored ready faults tells moment stands left_since (record t { events = es }) (Some number) started now) (sym more)
         (halted_later session number None now running counts risen
         (λ told. keeps_less keeper now _ _ (λ left stands. inl (same left (stands_so left stands))) (keeps told)))
+
+    -- ---- what crashes in a call leave
+
+    -- the record of a commit was added
+    pub held_placed : (events : List Event) (session : ℕ) (e : Entry) (effect : Effect) (now : K)
+        → events ≡ t.events ++ (session, Placed e) ∷ [] → effect.objects ≡ effect_of t.opened (standing t) e
+        → KeepsOnly moment left_since keeper now (StandsForEither (standing t).image (standing t).number effect)
+        → KeepsOnly moment left_since keeper now (MayBeLeftDuring t.opened t.events events)
+    held_placed events session e effect now more objects_are keeps =
+        subst (λ es. KeepsOnly moment left_since keeper now (MayBeLeftDuring t.opened t.events es)) (sym more)
+        (keeps_less keeper now _ _ (λ left either. ⊎_elim (λ stood. inl (inl stood))
+        (λ made. inr (inl (placed_stands t session e effect objects_are left made))) either) keeps)
+
+    -- the disk failed as it was to be stored
+    pub held_flying : (events : List Event) (session number : ℕ) (e : Entry) (effect : Effect) (now : K)
+        → events ≡ t.events ++ (session, Halted number (Some e)) ∷ []
+        → effect.objects ≡ effect_of t.opened (standing t) e
+        → KeepsOnly moment left_since keeper now (StandsForEither (standing t).image (standing t).number effect)
+        → KeepsOnly moment left_since keeper now (MayBeLeftDuring t.opened t.events events)
+    held_flying events session number e effect now more objects_are keeps =
+        subst (λ es. KeepsOnly moment left_since keeper now (MayBeLeftDuring t.opened t.events es)) (sym more)
+        (keeps_less keeper now _ _ (λ left either. ⊎_elim (λ stood. inl (inl stood))
+        (λ made. inr (inr (flies_next t session number e left
+        (placed_stands t session e effect objects_are left made)))) either) keeps)
+
+    -- the image was stored, or was to be
+    pub held_checked : (events : List Event) (now : K) (image : Image) (number : ℕ) → image ≡ (standing t).image
+        → number ≡ (standing t).number → KeepsOnly moment left_since keeper now (StandsFor image number)
+        → KeepsOnly moment left_since keeper now (MayBeLeftDuring t.opened t.events events)
+    held_checked events now image number image_is number_is = keeps_less keeper now _ _
+        (λ left stands. inl (inl (stands_as t.opened t.events image number image_is number_is left stands)))
 
     -- ---- what a commit answers
 

@@ -32,6 +32,11 @@ pub record StandsInFlight (o : Opened) (events : List Event) (left : Option Foun
 abbrev pub MayBeLeft : Opened → List Event → Option Found → Type 0
 MayBeLeft o events left = StandsAfter o events left ⊎ StandsInFlight o events left
 
+-- What a crash may leave at some moment of a call that finds these events and ends with those: what
+-- one before the call may, or one after it.
+abbrev pub MayBeLeftDuring : Opened → (before after : List Event) → Option Found → Type 0
+MayBeLeftDuring o before after left = MayBeLeft o before left ⊎ MayBeLeft o after left
+
 -- What a crash may have left at some moment of the events: what stood, or that with the commit in
 -- flight.
 abbrev pub MayHaveBeenLeft : Opened → List Event → Option Found → Type 0

@@ -1,13 +1,14 @@
 -- What a Stone's keeper has to do with its events.
-use Rattle.std.specs.Prelude.{◌≡◌, ◌≤◌, ℕ, Bool, true, IsTrue, Option}
+use Rattle.std.specs.Prelude.{◌≡◌, ◌≤◌, ℕ, Bool, true, IsTrue, List, Option}
 use Rattle.std.specs.Option.{option_to_list}
 use Rattle.gem_io.specs.Faults.{HasRisen}
 use Rattle.gem_record.specs.Stored.{Stored}
-use Rattle.gem_meaning.specs.Events.{Told, halts_in, IsRunning}
+use Rattle.gem_meaning.specs.Opened.{Opened}
+use Rattle.gem_meaning.specs.Events.{Event, Told, halts_in, IsRunning}
 use Rattle.gem_meaning.specs.After.{stored_after}
 use Rattle.gem_keeper.specs.Found.{Found}
 use Rattle.gem_keeper.specs.Crashes.{FitsNow, KeepsOnly}
-use Rattle.stone_core.specs.Crashes.{StandsAfter, MayBeLeft, MayHaveBeenLeft}
+use Rattle.stone_core.specs.Crashes.{StandsAfter, MayBeLeft, MayBeLeftDuring, MayHaveBeenLeft}
 use Rattle.stone_core.specs.declared.port.CommitAnswer.{CommitAnswer}
 use Rattle.stone_core.specs.declared.port.CommitAnswer.TheVariants.{DiskFault, Placed}
 use Rattle.stone_core.specs.declared.port.CheckAnswer.{CheckAnswer}
@@ -57,3 +58,22 @@ abbrev pub CheckKeeps : {K : Type 0} → (faults : K → ℕ) → (old new : K) 
 CheckKeeps faults old new (check.Made number) = faults new ≡ faults old
 CheckKeeps faults old new check.DiskFault = HasRisen (faults old) (faults new)
 CheckKeeps faults old new _ = new ≡ old
+
+-- A call found these events and ended with those. Where the keeper tells what it stands for:
+module _ {K : Type 0} (tells : Bool) (moment : K → ℕ) (left_since : K → ℕ → Option Found → Type 0)
+    (o : Opened) (before after : List Event) (old new : K) where
+  -- each crash in the call leaves what one before it may, or one after it
+  abbrev pub HoldsDuring : Type 0
+  HoldsDuring = IsTrue tells → KeepsOnly moment left_since old new (MayBeLeftDuring o before after)
+
+  -- so it is where a commit was stored, or was to be. Any other answer leaves the keeper as it was
+  abbrev pub CommitHolds : CommitAnswer → Type 0
+  CommitHolds (Placed number) = HoldsDuring
+  CommitHolds DiskFault = HoldsDuring
+  CommitHolds _ = Unit {0}
+
+  -- the same of a checkpoint
+  abbrev pub CheckHolds : CheckAnswer → Type 0
+  CheckHolds (check.Made number) = HoldsDuring
+  CheckHolds check.DiskFault = HoldsDuring
+  CheckHolds _ = Unit {0}

@@ -7,9 +7,10 @@ ghost use Rattle.gem_meaning.specs.Effect.{IsUnchanged, MergesFit, effect_at};
 ghost use Rattle.gem_meaning.specs.Events.{standing, entries_of, conflicts_at, told_more, halts_in, IsRunning, OthersCame};
 ghost use Rattle.gem_meaning.specs.Serial.{IsRecorded, IsConsistent, CanServe};
 ghost use Rattle.gem_meaning.specs.Locks.{leaving};
-ghost use Rattle.stone_core.specs.Kept.{IsKept, CommitKeeps, CheckKeeps};
+ghost use Rattle.stone_core.specs.Kept.{IsKept, CommitKeeps, CheckKeeps, CommitHolds, CheckHolds};
 ghost use Rattle.gem_keeper.specs.Found.{StandsFor};
-ghost use Rattle.gem_keeper.specs.Crashes.{FitsNow};
+ghost use Rattle.gem_keeper.specs.Crashes.{FitsNow, KeepsOnly};
+ghost use Rattle.stone_core.specs.Crashes.{MayBeLeftDuring};
 ghost use Rattle.stone_core.specs.Stone.{is_session};
 ghost use Rattle.stone_core.specs.Port.{event_of_answer, AnswerFits, BeginSays, CommitSays, event_of_lock, LockFits, LockSays, dropping, UnlockSays, event_of_check, CheckFits, CheckSays, LogoutSays, GoesOn, alone_with};
 ghost use Rattle.lock_table.specs.Locks.{kind_held};
@@ -188,8 +189,9 @@ impl<K: Keeper + Drop> Stone<K> {
     /// of memory, and so does the commit with the number 2^63. An object of the effect builds at
     /// most 8 nodes of the next image, however many objects the image has.
     ///
-    /// What the type says of every Stone's keeper is said of it once more, so that an acknowledged
-    /// commit is in what each later crash leaves.
+    /// Each crash in the call leaves what one before the call may, or what one after it may. What the
+    /// type says of every Stone's keeper is said of it once more. So an acknowledged commit is in what
+    /// each later crash leaves, in later calls too.
     pub fn commit<L: Ledger>(
         &mut self,
         alloc: Global,
@@ -204,9 +206,13 @@ impl<K: Keeper + Drop> Stone<K> {
         ensures keeper { CommitKeeps K.faults self.old.keeper self.new.keeper result }
         ensures kept { IsKept K.stored K.ready K.faults K.tells K.moment K.stands K.left_since
             self.new.told self.new.started self.new.keeper }
+        ensures holding { IsTrue K.tells
+            → KeepsOnly K.moment K.left_since self.old.keeper self.new.keeper
+            (MayBeLeftDuring self.old.told.opened self.old.told.events self.new.told.events) }
         ensures nodes { steps.new ≤ steps.old + 8 * length
             (effect_at (standing self.old.told).image ((standing self.old.told).number + 1) done.now) }
     {
+        self.keeps_order();
         let answer = self.answer(alloc, done, steps);
         self.keeps_order();
         answer
@@ -281,7 +287,7 @@ impl<K: Keeper + Drop> Stone<K> {
     ///
     /// Where the disk had failed that is answered. Otherwise it is `Full` exactly where it would
     /// count too many pages, and else made, unless the disk fails. Every other answer, also that
-    /// memory ran out, leaves the Stone as it was.
+    /// memory ran out, leaves the Stone as it was. Of crashes it says what `commit` does.
     pub fn checkpoint(&mut self, alloc: Global, session: u32) -> CheckAnswer
         requires serves { is_session self.old.told.opened.script session ≡ true }
         ensures events { self.new.told ≡ told_more self.old.told
@@ -289,6 +295,28 @@ impl<K: Keeper + Drop> Stone<K> {
         ensures answer { CheckFits self.old.told.opened self.old.told.events result }
         ensures started { self.new.started ≡ self.old.started }
         ensures keeper { CheckKeeps K.faults self.old.keeper self.new.keeper result }
+        ensures kept { IsKept K.stored K.ready K.faults K.tells K.moment K.stands K.left_since
+            self.new.told self.new.started self.new.keeper }
+        ensures holding { IsTrue K.tells
+            → KeepsOnly K.moment K.left_since self.old.keeper self.new.keeper
+            (MayBeLeftDuring self.old.told.opened self.old.told.events self.new.told.events) }
+    {
+        self.keeps_order();
+        let answer = self.check(alloc, session);
+        self.keeps_order();
+        answer
+    }
+
+    // The answer to a checkpoint.
+    fn check(&mut self, alloc: Global, session: u32) -> CheckAnswer
+        requires serves { is_session self.old.told.opened.script session ≡ true }
+        ensures events { self.new.told ≡ told_more self.old.told
+            (event_of_check session (standing self.old.told).number result) }
+        ensures answer { CheckFits self.old.told.opened self.old.told.events result }
+        ensures started { self.new.started ≡ self.old.started }
+        ensures keeper { CheckKeeps K.faults self.old.keeper self.new.keeper result }
+        ensures holding { CheckHolds K.tells K.moment K.left_since self.old.told.opened
+            self.old.told.events self.new.told.events self.old.keeper self.new.keeper result }
     {
         if let Some(number) = self.halted {
             return CheckAnswer::Halted(number);
@@ -359,6 +387,8 @@ impl<K: Keeper + Drop> Stone<K> {
         ensures answer { AnswerFits self.old.told.opened self.old.told.events done.now result }
         ensures started { self.new.started ≡ self.old.started }
         ensures keeper { CommitKeeps K.faults self.old.keeper self.new.keeper result }
+        ensures holding { CommitHolds K.tells K.moment K.left_since self.old.told.opened
+            self.old.told.events self.new.told.events self.old.keeper self.new.keeper result }
         ensures nodes { steps.new ≤ steps.old + 8 * length
             (effect_at (standing self.old.told).image ((standing self.old.told).number + 1) done.now) }
     {
@@ -391,6 +421,9 @@ impl<K: Keeper + Drop> Stone<K> {
             AnswerFits self.old.told.opened self.old.told.events done.now answer) }
         ensures started { self.new.started ≡ self.old.started }
         ensures keeper { IfOk result (CommitKeeps K.faults self.old.keeper self.new.keeper) }
+        ensures holding { IfOk result (CommitHolds K.tells K.moment K.left_since
+            self.old.told.opened self.old.told.events self.new.told.events self.old.keeper
+            self.new.keeper) }
         ensures starved { OnErr result (self.new ≡ self.old) }
         ensures nodes { steps.new ≤ steps.old + 8 * length
             (effect_at (standing self.old.told).image ((standing self.old.told).number + 1) done.now) }
@@ -426,6 +459,9 @@ impl<K: Keeper + Drop> Stone<K> {
             AnswerFits self.old.told.opened self.old.told.events done.now answer) }
         ensures started { self.new.started ≡ self.old.started }
         ensures keeper { IfOk result (CommitKeeps K.faults self.old.keeper self.new.keeper) }
+        ensures holding { IfOk result (CommitHolds K.tells K.moment K.left_since
+            self.old.told.opened self.old.told.events self.new.told.events self.old.keeper
+            self.new.keeper) }
         ensures starved { OnErr result (self.new ≡ self.old) }
         ensures nodes { steps.new ≤ steps.old + 8 * length
             (effect_at (standing self.old.told).image ((standing self.old.told).number + 1) done.now) }

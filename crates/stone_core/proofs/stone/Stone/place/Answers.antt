@@ -1,4 +1,4 @@
-use Rattle.std.proofs.Common.{◌≡◌, ◌+◌, ◌<◌, ◌^◌, ℕ, List, [], ◌∷◌, ◌++◌, length, All, Some, sym, ap, ap₂, subst, ◌∙◌, le_refl, arith}
+use Rattle.std.proofs.Common.{IsTrue, ◌≡◌, ◌+◌, ◌<◌, ◌^◌, ℕ, List, [], ◌∷◌, ◌++◌, length, All, Some, sym, ap, ap₂, subst, ◌∙◌, le_refl, arith}
 use Rattle.std.specs.Vec.{vec_capacity}
 use Rattle.gem_object.specs.Spelling.{IsSpelled}
 use Rattle.gem_object.specs.declared.object.Object.{Object}
@@ -15,7 +15,9 @@ use Rattle.stone_core.specs.Port.{MayPlace, AnswerFits}
 use Rattle.stone_core.specs.Stone.{IsStone}
 use Rattle.stone_core.specs.Kept.{Kept}
 use Rattle.stone_core.specs.Inside.{told_by}
-use Rattle.stone_core.proofs.Keeps.{kept_placed, kept_flying, may_place, is_full}
+use Rattle.gem_keeper.specs.Crashes.{KeepsOnly}
+use Rattle.stone_core.specs.Crashes.{MayBeLeftDuring}
+use Rattle.stone_core.proofs.Keeps.{kept_placed, kept_flying, held_placed, held_flying, may_place, is_full}
 use Rattle.stone_core.proofs.OneMore.{placed_stone, halted_stone, size_is, record_size_is, effect_is, commit_consistent, effect_has_spelling}
 use Rattle.stone_core.proofs.Spelled.{effect_made, nodes_bound}
 use Rattle.stone_core.proofs.StoredEffect.{next_body}
@@ -167,6 +169,36 @@ returns-in-Ok-clause-answer g c =
       ap (λ (n : ℕ). n + 1) stone.number_is,
     )
 
+pub returns-in-Ok-clause-holding : goal.returns-in-Ok-clause-holding
+returns-in-Ok-clause-holding g c =
+    let inside = c.self.inside in
+    let done = c.args.done.now in
+    let t = told_by g.K.Keeper.counts_pages g.K.Keeper.stored inside in
+    let stone = c.self.invariant.0 in
+    let merged_is = c.requires.merged ∙ ap (λ (k : Kept _). merged_objects (standing k.told).image done) (sym c.self.view_is)
+    ∙ ap (λ (i : Image). merged_objects i done) (sym c.self.invariant.0.image_is) in
+    let made = effect_made inside.image (inside.number + 1) done c.args.merged c.in_ok-effect.effect.objects merged_is c.in_ok-effect.ensures.objects in
+    let running = subst (λ (k : Kept _). IsRunning k.told.events) (sym c.self.view_is) c.requires.running in
+    let recorded = subst (λ (k : Kept _). IsRecorded k.told done) (sym c.self.view_is) c.requires.recorded in
+    let none = subst (λ (k : Kept _). conflicts_at (standing k.told) done ≡ []) (sym c.self.view_is) c.requires.no_conflict in
+    let fit = subst (λ (k : Kept _). MergesFit (standing k.told).image done) (sym c.self.view_is) c.requires.fit in
+    let placed = c.placed_as_recorded.ensures.placed t done stone.opening stone.consistent.serial running recorded none fit in
+    let effect = c.placed_as_recorded.ensures.effect t done stone.opening stone.consistent.serial recorded none in
+    let events_are : c.push.new.self.items ≡ inside.events.items ++ (done.session, Placed (entry_of done)) ∷ [] =
+    c.in-Ok-push.ensures.items ∙ ap₂ (λ events e. events ++ (done.session, Placed e) ∷ []) c.in_ok-reserve-2.ensures.items c.entry.ensures in
+    let small : inside.number + 1 < 2 ^ 63 = let below = c.if-number-ge-NUMBER_LIMIT.false in omega (arith, below) in
+    let is_image = subst IsImage (c.image.view_is ∙ c.in_ok-image.ensures.image ∙ ap (with_objects inside.image) made) c.image.invariant in
+    let next = next_body t inside.image inside.number done c.in_ok-effect.effect c.deref.result.now stone.number_is small
+    c.in_ok-effect.ensures.number made c.in_ok-body.ensures.some is_image (c.deref.ensures.value ∙ c.in_ok-body.ensures.body)
+    (ap length c.deref.ensures.value ∙ c.in_ok-body.ensures.size) in
+    let objects_are = made ∙ effect_is t inside.image inside.number inside.locks inside.history.items _ stone done recorded placed effect in
+    subst (λ (k : Kept _). IsTrue g.K.Keeper.tells → KeepsOnly g.K.Keeper.moment g.K.Keeper.left_since k.keeper c.append.new.self
+    (MayBeLeftDuring k.told.opened k.told.events c.push.new.self.items)) c.self.view_is
+    (λ told. held_placed t inside.halted inside.started.value inside.keeper c.self.invariant.1 _ done.session (entry_of done)
+    c.in_ok-effect.effect _ events_are objects_are
+    (c.in-Ok.ensures.any_moment (standing t).image (standing t).number c.in_ok-effect.effect told
+    (c.self.invariant.1.kept.now told running) next))
+
 pub returns-in-Ok-clause-nodes : goal.returns-in-Ok-clause-nodes
 returns-in-Ok-clause-nodes g c = nodes_bound (told_by g.K.Keeper.counts_pages g.K.Keeper.stored c.self.inside) c.args.self.now.told c.self.inside.image c.self.inside.number c.args.done.now c.args.merged
     c.in_ok-effect.effect.objects _ _ (ap (λ (k : Kept _). k.told) c.self.view_is) c.self.invariant.0.image_is c.self.invariant.0.number_is c.requires.merged
@@ -267,3 +299,35 @@ returns-clause-answer g c =
     let fault = rw c.in-Err-Disk.field-0-is at c.in-Err-Disk.ensures.fault in
     subst (λ (k : Kept _). MayPlace k.told.opened k.told.events done) c.self.view_is
     (may_place t inside.halted inside.started.value inside.keeper c.self.invariant.1 done running c.requires.changed none _ size fault.0)
+
+pub returns-clause-holding : goal.returns-clause-holding
+returns-clause-holding g c =
+    let inside = c.self.inside in
+    let done = c.args.done.now in
+    let t = told_by g.K.Keeper.counts_pages g.K.Keeper.stored inside in
+    let stone = c.self.invariant.0 in
+    let merged_is = c.requires.merged ∙ ap (λ (k : Kept _). merged_objects (standing k.told).image done) (sym c.self.view_is)
+    ∙ ap (λ (i : Image). merged_objects i done) (sym c.self.invariant.0.image_is) in
+    let made = effect_made inside.image (inside.number + 1) done c.args.merged c.in_ok-effect.effect.objects merged_is c.in_ok-effect.ensures.objects in
+    let running = subst (λ (k : Kept _). IsRunning k.told.events) (sym c.self.view_is) c.requires.running in
+    let recorded = subst (λ (k : Kept _). IsRecorded k.told done) (sym c.self.view_is) c.requires.recorded in
+    let none = subst (λ (k : Kept _). conflicts_at (standing k.told) done ≡ []) (sym c.self.view_is) c.requires.no_conflict in
+    let fit = subst (λ (k : Kept _). MergesFit (standing k.told).image done) (sym c.self.view_is) c.requires.fit in
+    let placed = c.placed_as_recorded.ensures.placed t done stone.opening stone.consistent.serial running recorded none fit in
+    let effect = c.placed_as_recorded.ensures.effect t done stone.opening stone.consistent.serial recorded none in
+    let events_are : c.push-in-Err-Disk.new.self.items
+    ≡ inside.events.items ++ (done.session, Halted (inside.number + 1) (Some (entry_of done))) ∷ [] =
+    c.in-Ok-push-3.ensures.items ∙ ap₂ (λ events e. events ++ (done.session, Halted (inside.number + 1) (Some e)) ∷ [])
+    c.in_ok-reserve-2.ensures.items c.entry-in-Err-Disk.ensures in
+    let small : inside.number + 1 < 2 ^ 63 = let below = c.if-number-ge-NUMBER_LIMIT.false in omega (arith, below) in
+    let is_image = subst IsImage (c.image.view_is ∙ c.in_ok-image.ensures.image ∙ ap (with_objects inside.image) made) c.image.invariant in
+    let next = next_body t inside.image inside.number done c.in_ok-effect.effect c.deref.result.now stone.number_is small
+    c.in_ok-effect.ensures.number made c.in_ok-body.ensures.some is_image (c.deref.ensures.value ∙ c.in_ok-body.ensures.body)
+    (ap length c.deref.ensures.value ∙ c.in_ok-body.ensures.size) in
+    let objects_are = made ∙ effect_is t inside.image inside.number inside.locks inside.history.items _ stone done recorded placed effect in
+    subst (λ (k : Kept _). IsTrue g.K.Keeper.tells → KeepsOnly g.K.Keeper.moment g.K.Keeper.left_since k.keeper c.append.new.self
+    (MayBeLeftDuring k.told.opened k.told.events c.push-in-Err-Disk.new.self.items)) c.self.view_is
+    (λ told. held_flying t inside.halted inside.started.value inside.keeper c.self.invariant.1 _ done.session (inside.number + 1)
+    (entry_of done) c.in_ok-effect.effect _ events_are objects_are
+    (c.in-Err-Disk.ensures.any_moment (standing t).image (standing t).number c.in_ok-effect.effect told
+    (c.self.invariant.1.kept.now told running) next))
