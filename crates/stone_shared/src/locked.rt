@@ -72,6 +72,7 @@ impl<K: Keeper + Drop, N: Named<K>> Locked<K, N> {
             result.1.list begun.image begun.number) }
         ensures starved { IfErr result.0 (λ _. OthersCame session stamp.list result.1.list) }
         ensures stamp { IsStampAfter stamp result.1 }
+        ensures now { result.1.list ≡ self.new }
         ensures port { GoesOn session (port_at N.opened stamp) (port_at N.opened result.1) }
     {
         clock.meet(&mut self.pen, stamp);
@@ -94,6 +95,7 @@ impl<K: Keeper + Drop, N: Named<K>> Locked<K, N> {
         requires recorded { IsRecorded (told_at N.opened stamp) done.now }
         ensures says { CommitSays N.opened stamp.list result.1.list done.now result.0 }
         ensures stamp { IsStampAfter stamp result.1 }
+        ensures now { result.1.list ≡ self.new }
         ensures port { GoesOn done.now.session (port_at N.opened stamp)
             (port_at N.opened result.1) }
     {
@@ -124,6 +126,7 @@ impl<K: Keeper + Drop, N: Named<K>> Locked<K, N> {
         requires there { IsSome (get (standing (told_at N.opened stamp)).image oid) }
         ensures says { LockSays N.opened stamp.list result.1.list session oid kind result.0 }
         ensures stamp { IsStampAfter stamp result.1 }
+        ensures now { result.1.list ≡ self.new }
         ensures port { GoesOn session (port_at N.opened stamp) (port_at N.opened result.1) }
     {
         clock.meet(&mut self.pen, stamp);
@@ -145,6 +148,7 @@ impl<K: Keeper + Drop, N: Named<K>> Locked<K, N> {
         requires serves { (port_at N.opened stamp).serves session ≡ true }
         ensures says { UnlockSays N.opened stamp.list result.1.list session oid result.0 }
         ensures stamp { IsStampAfter stamp result.1 }
+        ensures now { result.1.list ≡ self.new }
         ensures port { GoesOn session (port_at N.opened stamp) (port_at N.opened result.1) }
     {
         clock.meet(&mut self.pen, stamp);
@@ -166,6 +170,7 @@ impl<K: Keeper + Drop, N: Named<K>> Locked<K, N> {
         requires serves { (port_at N.opened stamp).serves session ≡ true }
         ensures says { CheckSays N.opened stamp.list result.1.list session result.0 }
         ensures stamp { IsStampAfter stamp result.1 }
+        ensures now { result.1.list ≡ self.new }
         ensures port { GoesOn session (port_at N.opened stamp) (port_at N.opened result.1) }
     {
         clock.meet(&mut self.pen, stamp);
@@ -186,6 +191,7 @@ impl<K: Keeper + Drop, N: Named<K>> Locked<K, N> {
         requires serves { (port_at N.opened stamp).serves session ≡ true }
         ensures says { LogoutSays N.opened stamp.list result.list session }
         ensures stamp { IsStampAfter stamp result }
+        ensures now { result.list ≡ self.new }
         ensures port { GoesOn session (port_at N.opened stamp) (port_at N.opened result) }
     {
         clock.meet(&mut self.pen, stamp);
