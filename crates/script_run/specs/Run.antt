@@ -44,8 +44,7 @@ module _ {K : Type 0} (stored : K → Stored) (ready : K → Bool) (faults : K �
     (moment : K → ℕ) (stands : K → Option Found) (left_since : K → ℕ → Option Found → Type 0) where
   -- The sessions ran over a Stone that was opened so, with this keeper: the transcripts, if memory
   -- sufficed for them, are what they said by its events; the history has the commits. The events are
-  -- those of a Stone, and the keeper is what they leave of it: this holds
-  -- also where memory ran out.
+  -- those of a Stone, and the keeper is what they leave of it: this holds also where memory ran out.
   pub record HasRunOver (opened : Opened) (started : K) (ran : Ran K) : Type 0 where
     pub transcripts : IfOk ran.transcripts (λ transcripts.
         AreTranscripts (told_by opened ran) 1 opened.script transcripts.items)

@@ -1,6 +1,7 @@
 pub mod Adds
 pub mod ClaimedByOne
 pub mod Claims
+pub mod Faults
 pub mod Held
 pub mod Lines
 pub mod OneTranscript

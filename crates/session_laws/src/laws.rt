@@ -1,6 +1,6 @@
 //! What follows from the definitions alone. Each law is the contract of a function that does
 //! nothing.
-ghost use Rattle.std.specs.Prelude.{◌≡◌, ◌≤◌, ◌<◌, ◌-◌, ℕ, true, Some, List, [], ◌∷◌, ◌++◌, map};
+ghost use Rattle.std.specs.Prelude.{◌≡◌, ◌↔◌, ◌≤◌, ◌<◌, ◌-◌, ℕ, true, Some, List, [], ◌∷◌, ◌++◌, map};
 ghost use Rattle.std.specs.List.{slice_get, AllByRecursion};
 ghost use Rattle.std.specs.Option.{option_map};
 ghost use Rattle.gem_meaning.specs.shell_words.Script.{SessionCommands};
@@ -12,11 +12,12 @@ ghost use Rattle.gem_meaning.specs.declared.event.What.{What};
 ghost use Rattle.gem_meaning.specs.Commands.{is_run};
 ghost use Rattle.gem_meaning.specs.Lines.{said_lines};
 ghost use Rattle.gem_meaning.specs.Opened.{commands_of};
-ghost use Rattle.gem_meaning.specs.Events.{Event, Told, told_more, run_at_place, after_events, entry_in, events_of};
+ghost use Rattle.gem_meaning.specs.Events.{Event, Told, told_more, run_at_place, after_events, entry_in, events_of, IsRunning};
 ghost use Rattle.gem_meaning.specs.Session.{Says};
 ghost use Rattle.gem_meaning.specs.gem_replies.declared.reply.RunBook.{RunBook};
 ghost use Rattle.gem_meaning.specs.Legal.{IsLegal, WasServed};
 ghost use Rattle.gem_meaning.specs.Claims.{claimed_by, claims_of, lines_of};
+ghost use Rattle.session_laws.specs.Faults.{TellsFault, HasFault, HasFailedIn};
 ghost use Rattle.session_laws.specs.Places.{runs_before};
 ghost use Rattle.session_laws.specs.Points.{points_of, FailsBetweenNone};
 
@@ -64,6 +65,19 @@ pub fn claimed_by_one()
         (1 ≤ session) × (transcript : Transcript)
         × (slice_get book.transcripts (session - 1) ≡ Some transcript)
         × (transcript.session ≡ session) }
+{}
+
+/// In a legal run a transcript has a reply `disk fault` exactly where an event of its session tells
+/// that the disk failed. So no reply is `disk fault` where the disk hasn't failed, and one is where
+/// it has.
+pub fn faults_are_told()
+    ensures own { (t : Told) (book : RunBook) (session : ℕ) (transcript : Transcript) →
+        IsLegal t book → slice_get book.transcripts (session - 1) ≡ Some transcript →
+        1 ≤ session → TellsFault transcript ↔ HasFailedIn t.events session }
+    ensures running { (t : Told) (book : RunBook) → IsLegal t book → IsRunning t.events →
+        HasFault book → ⊥ }
+    ensures halted { (t : Told) (book : RunBook) → IsLegal t book → (IsRunning t.events → ⊥) →
+        HasFault book }
 {}
 
 /// What a session replies follows from all events and from how many of them it had seen when it
