@@ -1,5 +1,5 @@
 -- The numbers of a load, and how large one may be.
-use Rattle.std.specs.Prelude.{ℕ, zero, suc, ◌+◌, ◌*◌, ◌/◌, ◌%◌, ◌^◌, ◌≤◌, List, [], ◌∷◌}
+use Rattle.std.specs.Prelude.{ℕ, zero, suc, ◌+◌, ◌*◌, ◌/◌, ◌%◌, ◌^◌, ◌≤◌, List, [], ◌∷◌, sum, sum_by}
 use Rattle.load_maker.specs.declared.limits.TheConstants.{LOAD_SEED_LIMIT, LOAD_SESSION_LIMIT, LOAD_ROUND_LIMIT}
 
 abbrev pub IsSeed : ℕ → Type 0
@@ -36,3 +36,7 @@ abbrev pub load_numbers : (sessions rounds state : ℕ) → List (List ℕ)
 load_numbers zero rounds state = []
 load_numbers (suc sessions) rounds state =
     round_numbers rounds state ∷ load_numbers sessions rounds (state_after rounds state)
+
+-- what all numbers of a load add up to
+abbrev pub load_sum : (seed sessions rounds : ℕ) → ℕ
+load_sum seed sessions rounds = sum_by sum (load_numbers sessions rounds seed)

@@ -6,3 +6,4 @@ pub mod Choices
 pub mod Loads
 pub mod Commands
 pub mod Unique
+pub mod Ranges

@@ -1,6 +1,7 @@
 //! The scripts of a load, whole, and that each of them is a script.
 use load_maker::{
-    LOAD_ROUND_LIMIT, LOAD_SEED_LIMIT, LOAD_SESSION_LIMIT, load_script, setup_script, tally_script,
+    LOAD_ROUND_LIMIT, LOAD_SEED_LIMIT, LOAD_SESSION_LIMIT, load_script, load_sum, setup_script,
+    tally_script,
 };
 use shell_words::{Script, ScriptFault, read_script};
 use std::alloc::{AllocError, Global};
@@ -34,6 +35,15 @@ fn makes_the_whole_scripts(rt: HostRuntime) -> Result<(), Fail> {
     let alloc = rt.alloc();
     assert!(rt; is_load(alloc)?);
     assert!(rt; are_setup_and_tally(alloc)?);
+    Ok(())
+}
+
+// The numbers were computed outside, from the generator's rule.
+#[test]
+fn sums_of_loads(rt: HostRuntime) -> Result<(), Fail> {
+    assert_eq!(rt; load_sum(1, 2, 4), 42);
+    assert_eq!(rt; load_sum(7, 16, 50), 4047);
+    assert_eq!(rt; load_sum(LOAD_SEED_LIMIT, 1, 1), 9);
     Ok(())
 }
 
