@@ -37,9 +37,9 @@ use Rattle.gem_server.specs.declared.status.Ended.{Ended}
 use Rattle.gem_server.specs.declared.opening.Refused.{Refused}
 use Rattle.gem_server.specs.Devices.{Seen, seen, HasFailed, IsUnused, IsWritten, IsPartWritten}
 use Rattle.gem_server.specs.Writing.{HasWritten}
-use Rattle.gem_server.specs.Server.{IsRead, IsBlank, GivesScript, GivesNone, TellsOfSource}
+use Rattle.gem_server.specs.Server.{IsRead, IsBlank, IsBlankOver, GivesScript, GivesNone, TellsOfSource}
 use Rattle.gem_server.specs.Course.{IsHonest, Stays, IsOpenedOn, IsKeptOn}
-use Rattle.gem_server.specs.Serving.{HasNoRoom, IsWhyNot, HasNotRun, HasEnded, HasRun, ServesStore}
+use Rattle.gem_server.specs.Serving.{HasNoRoom, IsWhyNot, IsBlankBy, HasNotRun, HasEnded, HasRun, ServesStore}
 use Rattle.gem_server.specs.Starting.{IsFull, IsStarted, IsRefused, IsWhyRefused, kept_in, is_open}
 use Rattle.gem_server.specs.Finishing.{WritesSo, TellsRun, IsFinished}
 use Rattle.gem_server.proofs.ScriptRules.{IsSilent, script_read}
@@ -47,27 +47,33 @@ use Rattle.gem_server.proofs.Starting.{stays_unused}
 
 -- ---- It doesn't run.
 
+-- Why it doesn't, by the status, and that the events and the book are blank.
+record NotRun (tells : Bool) (source : Seen (Option Bytes)) (disk : Seen Past) (status : Status) (events : List Event) (book : RunBook) : Type 0 where
+  why : IsWhyNot tells source disk status
+  blank : IsBlankBy tells source disk status why events book
+
 not_run : (tells : Bool) (source sink : Seen (Option Bytes)) (disk : Seen Past) (status : Status) (events : List Event) (book : RunBook)
-    → IsRead source status → IsWhyNot tells source disk status → IsBlank events book → IsUnused sink → Stays tells disk
+    → IsRead source status → NotRun tells source disk status events book → IsUnused sink → Stays tells disk
     → ServesStore tells source sink disk status events book
-not_run tells source sink disk status events book read why blank unused stays = record {
+not_run tells source sink disk status events book read none unused stays = record {
   read = read;
-  course = inl (record { why = why; blank = blank; unwritten = unused; stays = stays });
+  course = inl (record { why = none.why; blank = none.blank; unwritten = unused; stays = stays });
   sink_fault_told = λ lt. let quiet = unused.quiet in absurd (omega (arith, lt, quiet));
   later = let quiet = unused.quiet in omega (arith, quiet);
 }
 
-why_unread : (tells : Bool) (source : Seen (Option Bytes)) (disk : Seen Past) (status : Status) → TellsOfSource status → IsWhyNot tells source disk status
-why_unread tells source disk (Script line rule) of = tt
-why_unread tells source disk ReadFault of = tt
-why_unread tells source disk NoMemory of = tt
-why_unread tells source disk Done of = absurd of
-why_unread tells source disk Usage of = absurd of
-why_unread tells source disk WriteFault of = absurd of
-why_unread tells source disk (NotStore flaw) of = absurd of
-why_unread tells source disk (SerialsUsed base sessions) of = absurd of
-why_unread tells source disk (NotEmpty extent log) of = absurd of
-why_unread tells source disk DiskFault of = absurd of
+not_read : (tells : Bool) (source : Seen (Option Bytes)) (disk : Seen Past) (status : Status) (events : List Event) (book : RunBook)
+    → TellsOfSource status → IsBlank events book → NotRun tells source disk status events book
+not_read tells source disk (Script line rule) events book of blank = record { why = tt; blank = blank }
+not_read tells source disk ReadFault events book of blank = record { why = tt; blank = blank }
+not_read tells source disk NoMemory events book of blank = record { why = tt; blank = blank }
+not_read tells source disk Done events book of blank = absurd of
+not_read tells source disk Usage events book of blank = absurd of
+not_read tells source disk WriteFault events book of blank = absurd of
+not_read tells source disk (NotStore flaw) events book of blank = absurd of
+not_read tells source disk (SerialsUsed base sessions) events book of blank = absurd of
+not_read tells source disk (NotEmpty extent log) events book of blank = absurd of
+not_read tells source disk DiskFault events book of blank = absurd of
 
 -- the source gave no script
 pub store_unread : (tells : Bool) (source sink : Seen (Option Bytes)) (disk : Seen Past) (given status : Status) (events : List Event) (book : RunBook)
@@ -75,77 +81,76 @@ pub store_unread : (tells : Bool) (source sink : Seen (Option Bytes)) (disk : Se
     → ServesStore tells source sink disk status events book
 store_unread tells source sink disk given status events book none is blank unused same =
     subst (λ (s : Status). ServesStore tells source sink disk s events book) (sym is)
-    (not_run tells source sink disk given events book none.read (why_unread tells source disk given none.of_source) blank unused (stays_unused tells disk same))
+    (not_run tells source sink disk given events book none.read (not_read tells source disk given events book none.of_source blank) unused (stays_unused tells disk same))
 
-full_why : (b s c d n : ℕ) → b ≡ c → s ≡ d → (serial_limit < c + d) ⊎ (most_at_opening < n) → (serial_limit < b + s) ⊎ (most_at_opening < n)
-full_why b s c d n b_is s_is (inl over) = inl (omega (arith, over, b_is, s_is))
-full_why b s c d n b_is s_is (inr over) = inr over
-
-base_in : Status → ℕ
-base_in (SerialsUsed base sessions) = base
-base_in _ = 0
-
-sessions_in : Status → ℕ
-sessions_in (SerialsUsed base sessions) = sessions
-sessions_in _ = 0
+-- the same events and book, with numbers that are the same
+blank_so : {number serial first base : ℕ} (events : List Event) (book : RunBook) → IsBlankOver first base events book
+    → first ≡ number → base ≡ serial → IsBlankOver number serial events book
+blank_so events book blank first_is base_is = record {
+  no_events = blank.no_events;
+  first = blank.first ∙ first_is;
+  base = blank.base ∙ base_is;
+  no_transcripts = blank.no_transcripts;
+  no_history = blank.no_history;
+}
 
 module _ {D : Type 0} (tells : Bool) (past : D → Past) (faults : D → ℕ) (disk : D) (script : List SessionCommands)
     (source sink : Seen (Option Bytes)) where
-  full_is : {disk' : D} (base sessions : ℕ) (found : FoundImage) → GivesScript source script
-      → (full : IsFull found script (SerialsUsed base sessions)) → SerialsUsed base sessions ≡ SerialsUsed full.base full.sessions
-      → (IsTrue tells → IsFound (store_of (as_read (past disk))) found)
-      → HasNoRoom tells source (seen past faults disk disk') base sessions
-  unfolding base_in sessions_in
-  full_is base sessions found gives full same held =
-      let base_is : base ≡ full.base = ap base_in same in
-      let sessions_is : sessions ≡ full.sessions = ap sessions_in same in
-      record {
-        text = gives.text;
-        given = gives.gave;
-        at_end = gives.at_end;
-        script = script;
-        reads = gives.reads;
-        sessions_are = sessions_is ∙ full.sessions_are;
-        opened = found;
-        found = held;
-        base_is = base_is ∙ full.base_is;
-        why = full_why base sessions full.base full.sessions found.number base_is sessions_is full.why;
-      }
+  full_is : {disk' : D} (base sessions : ℕ) (found : FoundImage) (events : List Event) (book : RunBook) → GivesScript source script
+      → IsFull found script base sessions → (IsTrue tells → IsFound (store_of (as_read (past disk))) found)
+      → IsBlankOver found.number base events book
+      → NotRun tells source (seen past faults disk disk') (SerialsUsed base sessions) events book
+  full_is base sessions found events book gives full held blank = record {
+    why = record {
+      text = gives.text;
+      given = gives.gave;
+      at_end = gives.at_end;
+      script = script;
+      reads = gives.reads;
+      sessions_are = full.sessions_are;
+      opened = found;
+      found = held;
+      base_is = full.base_is;
+      why = full.why;
+    };
+    blank = blank;
+  }
 
-  why_not : (status : Status) (disk' : D) → GivesScript source script → IsWhyRefused tells past faults disk script status disk'
-      → IsWhyNot tells source (seen past faults disk disk') status × IsSilent status
-  why_not (NotStore flaw) disk' gives why = (why, tt)
-  why_not (SerialsUsed base sessions) disk' gives (found, full, held) =
-      (full_is base sessions found gives full full.status_is held, tt)
-  why_not DiskFault disk' gives why = (why, tt)
-  why_not NoMemory disk' gives why = (tt, tt)
-  why_not Done disk' gives why = absurd why
-  why_not Usage disk' gives why = absurd why
-  why_not (Script line rule) disk' gives why = absurd why
-  why_not (NotEmpty extent log) disk' gives why = absurd why
-  why_not ReadFault disk' gives why = absurd why
-  why_not WriteFault disk' gives why = absurd why
+  why_not : (status : Status) (first base : ℕ) (disk' : D) (events : List Event) (book : RunBook) → GivesScript source script
+      → IsWhyRefused tells past faults disk script status first base disk' → IsBlankOver first base events book
+      → NotRun tells source (seen past faults disk disk') status events book × IsSilent status
+  why_not (NotStore flaw) first base disk' events book gives ((first_is, base_is), why) blank =
+      (record { why = why; blank = blank_so events book blank first_is base_is }, tt)
+  why_not (SerialsUsed from sessions) first base disk' events book gives (found, full, first_is, base_is, held) blank =
+      (full_is from sessions found events book gives full held (blank_so events book blank first_is base_is), tt)
+  why_not DiskFault first base disk' events book gives ((first_is, base_is), why) blank =
+      (record { why = why; blank = blank_so events book blank first_is base_is }, tt)
+  why_not NoMemory first base disk' events book gives (first_is, base_is) blank =
+      (record { why = tt; blank = blank_so events book blank first_is base_is }, tt)
+  why_not Done first base disk' events book gives why blank = absurd why
+  why_not Usage first base disk' events book gives why blank = absurd why
+  why_not (Script line rule) first base disk' events book gives why blank = absurd why
+  why_not (NotEmpty extent log) first base disk' events book gives why blank = absurd why
+  why_not ReadFault first base disk' events book gives why blank = absurd why
+  why_not WriteFault first base disk' events book gives why blank = absurd why
 
   -- the store can't be opened for it
   pub store_refused : (refused : Refused D) (ended : Ended D) → GivesScript source script
       → IsRefused tells past faults disk script refused → ended.status ≡ refused.status → ended.disk ≡ refused.disk
-      → IsBlank ended.events ended.book → IsUnused sink
+      → IsBlankOver refused.first refused.base ended.events ended.book → IsUnused sink
       → ServesStore tells source sink (seen past faults disk ended.disk) ended.status ended.events ended.book
   store_refused refused ended gives is status_is disk_is blank unused =
-      let why = why_not refused.status refused.disk gives is.why in
+      let why = why_not refused.status refused.first refused.base refused.disk ended.events ended.book gives is.why blank in
       subst (λ (s : Status). ServesStore tells source sink (seen past faults disk ended.disk) s ended.events ended.book) (sym status_is)
       (subst (λ d. ServesStore tells source sink (seen past faults disk d) refused.status ended.events ended.book) (sym disk_is)
       (not_run tells source sink (seen past faults disk refused.disk) refused.status ended.events ended.book
-      (script_read source script refused.status gives why.1) why.0 blank unused is.stays))
+      (script_read source script refused.status gives why.1) why.0 unused is.stays))
 
 -- ---- It runs.
 
 nothing_stood : (o : Opened) (events : List Event) (left : Option Found) → StandsFor o.image o.number left → MayHaveBeenLeft o events left
 unfolding after_events
 nothing_stood o events left stands = inl (record { before = []; more = events; split = refl; stands = stands })
-
-risen_since : (a b c : ℕ) → a ≤ b → HasRisen b c → HasRisen a c
-risen_since a b c le risen = grind (arith, le, risen)
 
 module _ {D : Type 0} (tells : Bool) (past : D → Past) (faults : D → ℕ) (disk : D) (script : List SessionCommands) where
   stands_at_first : (start : Start (StoreOf D)) → IsStarted tells past faults disk script start → IsTrue tells
@@ -165,7 +170,7 @@ module _ {D : Type 0} (tells : Bool) (past : D → Past) (faults : D → ℕ) (d
       → (IsTrue tells → StoresBy (as_read (past keeper.disk)) keeper.parts)
       → IsKeptOn tells (seen past faults disk keeper.disk) t
   kept_on start t keeper is opened kept stored = record {
-    cause = λ halted. risen_since (faults disk) (faults start.keeper.disk) (faults keeper.disk) is.later (kept.cause halted);
+    cause = λ halted. subst (λ (n : ℕ). HasRisen n (faults keeper.disk)) is.quiet (kept.cause halted);
     reads = λ told running. (kept.now told running).reads;
     stored = λ told running. subst (IsStoredIn (as_read (past keeper.disk))) (kept.has running)
         (stored_in_files (as_read (past keeper.disk)) keeper.parts (kept.is_ready running) (stored told));

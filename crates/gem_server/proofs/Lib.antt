@@ -5,6 +5,7 @@ pub mod Kernel
 pub mod Starting
 pub mod Courses
 pub mod Looks
+pub mod DiskFaults
 pub mod StoreCompletes
 pub mod Making
 pub mod Honest

@@ -23,6 +23,8 @@ use Rattle.gem_meaning.specs.Opened.{base_serial}
 use Rattle.gem_meaning.specs.Serial.{CanServe}
 use Rattle.script_run.specs.Run.{opened_by, CanRun}
 use Rattle.gem_server.specs.declared.status.Status.{Status}
+use Rattle.gem_server.specs.declared.status.Status.TheVariants.{SerialsUsed}
+use Rattle.gem_server.specs.declared.opening.Refused.{Refused}
 use Rattle.gem_server.specs.Devices.{Seen, seen, HasFailed}
 use Rattle.gem_server.specs.Course.{Stays, IsOpenedOn}
 use Rattle.gem_server.specs.Serving.{status_of_store}
@@ -51,10 +53,10 @@ module _ {D : Type 0} (tells : Bool) (past : D → Past) (faults : D → ℕ) (d
       → (IsTrue tells → IsFound (store_of (as_read (past disk))) found)
       → (IsTrue tells → FitsNow (store_moment past) (store_stands past) (store_left past) store (StandsFor found.image found.number))
       → (IsTrue tells → StoresBy (as_read (past disk)) store.parts)
-      → Stays tells (seen past faults disk store.disk) → faults disk ≤ faults store.disk
+      → Stays tells (seen past faults disk store.disk) → faults store.disk ≡ faults disk
       → IsStarted tells past faults disk script (record { image = found.image; number = found.number; base = base; keeper = store })
   unfolding base_serial
-  is_started found base store named go room is_ready is stands stored stays later =
+  is_started found base store named go room is_ready is stands stored stays quiet =
       let can_serve : CanServe (opened_by true kept_in (record { image = found.image; number = found.number; base = base; keeper = store }) script) = record {
         image = named;
         sound = go.sound;
@@ -76,33 +78,43 @@ module _ {D : Type 0} (tells : Bool) (past : D → Past) (faults : D → ℕ) (d
           stored = λ told. stored_there (as_read (past disk)) store.parts is_ready (stored told);
         };
         stays = stays;
-        later = later;
+        quiet = quiet;
       }
 
   why_refused : (why : StoreFault) (disk' : D) → (IsTrue tells → OpensNot (store_of (as_read (past disk))) why)
       → (why ≡ fault.Disk → HasFailed (seen past faults disk disk'))
-      → IsWhyRefused tells past faults disk script (status_of_store why) disk'
-  why_refused (fault.NotStore flaw) disk' flawed failed = flawed
-  why_refused fault.Disk disk' flawed failed = failed refl
-  why_refused fault.NoMemory disk' flawed failed = tt
+      → IsWhyRefused tells past faults disk script (status_of_store why) 0 0 disk'
+  why_refused (fault.NotStore flaw) disk' flawed failed = ((refl, refl), flawed)
+  why_refused fault.Disk disk' flawed failed = ((refl, refl), failed refl)
+  why_refused fault.NoMemory disk' flawed failed = (refl, refl)
 
-  pub is_refused : (why : StoreFault) (status : Status) (disk' back : D) → status ≡ status_of_store why → back ≡ disk'
+  -- what is refused, by its parts
+  refused_so : (refused : Refused D) (status : Status) (first base : ℕ) (disk' : D) → refused.status ≡ status → refused.first ≡ first
+      → refused.base ≡ base → refused.disk ≡ disk' → IsWhyRefused tells past faults disk script status first base disk'
+      → Stays tells (seen past faults disk disk')
+      → IsRefused tells past faults disk script refused
+  refused_so refused status first base disk' status_is first_is base_is disk_is why stays = record {
+    why = subst (λ (s : Status). IsWhyRefused tells past faults disk script s refused.first refused.base refused.disk) (sym status_is)
+        (subst (λ (n : ℕ). IsWhyRefused tells past faults disk script status n refused.base refused.disk) (sym first_is)
+        (subst (λ (n : ℕ). IsWhyRefused tells past faults disk script status first n refused.disk) (sym base_is)
+        (subst (λ (d : D). IsWhyRefused tells past faults disk script status first base d) (sym disk_is) why)));
+    stays = subst (λ (d : D). Stays tells (seen past faults disk d)) (sym disk_is) stays;
+  }
+
+  pub is_refused : (why : StoreFault) (refused : Refused D) (disk' : D) → refused.status ≡ status_of_store why → refused.first ≡ 0
+      → refused.base ≡ 0 → refused.disk ≡ disk'
       → (IsTrue tells → OpensNot (store_of (as_read (past disk))) why)
       → (why ≡ fault.Disk → HasFailed (seen past faults disk disk'))
       → Stays tells (seen past faults disk disk')
-      → IsRefused tells past faults disk script (record { status = status; disk = back })
-  is_refused why status disk' back status_is disk_is flawed failed stays = record {
-    why = subst (λ (s : Status). IsWhyRefused tells past faults disk script s back) (sym status_is)
-        (subst (IsWhyRefused tells past faults disk script (status_of_store why)) (sym disk_is) (why_refused why disk' flawed failed));
-    stays = subst (λ d. Stays tells (seen past faults disk d)) (sym disk_is) stays;
-  }
+      → IsRefused tells past faults disk script refused
+  is_refused why refused disk' status_is first_is base_is disk_is flawed failed stays =
+      refused_so refused (status_of_store why) 0 0 disk' status_is first_is base_is disk_is (why_refused why disk' flawed failed) stays
 
-  pub is_full : (found : FoundImage) (full status : Status) (disk' back : D) → IsFull found script full → status ≡ full → back ≡ disk'
+  pub is_full : (found : FoundImage) (base sessions : ℕ) (refused : Refused D) (disk' : D) → IsFull found script base sessions
+      → refused.status ≡ SerialsUsed base sessions → refused.first ≡ found.number → refused.base ≡ base → refused.disk ≡ disk'
       → (IsTrue tells → IsFound (store_of (as_read (past disk))) found)
       → Stays tells (seen past faults disk disk')
-      → IsRefused tells past faults disk script (record { status = status; disk = back })
-  is_full found full status disk' back is status_is disk_is held stays = record {
-    why = subst (λ (s : Status). IsWhyRefused tells past faults disk script s back) (sym (status_is ∙ is.status_is))
-        (found, subst (IsFull found script) is.status_is is, held);
-    stays = subst (λ d. Stays tells (seen past faults disk d)) (sym disk_is) stays;
-  }
+      → IsRefused tells past faults disk script refused
+  is_full found base sessions refused disk' full status_is first_is base_is disk_is held stays =
+      refused_so refused (SerialsUsed base sessions) found.number base disk' status_is first_is base_is disk_is
+      (found, full, refl, refl, held) stays

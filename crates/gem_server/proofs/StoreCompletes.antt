@@ -25,6 +25,7 @@ use Rattle.gem_server.specs.Serving.{HasNoRoom, IsWhyNot, HasEnded, HasRun, Serv
 use Rattle.gem_server.specs.Looking.{Checks, ChecksSo}
 use Rattle.gem_server.specs.Completeness.{HeldSound, HeldRoom, ServingCompletes, LookingCompletes}
 use Rattle.gem_server.proofs.Completes.{no_rule}
+use Rattle.gem_server.proofs.DiskFaults.{faults_have_cause}
 
 pub ok_is : (x y : Held) → ◌≡◌ {A = Result Held StoreFlaw} (Ok x) (Ok y) → x ≡ y
 ok_is x y e = cc
@@ -93,11 +94,13 @@ module _ (tells : Bool) (source sink : Seen (Option Bytes)) (disk : Seen Past) (
   run ReadFault events book has = absurd has.ended
 
 pub serving_completes : ServingCompletes
-serving_completes tells source sink disk status events book text script held serves here reads sound room no_read no_write no_disk =
-    elim serves.course [
-      | inl none ↦ unrun tells source sink disk text script held here reads sound room no_read no_write no_disk status serves.read none.why
-      | inr has ↦ run tells source sink disk text script held here reads sound room no_read no_write no_disk status events book has
-    ]
+serving_completes tells source sink disk status events book text script held serves here reads sound room no_read no_write no_disk = (
+  elim serves.course [
+    | inl none ↦ unrun tells source sink disk text script held here reads sound room no_read no_write no_disk status serves.read none.why
+    | inr has ↦ run tells source sink disk text script held here reads sound room no_read no_write no_disk status events book has
+  ],
+  λ told. no_disk (faults_have_cause tells source sink disk status events book serves told).1,
+)
 
 pub looking_completes : LookingCompletes
 looking_completes tells sink disk status held looks sound no_write no_disk = so status looks.so

@@ -10,6 +10,7 @@ use Rattle.gem_meaning.specs.Opened.{largest_serial}
 use Rattle.gem_meaning.specs.Events.{Event}
 use Rattle.gem_meaning.specs.Serial.{most_at_opening, serial_limit}
 use Rattle.gem_replies.specs.declared.reply.RunBook.{RunBook}
+use Rattle.script_run.specs.session_laws.Faults.{HasFault}
 use Rattle.gem_server.specs.declared.status.Status.{Status}
 use Rattle.gem_server.specs.declared.status.Status.TheVariants.{Done, NoMemory}
 use Rattle.gem_server.specs.Devices.{Seen, HasFailed}
@@ -34,7 +35,7 @@ ServingCompletes = (tells : Bool) (source sink : Seen (Option Bytes)) (disk : Se
     → source.before ≡ Some text → ReadsScript text script
     → HeldSound tells disk held → HeldRoom held script
     → (HasFailed source → ⊥) → (HasFailed sink → ⊥) → (HasFailed disk → ⊥)
-    → (status ≡ Done) ⊎ (status ≡ NoMemory)
+    → ((status ≡ Done) ⊎ (status ≡ NoMemory)) × (HasFault book → ⊥)
 
 abbrev pub LookingCompletes : Type 0
 LookingCompletes = (tells : Bool) (sink : Seen (Option Bytes)) (disk : Seen Past) (status : Status)

@@ -38,10 +38,10 @@ pub record IsOpenedOn (tells : Bool) (files : Files) (o : Opened) : Type 0 where
   pub stored : IsTrue tells → IsStoredIn files o.stored
 
 -- The disk after these events of a Stone that was opened with it. It failed in the call where they
--- tell so. Where they don't, it stands for the image and the number that stand after them, and has
--- stored what they say. A crash at the end leaves what stands after them, or that with the commit in
--- flight; and each crash since the call began has left what stood at some point of them, or that with
--- the commit in flight.
+-- tell so, and after the opening, which meets no fault where it succeeds. Where they don't, it stands
+-- for the image and the number that stand after them, and has stored what they say. A crash at the end
+-- leaves what stands after them, or that with the commit in flight; and each crash since the call
+-- began has left what stood at some point of them, or that with the commit in flight.
 pub record IsKeptOn (tells : Bool) (disk : Seen Past) (t : Told) : Type 0 where
   pub cause : (IsRunning t.events → ⊥) → HasFailed disk
   pub reads : IsTrue tells → IsRunning t.events

@@ -5,6 +5,7 @@ pub mod Alone
 pub mod Course
 pub mod Serving
 pub mod Looking
+pub mod DiskFaults
 pub mod Completeness
 pub mod Starting
 pub mod Finishing

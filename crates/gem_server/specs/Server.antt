@@ -73,13 +73,17 @@ pub record IsRead (source : Seen (Option Bytes)) (status : Status) : Type 0 wher
   pub fault_told : source.faults < source.faults_after → status ≡ ReadFault
   pub later : source.faults ≤ source.faults_after
 
--- no event, and a book without a transcript and without a commit
-pub record IsBlank (events : List Event) (book : RunBook) : Type 0 where
+-- No event, and a book without a transcript and without a commit. It has the number and the base of
+-- the store that was opened, or 0 and 0 where none was.
+pub record IsBlankOver (number serial : ℕ) (events : List Event) (book : RunBook) : Type 0 where
   pub no_events : events ≡ []
-  pub first : book.first ≡ 0
-  pub base : book.base ≡ 0
+  pub first : book.first ≡ number
+  pub base : book.base ≡ serial
   pub no_transcripts : book.transcripts ≡ []
   pub no_history : book.history ≡ []
+
+abbrev pub IsBlank : List Event → RunBook → Type 0
+IsBlank events book = IsBlankOver 0 0 events book
 
 -- The source gave this script to its end, and didn't fail.
 pub record GivesScript (source : Seen (Option Bytes)) (script : List SessionCommands) : Type 0 where

@@ -19,7 +19,7 @@ use Rattle.gem_meaning.specs.Serial.{IsConsistent, most_at_opening, serial_limit
 use Rattle.gem_server.specs.declared.status.Status.{Status}
 use Rattle.gem_server.specs.declared.status.Status.TheVariants.{Done, Script, NotStore, SerialsUsed, ReadFault, DiskFault, WriteFault, NoMemory}
 use Rattle.gem_server.specs.Devices.{Seen, HasFailed, IsUnused, IsWritten, IsPartWritten}
-use Rattle.gem_server.specs.Server.{IsRead, IsBlank}
+use Rattle.gem_server.specs.Server.{IsRead, IsBlank, IsBlankOver}
 use Rattle.gem_server.specs.Course.{Stays, IsOpenedOn, IsKeptOn}
 
 -- the status that tells why a store can't be opened
@@ -56,11 +56,18 @@ IsWhyNot tells source disk (SerialsUsed base sessions) = HasNoRoom tells source 
 IsWhyNot tells source disk DiskFault = HasFailed disk
 IsWhyNot tells source disk _ = ⊥
 
+-- What the book tells then: where the store was opened, and has no room, its number and its base.
+abbrev pub IsBlankBy : (tells : Bool) (source : Seen (Option Bytes)) (disk : Seen Past)
+    (status : Status) → IsWhyNot tells source disk status → List Event → RunBook → Type 0
+IsBlankBy tells source disk (SerialsUsed base sessions) room events book =
+    IsBlankOver room.opened.number base events book
+IsBlankBy tells source disk _ why events book = IsBlank events book
+
 -- The sessions didn't run, and nothing was written. What the files hold stays.
 pub record HasNotRun (tells : Bool) (source sink : Seen (Option Bytes)) (disk : Seen Past)
     (status : Status) (events : List Event) (book : RunBook) : Type 0 where
   pub why : IsWhyNot tells source disk status
-  pub blank : IsBlank events book
+  pub blank : IsBlankBy tells source disk status why events book
   pub unwritten : IsUnused sink
   pub stays : Stays tells disk
 

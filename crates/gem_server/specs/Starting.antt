@@ -25,14 +25,16 @@ pub record HasRoom (found : FoundImage) (script : List SessionCommands) (base : 
   pub serials : base + length script ≤ serial_limit
   pub number : found.number ≤ most_at_opening
 
--- there are not, and the status tells of it
-pub record IsFull (found : FoundImage) (script : List SessionCommands) (status : Status) : Type 0 where
-  pub base : ℕ
-  pub sessions : ℕ
-  pub status_is : status ≡ SerialsUsed base sessions
+-- there are not: so many sessions would have to begin at this base
+pub record IsFull (found : FoundImage) (script : List SessionCommands) (base sessions : ℕ)
+    : Type 0 where
   pub base_is : base ≡ largest_serial found.image + 1
   pub sessions_are : sessions ≡ length script
   pub why : (serial_limit < base + sessions) ⊎ (most_at_opening < found.number)
+
+-- the numbers of a store that wasn't opened
+abbrev pub IsUnopened : (first base : ℕ) → Type 0
+IsUnopened first base = (first ≡ 0) × (base ≡ 0)
 
 -- what a store has stored, and whether it is ready
 abbrev pub kept_in : {D : Type 0} → StoreOf D → Stored
@@ -43,24 +45,27 @@ is_open store = is_some store.parts
 
 module _ {D : Type 0} (tells : Bool) (past : D → Past) (faults : D → ℕ) (disk : D)
     (script : List SessionCommands) where
-  -- The store on the disk is open, and the script can be run over what it holds.
+  -- The store on the disk is open, the disk met no fault meanwhile, and the script can be run over
+  -- what the store holds.
   pub record IsStarted (start : Start (StoreOf D)) : Type 0 where
     pub can_run : CanRun true kept_in is_open tells (store_moment past) (store_stands past)
         (store_left past) start script
     pub opened_on : IsOpenedOn tells (as_read (past disk)) (opened_by true kept_in start script)
     pub stays : Stays tells (seen past faults disk start.keeper.disk)
-    pub later : faults disk ≤ faults start.keeper.disk
+    pub quiet : faults start.keeper.disk ≡ faults disk
 
-  -- why it can't be
-  abbrev pub IsWhyRefused : Status → (disk' : D) → Type 0
-  IsWhyRefused (NotStore flaw) disk' = IsTrue tells → IsFlawed (store_of (as_read (past disk))) flaw
-  IsWhyRefused (SerialsUsed base sessions) disk' = (found : FoundImage)
-      × IsFull found script (SerialsUsed base sessions)
+  -- Why it can't be. The two numbers are those of the store, where it was opened.
+  abbrev pub IsWhyRefused : Status → (first base : ℕ) → (disk' : D) → Type 0
+  IsWhyRefused (NotStore flaw) first base disk' = IsUnopened first base
+      × (IsTrue tells → IsFlawed (store_of (as_read (past disk))) flaw)
+  IsWhyRefused (SerialsUsed from sessions) first base disk' = (found : FoundImage)
+      × IsFull found script from sessions × (first ≡ found.number) × (base ≡ from)
       × (IsTrue tells → IsFound (store_of (as_read (past disk))) found)
-  IsWhyRefused DiskFault disk' = HasFailed (seen past faults disk disk')
-  IsWhyRefused NoMemory disk' = Unit {0}
-  IsWhyRefused _ disk' = ⊥
+  IsWhyRefused DiskFault first base disk' = IsUnopened first base
+      × HasFailed (seen past faults disk disk')
+  IsWhyRefused NoMemory first base disk' = IsUnopened first base
+  IsWhyRefused _ first base disk' = ⊥
 
   pub record IsRefused (refused : Refused D) : Type 0 where
-    pub why : IsWhyRefused refused.status refused.disk
+    pub why : IsWhyRefused refused.status refused.first refused.base refused.disk
     pub stays : Stays tells (seen past faults disk refused.disk)

@@ -3,10 +3,19 @@
 ghost use Rattle.std.specs.Prelude.{[]};
 ghost use Rattle.gem_disk.specs.Disk.{Files};
 ghost use Rattle.gem_server.specs.Course.{IsHonest};
+ghost use Rattle.gem_server.specs.DiskFaults.{FaultsHaveCause, FaultsAreTold, NoFaultAlone};
 ghost use Rattle.gem_server.specs.Completeness.{ServingCompletes, LookingCompletes};
 
+/// A reply is `disk fault` only where the handed disk failed in the call, and then the status is
+/// DiskFault. Where that is the status of a run, such a reply stands in the book.
+pub fn disk_faults_are_told()
+    ensures cause { FaultsHaveCause }
+    ensures told { FaultsAreTold }
+    ensures alone { NoFaultAlone }
+{}
+
 /// Nothing but a device, or want of memory, keeps a script from its report over a store that holds a
-/// sound image with room for the sessions.
+/// sound image with room for the sessions; and where the disk didn't fail no reply says that it did.
 pub fn serving_completes()
     ensures { ServingCompletes }
 {}

@@ -23,6 +23,10 @@ pub(crate) const NUMBER_LIMIT: u64 = 1 << 62;
 pub(crate) struct Refused<D: Drop> {
     /// Why.
     pub status: Status,
+    /// The number of commits in the image of the store, or 0 where it wasn't opened.
+    pub first: u64,
+    /// The serial from which those of sessions would go on there, or 0.
+    pub base: u32,
     /// The disk that was handed in.
     pub disk: D,
 }
@@ -39,7 +43,7 @@ pub(crate) fn open_for<D: Disk + Drop>(
     let Opened { result, store } = open_store(alloc, disk);
     let found = match result {
         Ok(found) => found,
-        Err(fault) => return Err(refused_over(Status::of_store(fault), store)),
+        Err(fault) => return Err(refused_over(Status::of_store(fault), 0, 0, store)),
     };
     found.image.invariant();
     match room_for(&found, script) {
@@ -49,29 +53,49 @@ pub(crate) fn open_for<D: Disk + Drop>(
             base,
             keeper: store,
         }),
-        Err(status) => Err(refused_over(status, store)),
+        Err(none) => {
+            let (base, sessions) = (none.base, none.sessions);
+            let status = Status::SerialsUsed { base, sessions };
+            Err(refused_over(status, found.number, base, store))
+        }
     }
 }
 
-fn refused_over<D: Disk + Drop>(status: Status, store: Store<D>) -> Refused<D>
+fn refused_over<D: Disk + Drop>(
+    status: Status,
+    first: u64,
+    base: u32,
+    store: Store<D>,
+) -> Refused<D>
     ensures status { result.status ≡ status }
+    ensures first { result.first ≡ first }
+    ensures base { result.base ≡ base }
     ensures disk { result.disk ≡ store.disk }
 {
     Refused {
         status,
+        first,
+        base,
         disk: store.close(),
     }
 }
 
+// So many sessions would have to begin at this serial.
+#[derive(Drop)]
+struct NoRoom {
+    base: u32,
+    sessions: u32,
+}
+
 // The serial of the first session, where there are serials and numbers for all of them.
-fn room_for(found: &FoundImage, script: &Script) -> Result<u32, Status>
+fn room_for(found: &FoundImage, script: &Script) -> Result<u32, NoRoom>
     ensures ok { IfOk result (HasRoom found.now script.now) }
-    ensures err { IfErr result (IsFull found.now script.now) }
+    ensures err { IfErr result (λ none. IsFull found.now script.now none.base none.sessions) }
 {
     let base = largest_serial(&found.image) + 1;
     let sessions = script.sessions().len() as u32;
     if base + sessions > SERIAL_LIMIT || found.number > NUMBER_LIMIT {
-        return Err(Status::SerialsUsed { base, sessions });
+        return Err(NoRoom { base, sessions });
     }
     Ok(base)
 }

@@ -40,12 +40,14 @@ use std::thread::Threads;
 /// - `SerialsUsed`: the image of the store has no room for the sessions.
 /// - `NotEmpty`: a store was to be made of files that aren't empty.
 /// - `ReadFault`: the source failed.
-/// - `DiskFault`: the disk failed. Where the sessions had run, the report was written all the same.
+/// - `DiskFault`: the disk failed. Where the sessions had run, the report was written, or a part of
+///   it from the front where the sink failed, too.
 /// - `WriteFault`: the sink failed, after a part of the report or the line from the front.
 /// - `NoMemory`: memory ran out before the first byte was written.
 ///
 /// Where sessions ran, the book has their transcripts and the commits, and the events are what
-/// happened to the Stone; with `NoMemory` the transcripts are missing. Else both are blank.
+/// happened to the Stone; with `NoMemory` the transcripts are missing. Else both are blank, but that
+/// with `SerialsUsed` the book of `serve` has the number and the base of the store.
 ///
 /// The sessions of a script run side by side, each in a thread of its own, and pass the gate: before
 /// the login, before each command, and before the logout. It may hold them, and so fix their order;

@@ -3,11 +3,12 @@ ghost use Rattle.std.specs.Prelude.{◌≡◌, [], IsTrue};
 ghost use Rattle.gem_disk.specs.Disk.{as_read};
 ghost use Rattle.stone_store.specs.Whole.{StoresBy};
 ghost use Rattle.gem_server.specs.Devices.{seen};
+ghost use Rattle.gem_server.specs.Server.{IsBlankOver};
 ghost use Rattle.gem_server.specs.Serving.{ServesStore};
 ghost use Rattle.gem_server.specs.Finishing.{IsFinished, TellsRun};
 
 use crate::intake::take_script;
-use crate::opening::open_for;
+use crate::opening::{Refused, open_for};
 use crate::output::write_out;
 use crate::status::{Ended, Events, Status};
 use gem_disk::Disk;
@@ -39,11 +40,26 @@ pub(crate) fn serve_store<
     };
     let start = match open_for(alloc, disk, &script) {
         Ok(start) => start,
-        Err(refused) => return Ended::blank(alloc, refused.status, refused.disk),
+        Err(refused) => return unserved(alloc, refused),
     };
     let (first, base) = (start.number, start.base);
     let ran = run_script(rt, alloc, gate, start, script);
     finish(alloc, first, base, ran, sink)
+}
+
+// The end where no session ran. The book tells of the store where it was opened.
+fn unserved<D: Disk + Drop>(alloc: Global, refused: Refused<D>) -> Ended<D>
+    ensures status { result.status ≡ refused.status }
+    ensures blank { IsBlankOver refused.first refused.base result.events result.book }
+    ensures disk { result.disk ≡ refused.disk }
+{
+    let Refused {
+        status,
+        first,
+        base,
+        disk,
+    } = refused;
+    Ended::blank_over(alloc, status, first, base, disk)
 }
 
 // Writes the report of a run, and gives back the disk.

@@ -1,6 +1,6 @@
 //! How a call of the server ends.
 ghost use Rattle.std.specs.Prelude.{◌≡◌};
-ghost use Rattle.gem_server.specs.Server.{IsBlank, status_of};
+ghost use Rattle.gem_server.specs.Server.{IsBlank, IsBlankOver, status_of};
 ghost use Rattle.gem_server.specs.Serving.{status_of_store};
 
 use gem_meaning::What;
@@ -82,8 +82,9 @@ pub struct Served {
 pub struct Ended<D: Drop> {
     /// How it ended.
     pub status: Status,
-    /// What the sessions replied, and what was committed. It is blank where no sessions ran. Where
-    /// memory ran out when they had, it has the commits and no replies.
+    /// What the sessions replied, and what was committed. It is blank where no sessions ran, but
+    /// for the number and the base of a store that was opened and has no room for them. Where memory
+    /// ran out when they had run, it has the commits and no replies.
     pub book: RunBook,
     /// What happened to the Stone, in order. Blank where no sessions ran.
     pub events: Events,
@@ -98,11 +99,27 @@ impl<D: Drop> Ended<D> {
         ensures blank { IsBlank result.events result.book }
         ensures disk { result.disk ≡ disk }
     {
+        Ended::blank_over(alloc, status, 0, 0, disk)
+    }
+
+    // The same over a store that was opened, with the number of commits in its image and the serial
+    // from which those of sessions go on there.
+    pub(crate) fn blank_over(
+        alloc: Global,
+        status: Status,
+        first: u64,
+        base: u32,
+        disk: D,
+    ) -> Ended<D>
+        ensures status { result.status ≡ status }
+        ensures blank { IsBlankOver first base result.events result.book }
+        ensures disk { result.disk ≡ disk }
+    {
         Ended {
             status,
             book: RunBook {
-                first: 0,
-                base: 0,
+                first,
+                base,
                 transcripts: Sequence::of(Vec::new(alloc)),
                 history: Sequence::of(Vec::new(alloc)),
             },

@@ -9,8 +9,8 @@ returns-in-Err g c =
 
 pub returns-in-Err-open_for : goal.returns-in-Err-open_for
 returns-in-Err-open_for g c =
-    store_refused g.D.Disk.tells g.D.Disk.past g.D.Disk.faults c.args.disk c.in-Ok.script _ _ c.in-Err-open_for.refused c.blank-in-Err-open_for.result
-    c.in-Ok.ensures.ok c.in-Err-open_for.ensures.err c.blank-in-Err-open_for.ensures.status c.blank-in-Err-open_for.ensures.disk c.blank-in-Err-open_for.ensures.blank (record { same = refl; quiet = refl })
+    store_refused g.D.Disk.tells g.D.Disk.past g.D.Disk.faults c.args.disk c.in-Ok.script _ _ c.in-Err-open_for.refused c.unserved.result
+    c.in-Ok.ensures.ok c.in-Err-open_for.ensures.err c.unserved.ensures.status c.unserved.ensures.disk c.unserved.ensures.blank (record { same = refl; quiet = refl })
 
 pub returns : goal.returns
 returns g c =
