@@ -260,7 +260,15 @@ fn is_unknown<R: Threads + Wait + Sync>(rt: &R, alloc: Global, line: &str) -> Re
 #[test]
 fn other_words(rt: HostRuntime) -> Result<(), Fail> {
     let alloc = rt.alloc();
-    for line in &["", "check", "Serve", "serve x", "serve serve", "--help"] {
+    for line in &[
+        "",
+        "check",
+        "Serve",
+        "serve x",
+        "serve x y z",
+        "serve serve",
+        "--help",
+    ] {
         assert!(rt; is_unknown(&rt, alloc, line)?, "{line}");
     }
     Ok(())

@@ -4,6 +4,10 @@
 #[cfg(test)]
 mod alone_tests;
 #[cfg(test)]
+mod faults_tests;
+#[cfg(test)]
+mod limits_tests;
+#[cfg(test)]
 mod reports;
 #[cfg(test)]
 mod store_tests;

@@ -9,16 +9,16 @@ use std::sync::Wait;
 use std::test::Fail;
 use std::thread::Threads;
 
-// What a call over a store leaves.
+/// What a call over a store leaves.
 #[derive(Drop)]
-struct Left {
-    status: Status,
-    written: Vec<u8>,
-    disk: MemDisk,
+pub(crate) struct Left {
+    pub(crate) status: Status,
+    pub(crate) written: Vec<u8>,
+    pub(crate) disk: MemDisk,
 }
 
-// Does what the words ask for. From this call a caller's proof learns nothing, so it stays short.
-fn done<R: Threads + Wait + Sync>(
+/// Does what the words ask for. From this call a caller's proof learns nothing, so it stays short.
+pub(crate) fn done<R: Threads + Wait + Sync>(
     rt: &R,
     alloc: Global,
     command: &str,
@@ -42,7 +42,8 @@ fn done<R: Threads + Wait + Sync>(
     })
 }
 
-fn empty(alloc: Global) -> MemDisk {
+/// A disk of two empty files.
+pub(crate) fn empty(alloc: Global) -> MemDisk {
     MemDisk::new(Vec::new(alloc), Vec::new(alloc))
 }
 

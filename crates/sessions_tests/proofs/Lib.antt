@@ -1,4 +1,5 @@
 mod Alone
+mod Arrived
 mod Beside
 mod Crowded
 mod InTurn

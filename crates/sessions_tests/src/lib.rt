@@ -8,6 +8,8 @@ mod full_extent_tests;
 #[cfg(test)]
 mod full_log_tests;
 #[cfg(test)]
+mod gate_tests;
+#[cfg(test)]
 mod gem_replies_tests;
 #[cfg(test)]
 mod gem_session_tests;
