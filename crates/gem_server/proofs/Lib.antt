@@ -9,3 +9,4 @@ pub mod DiskFaults
 pub mod StoreCompletes
 pub mod Making
 pub mod Honest
+pub mod Demos

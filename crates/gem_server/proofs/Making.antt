@@ -32,7 +32,7 @@ nothing_held = record { root = None; records = [] }
 empty_holds : store_of (record { extent = []; log = [] }) ≡ Ok nothing_held
 empty_holds = refl
 
-empty_store : (files : Files) → AreEmpty files → store_of files ≡ Ok nothing_held
+pub empty_store : (files : Files) → AreEmpty files → store_of files ≡ Ok nothing_held
 empty_store files none =
     let same : files ≡ record { extent = []; log = [] } = λ i. record { extent = none.0 i; log = none.1 i } in
     ap store_of same ∙ empty_holds

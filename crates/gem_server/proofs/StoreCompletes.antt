@@ -42,7 +42,7 @@ no_flaw store held (flaw.Image oid rule) is sound (other, other_is, breaks) =
     breaks.broken (subst (λ (h : Held). IsSoundImage (image_of h)) same sound _ _)
 
 -- the text that was given is the source's whole
-whole_text : (text given : Bytes) (left : Option Bytes) → Consumes (Some text) left given → IsAtEnd left → text ≡ given
+pub whole_text : (text given : Bytes) (left : Option Bytes) → Consumes (Some text) left given → IsAtEnd left → text ≡ given
 whole_text text given None gave at_end = absurd gave
 whole_text text given (Some rest) gave at_end = gave ∙ ap (λ r. given ++ r) at_end ∙ append-nil given
 

@@ -16,6 +16,7 @@ use Rattle.gem_server.specs.declared.status.Status.TheVariants.{Done, NoMemory}
 use Rattle.gem_server.specs.Devices.{Seen, HasFailed}
 use Rattle.gem_server.specs.Serving.{ServesStore}
 use Rattle.gem_server.specs.Looking.{Checks}
+use Rattle.gem_server.specs.Demo.{Demos}
 
 -- the disk tells that the files held this, with a sound image
 pub record HeldSound (tells : Bool) (disk : Seen Past) (held : Held) : Type 0 where
@@ -41,3 +42,9 @@ abbrev pub LookingCompletes : Type 0
 LookingCompletes = (tells : Bool) (sink : Seen (Option Bytes)) (disk : Seen Past) (status : Status)
     (held : Held) → Checks tells sink disk status → HeldSound tells disk held
     → (HasFailed sink → ⊥) → (HasFailed disk → ⊥) → (status ≡ Done) ⊎ (status ≡ NoMemory)
+
+abbrev pub DemoCompletes : Type 0
+DemoCompletes = (seed sessions rounds : ℕ) (sink : Seen (Option Bytes)) (status : Status)
+    (events : List Event) (book : RunBook)
+    → Demos seed sessions rounds sink status events book → (HasFailed sink → ⊥)
+    → (status ≡ Done) ⊎ (status ≡ NoMemory)

@@ -5,6 +5,8 @@ pub mod Alone
 pub mod Course
 pub mod Serving
 pub mod Looking
+pub mod Demo
+pub mod DemoParts
 pub mod DiskFaults
 pub mod Completeness
 pub mod Starting

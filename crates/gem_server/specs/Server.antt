@@ -2,7 +2,7 @@
 use Rattle.std.specs.Prelude.{◌≡◌, ◌↔◌, ℕ, ◌<◌, ◌≤◌, ◌⊎◌, List, [], length, Option}
 use Rattle.std.specs.Io.KnownBytes.{Consumes, IsAtEnd}
 use Rattle.gem_object.specs.texts.Bytes.{Bytes}
-use Rattle.program_words.specs.Asked.{Files as Named, serve_alone, serve_store, init_store, check_store}
+use Rattle.program_words.specs.Asked.{Files as Named, serve_alone, serve_store, init_store, check_store, serve_load}
 use Rattle.program_words.specs.WordsGrammar.{ReadsWords}
 use Rattle.shell_words.specs.declared.limits.TheConstants.{SCRIPT_LIMIT}
 use Rattle.shell_words.specs.Script.{SessionCommands}
@@ -32,9 +32,19 @@ AsksInit words = (files : Named) × ReadsWords words (init_store files)
 abbrev pub AsksCheck : List Bytes → Type 0
 AsksCheck words = (files : Named) × ReadsWords words (check_store files)
 
+-- for a load of these numbers
+abbrev pub AsksDemo : List Bytes → (seed sessions rounds : ℕ) → Type 0
+AsksDemo words seed sessions rounds = ReadsWords words (serve_load seed sessions rounds)
+
+-- for some load
+abbrev pub AsksSomeDemo : List Bytes → Type 0
+AsksSomeDemo words =
+    (seed : ℕ) × ((sessions : ℕ) × ((rounds : ℕ) × AsksDemo words seed sessions rounds))
+
 -- for one of these
 abbrev pub AsksSome : List Bytes → Type 0
 AsksSome words = AsksAlone words ⊎ AsksStore words ⊎ AsksInit words ⊎ AsksCheck words
+    ⊎ AsksSomeDemo words
 
 -- ---- The script.
 

@@ -4,7 +4,7 @@ ghost use Rattle.std.specs.Prelude.{[]};
 ghost use Rattle.gem_disk.specs.Disk.{Files};
 ghost use Rattle.gem_server.specs.Course.{IsHonest};
 ghost use Rattle.gem_server.specs.DiskFaults.{FaultsHaveCause, FaultsAreTold, NoFaultAlone};
-ghost use Rattle.gem_server.specs.Completeness.{ServingCompletes, LookingCompletes};
+ghost use Rattle.gem_server.specs.Completeness.{ServingCompletes, LookingCompletes, DemoCompletes};
 
 /// A reply is `disk fault` only where the handed disk failed in the call, and then the status is
 /// DiskFault. Where that is the status of a run, such a reply stands in the book.
@@ -24,6 +24,11 @@ pub fn serving_completes()
 /// that holds a sound image.
 pub fn looking_completes()
     ensures { LookingCompletes }
+{}
+
+/// Nothing but the sink, or want of memory, keeps the lines from being written that tell of a load.
+pub fn demo_completes()
+    ensures { DemoCompletes }
 {}
 
 /// What is said of crashes since a call's start holds of a disk with nothing pending.

@@ -4,6 +4,7 @@
 #![tactic(auto)]
 
 mod alone;
+mod demo;
 mod intake;
 pub mod laws;
 mod looking;

@@ -6,10 +6,11 @@ use Rattle.program_words.specs.WordsGrammar.{ReadsWords}
 use Rattle.gem_server.specs.declared.status.Status.{Status}
 use Rattle.gem_server.specs.declared.status.Status.TheVariants.{Usage}
 use Rattle.gem_server.specs.Devices.{Seen}
-use Rattle.gem_server.specs.Server.{AsksAlone, AsksStore, AsksInit, AsksCheck, AsksSome}
+use Rattle.gem_server.specs.Server.{AsksAlone, AsksStore, AsksInit, AsksCheck, AsksDemo, AsksSome}
 use Rattle.gem_server.specs.Alone.{ServesAlone}
 use Rattle.gem_server.specs.Serving.{ServesStore}
 use Rattle.gem_server.specs.Looking.{Checks, Inits}
+use Rattle.gem_server.specs.Demo.{Demos}
 use Rattle.gemstone.specs.declared.failure.Failure.{Failure}
 use Rattle.gemstone.specs.Failure.{failure_of}
 
@@ -32,6 +33,8 @@ pub record HasEnded (tells : Bool) (words : List (List ℕ)) (source sink : Seen
       × ServesStore tells source sink disk status events book))
   pub init : AsksInit words → (disk : Seen Past) × Inits tells sink disk status
   pub check : AsksCheck words → (disk : Seen Past) × Checks tells sink disk status
+  pub demo : (seed sessions rounds : ℕ) → AsksDemo words seed sessions rounds
+      → (events : _) × ((book : _) × Demos seed sessions rounds sink status events book)
 
 -- The program fails as the status of what was asked for says.
 abbrev pub Ends : {T : Type 0} → Bool → List (List ℕ) → (source sink : Seen (Option (List ℕ)))

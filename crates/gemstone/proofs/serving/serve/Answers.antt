@@ -14,6 +14,8 @@ returns g c =
         store = λ asks. (disk, (c.gemstone.result.events, (c.gemstone.result.book, ends.store asks)));
         init = λ asks. (disk, (ends.init asks).0);
         check = λ asks. (disk, (ends.check asks).0);
+        demo = λ seed sessions rounds asks.
+            (c.gemstone.result.events, (c.gemstone.result.book, (ends.demo seed sessions rounds asks).0));
       },
       c.end_of.ensures,
     )

@@ -1,0 +1,418 @@
+-- A generated load, from what each of its scripts leaves to how the call ends.
+use Rattle.std.proofs.Common.{◌≡◌, ◌⊎◌, ℕ, zero, suc, ◌+◌, ◌*◌, ◌<◌, ◌≤◌, Bool, true, false, not, List, [], ◌∷◌, ◌++◌, length, sum_by, Option, Some, None, option_map, Result, Ok, Err, IfOk, refl, sym, ap, ap₂, subst, codes, ◌∙◌, inl, inr, append_assoc, arith}
+use Rattle.std.specs.Fmt.{decimal}
+use Rattle.std.specs.Str.{bytes_eq}
+use Rattle.std.proofs.lemmas.Slice.Eq.{bytes_eq-Decides}
+use Rattle.std.specs.Io.KnownBytes.{Consumes, Appends}
+use Rattle.std.specs.FinMap.{get}
+use Rattle.std.proofs.lemmas.Nat.{mul-le}
+use Rattle.radix_pages.proofs.Tables.{same_keys}
+use Rattle.gem_object.specs.texts.Bytes.{Bytes}
+use Rattle.gem_object.specs.declared.object.Object.{Object}
+use Rattle.gem_disk.specs.Disk.{Files, Past, as_read}
+use Rattle.gem_image.specs.Image.{Image}
+use Rattle.gem_record.specs.Stored.{Root, Stored}
+use Rattle.gem_record.specs.declared.record.Entry.{Entry}
+use Rattle.gem_keeper.specs.Found.{Found, found_object, StandsFor}
+use Rattle.kernel_image.specs.Objects.{kernel_image}
+use Rattle.shell_words.specs.ScriptGrammar.{ReadsScript}
+use Rattle.stone_store.specs.declared.fault.StoreFlaw.{StoreFlaw}
+use Rattle.stone_store.specs.Store.{Held, root_number, misfit, held_unless, held_over, held_by, store_of, image_of, number_of, found_in, found_by, found_of}
+use Rattle.stone_store.specs.Opening.{IsFound}
+use Rattle.stone_store.specs.Resting.{IsStoredIn}
+use Rattle.stone_store.proofs.Images.{settled_is_found}
+use Rattle.program_words.specs.Asked.{Asked, serve_load}
+use Rattle.program_words.specs.WordsGrammar.{ReadsWords}
+use Rattle.program_words.proofs.Ranges.{demo_in_range}
+use Rattle.load_maker.specs.Numbers.{load_sum}
+use Rattle.load_maker.specs.Scripts.{setup_text, load_text, tally_text}
+use Rattle.gem_replies.specs.Report.{report_of}
+use Rattle.gem_replies.specs.declared.reply.RunBook.{RunBook}
+use Rattle.gem_meaning.specs.declared.event.What.TheVariants.{Placed, Held as Locked, Dropped, Left, Checked, Halted}
+use Rattle.gem_meaning.specs.Opened.{Opened}
+use Rattle.gem_meaning.specs.Events.{Event, Told, entries_of, after_events}
+use Rattle.gem_meaning.specs.After.{stored_after}
+use Rattle.stone_core.specs.Crashes.{StandsAfter}
+use Rattle.gem_server.specs.declared.demo.Part.{Part}
+use Rattle.gem_server.specs.declared.status.Status.{Status}
+use Rattle.gem_server.specs.declared.status.Status.TheVariants.{Done, Usage, Script, NotStore, SerialsUsed, NotEmpty, ReadFault, DiskFault, WriteFault, NoMemory}
+use Rattle.gem_server.specs.Devices.{Seen, HasFailed, IsUnused}
+use Rattle.gem_server.specs.Writing.{HasWritten}
+use Rattle.gem_server.specs.Server.{IsBlank}
+use Rattle.gem_server.specs.Course.{IsOpenedOn}
+use Rattle.gem_server.specs.Serving.{HasRun, ServesStore}
+use Rattle.gem_server.specs.Demo.{IsLoad, commits_of, demo_lines, tally_report, IsServedOver, new_opening, IsServedSetup, IsLoadOver, IsServedTally, IsServedLoad, DemosSo, Demos}
+use Rattle.gem_server.specs.Completeness.{DemoCompletes}
+use Rattle.gem_server.specs.DemoParts.{IsPart, OnlyCommits}
+use Rattle.gem_server.proofs.StoreCompletes.{ok_is, whole_text}
+use Rattle.gem_server.proofs.Making.{nothing_held, empty_store}
+
+-- ---- One script.
+
+module _ (text written : Bytes) (source sink : Seen (Option Bytes)) (disk : Seen Past) (events : List Event) (book : RunBook)
+    (given : source.before ≡ Some text) (nothing : sink.before ≡ Some []) (took : sink.after ≡ Some written) where
+  -- what a script leaves that was served with `Done`
+  pub record IsDone : Type 0 where
+    pub opened : Opened
+    pub served : IsServedOver text (as_read disk.before) (as_read disk.after) (record { opened = opened; events = events }) book
+    pub report : written ≡ report_of book
+
+  has_run : HasRun true source sink disk Done events book → IsDone
+  has_run has =
+      let same : text ≡ has.text =
+      whole_text text has.text source.after (subst (λ (b : Option Bytes). Consumes b source.after has.text) given has.given) has.at_end in
+      record {
+        opened = has.opened;
+        served = record {
+          reads = subst (λ (t : Bytes). ReadsScript t has.opened.script) (sym same) has.reads;
+          opened_on = has.opened_on;
+          legal = has.ended.0;
+          running = has.ended.1;
+          stands = has.kept.reads refl has.ended.1;
+          stored = has.kept.stored refl has.ended.1;
+        };
+        report = subst (λ (b : Option Bytes). Appends (Some []) b (report_of book)) took
+            (subst (λ (a : Option Bytes). Appends a sink.after (report_of book)) nothing has.ended.2);
+      }
+
+  pub is_done : ServesStore true source sink disk Done events book → IsDone
+  is_done serves = elim serves.course [
+    | inl none ↦ absurd none.why
+    | inr has ↦ has_run has
+  ]
+
+-- the part that was looked at is the one that was served
+pub same_part : {E : Type 0} (result : Result Part E) (text : Bytes) (before : Files) (part : Part) → IsPart text before part
+    → IfOk result (λ it. it ≡ part) → IfOk result (IsPart text before)
+same_part (Ok it) text before part is same = subst (IsPart text before) (sym same) is
+same_part (Err e) text before part is same = tt
+
+-- ---- The set-up.
+
+abbrev no_files : Files
+no_files = record { extent = []; log = [] }
+
+ok_same : {A E : Type 0} (x y : A) → ◌≡◌ {A = Result A E} (Ok x) (Ok y) → x ≡ y
+ok_same x y e = cc
+
+never_ok : {A E G : Type 0} (x : A) (e : E) → ◌≡◌ {A = Result A E} (Err e) (Ok x) → G
+never_ok x e same = absurd cc
+
+new_length : (stored : Stored) (is : IsStoredIn no_files stored) (records : List _) → is.records ≡ records → stored.log_length ≡ 1
+new_length stored is [] same = rw same at is.length_is
+new_length stored is (one ∷ records) same =
+    let logged = rw same at is.log in
+    absurd cc
+
+new_stored : (stored : Stored) → IsStoredIn no_files stored → stored ≡ record { log_length = 1; root = None }
+new_stored stored is =
+    let root : is.root ≡ None = ok_same is.root None (sym is.extent) in
+    let log_length : stored.log_length ≡ 1 = new_length stored is is.records refl in
+    let no_root : stored.root ≡ None = rw root at is.root_is in
+    λ i. record { log_length = log_length i; root = no_root i }
+
+opened_new : (o : Opened) → IsOpenedOn true no_files o → o ≡ new_opening o.script
+opened_new o on =
+    let found = on.found refl in
+    let held : nothing_held ≡ found.held = ok_is nothing_held found.held (sym (empty_store no_files (refl, refl)) ∙ found.store_is) in
+    let image : o.image ≡ kernel_image = found.image_is ∙ ap image_of (sym held) in
+    let number : o.number ≡ 0 = found.number_is ∙ ap number_of (sym held) in
+    let stored = new_stored o.stored (on.stored refl) in
+    let counts = on.counts in
+    λ i. record { image = image i; number = number i; script = o.script; stored = stored i; counts_pages = counts i }
+
+-- the one event of a run that is one commit
+record IsOneCommit (events : List Event) : Type 0 where
+  pub session : ℕ
+  pub entry : Entry
+  pub is : events ≡ (session, Placed entry) ∷ []
+
+one_commit : (events : List Event) → length events ≡ 1 → length (entries_of events) ≡ 1 → IsOneCommit events
+one_commit [] one commit = absurd (omega (arith, one))
+one_commit ((session, Placed entry) ∷ []) one commit = record { session = session; entry = entry; is = refl }
+one_commit ((session, Locked oid kind) ∷ []) one commit = absurd (omega (arith, commit))
+one_commit ((session, Dropped oid) ∷ []) one commit = absurd (omega (arith, commit))
+one_commit ((session, Left) ∷ []) one commit = absurd (omega (arith, commit))
+one_commit ((session, Checked) ∷ []) one commit = absurd (omega (arith, commit))
+one_commit ((session, Halted number entry) ∷ []) one commit = absurd (omega (arith, commit))
+one_commit (event ∷ other ∷ events) one commit = absurd (omega (arith, one))
+
+setup_served : (part : Part) → IsPart setup_text no_files part → OnlyCommits 1 part
+    → (opened : Opened) × IsServedSetup (as_read part.disk.past) (record { opened = opened; events = part.events })
+setup_served part is only =
+    let history = is.served.legal.history in
+    let commit = one_commit part.events only.events (sym (ap length history) ∙ only.history) in (
+      is.opened,
+      record {
+        book = part.book;
+        served = is.served;
+        opened_is = opened_new is.opened is.served.opened_on;
+        session = commit.session;
+        entry = commit.entry;
+        events_are = commit.is;
+      },
+    )
+
+-- ---- What a store holds that no checkpoint was made of.
+
+held_unless_is : (root : _) (logged : _) (fit : Option _) (held : Held) → held_unless root logged fit ≡ Ok held → held.root ≡ root
+held_unless_is root logged None held is =
+    ap (λ (h : Held). h.root) (sym (ok_is (record { root = root; records = _ }) held is))
+held_unless_is root logged (Some one) held is = never_ok held _ is
+
+held_over_is : (root : _) (log : Result _ _) (held : Held) → held_over root log ≡ Ok held → held.root ≡ root
+held_over_is root (Err fault) held is = never_ok held _ is
+held_over_is root (Ok logged) held is = held_unless_is root logged (misfit (root_number root) logged) held is
+
+held_by_none : (extent : _) (log : _) (held : Held) → extent ≡ Ok None → held_by extent log ≡ Ok held → held.root ≡ None
+held_by_none extent log held none is =
+    held_over_is None log held (sym (ap (λ (r : _). held_by r log) none) ∙ is)
+
+some_stored : {A : Type 0} (root : A) → ◌≡◌ {A = Option A} None (Some root) → ⊥
+some_stored root same = absurd cc
+
+-- the root of the files, where nothing is stored but a log
+no_extent : (files : Files) (stored : Stored) (is : IsStoredIn files stored) (root : Option _) → is.root ≡ root → stored.root ≡ None
+    → root ≡ None
+no_extent files stored is None same none = refl
+no_extent files stored is (Some extent) same none = absurd (some_stored _ (sym none ∙ (rw same at is.root_is)))
+
+held_root : (files : Files) (stored : Stored) (held : Held) (is : IsStoredIn files stored) → is.root ≡ None → store_of files ≡ Ok held
+    → held.root ≡ None
+held_root files stored held is none same = held_by_none _ _ held (is.extent ∙ ap (λ (r : Option _). Ok r) none) same
+
+zero_or_more : (n : ℕ) → (n ≡ 0) ⊎ (0 < n)
+zero_or_more zero = inl refl
+zero_or_more (suc n) = inr (omega arith)
+
+found_whole : (found : Option Object) → option_map (found_object 0) found ≡ found
+found_whole None = refl
+found_whole (Some object) = ap (λ (o : Object). Some o) (settled_is_found 0 object (zero_or_more object.changed))
+
+-- what is found over no root is the image itself
+same_image : (held : Held) (image : Image) (number : ℕ) → root_number held.root ≡ 0 → StandsFor image number (Some (found_in held))
+    → (image_of held ≡ image) × (number_of held ≡ number)
+same_image held image number none stands = (
+  same_keys (image_of held) image (λ name. ap (λ (f : Found). f.objects name) stands
+      ∙ ap (λ (root : ℕ). option_map (found_object root) (get image name)) none ∙ found_whole (get image name)),
+  ap (λ (f : Found). f.number) stands,
+)
+
+-- what a Stone is opened with over files that stand for an image
+record IsOver (image : Image) (number : ℕ) (o : Opened) : Type 0 where
+  pub image_is : o.image ≡ image
+  pub number_is : o.number ≡ number
+  pub no_root : o.stored.root ≡ None
+
+opened_over : (files : Files) (stored : Stored) (image : Image) (number : ℕ) (o : Opened) → IsStoredIn files stored → stored.root ≡ None
+    → StandsFor image number (found_of files) → IsOpenedOn true files o → IsOver image number o
+opened_over files stored image number o is none stands on =
+    let found = on.found refl in
+    let no_root : is.root ≡ None = no_extent files stored is is.root refl none in
+    let root = held_root files stored found.held is no_root found.store_is in
+    let same = same_image found.held image number (ap root_number root) (subst (StandsFor image number) (ap found_by found.store_is) stands) in
+    let has = on.stored refl in
+    let empty : has.root ≡ None = ok_same has.root None (sym has.extent ∙ is.extent ∙ ap (λ (r : Option _). Ok r) no_root) in
+    record {
+      image_is = found.image_is ∙ same.0;
+      number_is = found.number_is ∙ same.1;
+      no_root = rw empty at has.root_is;
+    }
+
+-- ---- The load.
+
+-- what one commit over a new store leaves
+one_stored : (o : Opened) (session : ℕ) (e : Entry) → (stored_after o ((session, Placed e) ∷ [])).root ≡ o.stored.root
+unfolding stored_after
+one_stored o session e = refl
+
+one_numbered : (o : Opened) (session : ℕ) (e : Entry) → (after_events o ((session, Placed e) ∷ [])).number ≡ o.number + 1
+unfolding after_events
+one_numbered o session e = refl
+
+module _ (files : Files) (t : Told) (setup : IsServedSetup files t) where
+  no_root_stored : (stored_after t.opened t.events).root ≡ None
+  no_root_stored = ap (λ (es : List Event). (stored_after t.opened es).root) setup.events_are
+      ∙ one_stored t.opened setup.session setup.entry ∙ ap (λ (o : Opened). o.stored.root) setup.opened_is
+
+  first_number : (after_events t.opened t.events).number ≡ 1
+  first_number = ap (λ (es : List Event). (after_events t.opened es).number) setup.events_are
+      ∙ one_numbered t.opened setup.session setup.entry ∙ ap (λ (o : Opened). o.number + 1) setup.opened_is
+
+  opened_behind : (o : Opened) → IsOpenedOn true files o → IsOver (after_events t.opened t.events).image 1 o
+  opened_behind o on = subst (λ (n : ℕ). IsOver (after_events t.opened t.events).image n o) first_number
+      (opened_over files (stored_after t.opened t.events) _ _ o setup.served.stored no_root_stored setup.served.stands on)
+
+  load_served : (seed sessions rounds : ℕ) (part : Part) (is : IsPart (load_text seed sessions rounds) files part)
+      → OnlyCommits (commits_of sessions rounds) part
+      → IsLoadOver seed sessions rounds t files (as_read part.disk.past) (record { opened = is.opened; events = part.events }) part.book
+  load_served seed sessions rounds part is only =
+      let over = opened_behind is.opened is.served.opened_on in
+      record {
+        served = is.served;
+        image_is = over.image_is;
+        number_is = over.number_is;
+        no_root = over.no_root;
+        commits_are = only.history;
+      }
+
+-- the three of them
+pub all_served : (seed sessions rounds : ℕ) (setup loaded tally : Part) → IsPart setup_text no_files setup → OnlyCommits 1 setup
+    → IsPart (load_text seed sessions rounds) (as_read setup.disk.past) loaded → OnlyCommits (commits_of sessions rounds) loaded
+    → IsPart tally_text (as_read loaded.disk.past) tally → tally.report.written ≡ tally_report seed sessions rounds
+    → IsServedLoad seed sessions rounds loaded.events loaded.book
+all_served seed sessions rounds setup loaded tally first one load all last printed =
+    let begun = setup_served setup first one in
+    record {
+      after_setup = as_read setup.disk.past;
+      setup = record { opened = begun.0; events = setup.events };
+      setup_served = begun.1;
+      after_load = as_read loaded.disk.past;
+      opened = load.opened;
+      load_served = load_served (as_read setup.disk.past) (record { opened = begun.0; events = setup.events }) begun.1
+          seed sessions rounds loaded load all;
+      tally_served = record {
+        after = as_read tally.disk.past;
+        told = record { opened = last.opened; events = tally.events };
+        book = tally.book;
+        served = last.served;
+        printed = sym last.report ∙ printed;
+      };
+    }
+
+-- ---- Which load was asked for.
+
+abbrev seed_in : Asked → ℕ
+seed_in (serve_load seed sessions rounds) = seed
+seed_in _ = 0
+
+abbrev sessions_in : Asked → ℕ
+sessions_in (serve_load seed sessions rounds) = sessions
+sessions_in _ = 0
+
+abbrev rounds_in : Asked → ℕ
+rounds_in (serve_load seed sessions rounds) = rounds
+rounds_in _ = 0
+
+-- what holds of a load holds of the one that was asked for
+pub of_same_load : (P : (seed sessions rounds : ℕ) → Type 0) (seed sessions rounds a b c : ℕ) → serve_load seed sessions rounds ≡ serve_load a b c
+    → P seed sessions rounds → P a b c
+of_same_load P seed sessions rounds a b c same = subst (λ (asked : Asked). P (seed_in asked) (sessions_in asked) (rounds_in asked)) same
+
+pub few_commits : (seed sessions rounds : ℕ) → IsLoad seed sessions rounds → sessions * rounds ≤ 16000
+few_commits seed sessions rounds load = mul-le sessions rounds 16 1000 load.sessions_are.1 load.rounds_are.1
+
+-- the numbers of the words are those of a load
+pub load_in_words : (words : List Bytes) (seed sessions rounds : ℕ) → ReadsWords words (serve_load seed sessions rounds)
+    → IsLoad seed sessions rounds
+load_in_words words seed sessions rounds reads =
+    let in_range = demo_in_range words seed sessions rounds reads in
+    record { seed_is = in_range.seed_is; sessions_are = in_range.sessions_are; rounds_are = in_range.rounds_are }
+
+-- ---- What is written.
+
+never_not : (same : Bool) → not same ≡ false → same ≡ true
+never_not true is = refl
+never_not false is = absurd cc
+
+-- what was tested not to differ is the same
+pub not_differing : (test : Bool) (shown expected written report : Bytes) → test ≡ not (bytes_eq shown expected) → test ≡ false
+    → shown ≡ written → expected ≡ report → written ≡ report
+not_differing test shown expected written report tells passed shows is =
+    sym shows ∙ (bytes_eq-Decides shown expected).0 (never_not (bytes_eq shown expected) (sym tells ∙ passed)) ∙ is
+
+-- pieces that are joined from the left
+twelve_pieces : (a b c d e f g h i j k l : Bytes)
+    → a ++ b ++ c ++ d ++ e ++ f ++ g ++ h ++ i ++ j ++ k ++ l ≡ a ++ (b ++ (c ++ (d ++ (e ++ (f ++ (g ++ (h ++ (i ++ (j ++ (k ++ l))))))))))
+twelve_pieces a b c d e f g h i j k l =
+    append_assoc (a ++ b ++ c ++ d ++ e ++ f ++ g ++ h ++ i ++ j) k l
+    ∙ append_assoc (a ++ b ++ c ++ d ++ e ++ f ++ g ++ h ++ i) j (k ++ l)
+    ∙ append_assoc (a ++ b ++ c ++ d ++ e ++ f ++ g ++ h) i (j ++ (k ++ l))
+    ∙ append_assoc (a ++ b ++ c ++ d ++ e ++ f ++ g) h (i ++ (j ++ (k ++ l)))
+    ∙ append_assoc (a ++ b ++ c ++ d ++ e ++ f) g (h ++ (i ++ (j ++ (k ++ l))))
+    ∙ append_assoc (a ++ b ++ c ++ d ++ e) f (g ++ (h ++ (i ++ (j ++ (k ++ l)))))
+    ∙ append_assoc (a ++ b ++ c ++ d) e (f ++ (g ++ (h ++ (i ++ (j ++ (k ++ l))))))
+    ∙ append_assoc (a ++ b ++ c) d (e ++ (f ++ (g ++ (h ++ (i ++ (j ++ (k ++ l)))))))
+    ∙ append_assoc (a ++ b) c (d ++ (e ++ (f ++ (g ++ (h ++ (i ++ (j ++ (k ++ l))))))))
+    ∙ append_assoc a b (c ++ (d ++ (e ++ (f ++ (g ++ (h ++ (i ++ (j ++ (k ++ l)))))))))
+
+thirteen_pieces : (a b c d e f g h i j k l m : Bytes)
+    → a ++ b ++ c ++ d ++ e ++ f ++ g ++ h ++ i ++ j ++ k ++ l ++ m ≡ a ++ (b ++ (c ++ (d ++ (e ++ (f ++ (g ++ (h ++ (i ++ (j ++ (k ++ (l ++ m)))))))))))
+thirteen_pieces a b c d e f g h i j k l m =
+    append_assoc (a ++ b ++ c ++ d ++ e ++ f ++ g ++ h ++ i ++ j ++ k) l m
+    ∙ append_assoc (a ++ b ++ c ++ d ++ e ++ f ++ g ++ h ++ i ++ j) k (l ++ m)
+    ∙ append_assoc (a ++ b ++ c ++ d ++ e ++ f ++ g ++ h ++ i) j (k ++ (l ++ m))
+    ∙ append_assoc (a ++ b ++ c ++ d ++ e ++ f ++ g ++ h) i (j ++ (k ++ (l ++ m)))
+    ∙ append_assoc (a ++ b ++ c ++ d ++ e ++ f ++ g) h (i ++ (j ++ (k ++ (l ++ m))))
+    ∙ append_assoc (a ++ b ++ c ++ d ++ e ++ f) g (h ++ (i ++ (j ++ (k ++ (l ++ m)))))
+    ∙ append_assoc (a ++ b ++ c ++ d ++ e) f (g ++ (h ++ (i ++ (j ++ (k ++ (l ++ m))))))
+    ∙ append_assoc (a ++ b ++ c ++ d) e (f ++ (g ++ (h ++ (i ++ (j ++ (k ++ (l ++ m)))))))
+    ∙ append_assoc (a ++ b ++ c) d (e ++ (f ++ (g ++ (h ++ (i ++ (j ++ (k ++ (l ++ m))))))))
+    ∙ append_assoc (a ++ b) c (d ++ (e ++ (f ++ (g ++ (h ++ (i ++ (j ++ (k ++ (l ++ m)))))))))
+    ∙ append_assoc a b (c ++ (d ++ (e ++ (f ++ (g ++ (h ++ (i ++ (j ++ (k ++ (l ++ m))))))))))
+
+-- the last piece stands behind the twelve before it
+with_last : (a b c d e f g h i j k l m : Bytes)
+    → (a ++ (b ++ (c ++ (d ++ (e ++ (f ++ (g ++ (h ++ (i ++ (j ++ (k ++ l))))))))))) ++ m ≡ a ++ (b ++ (c ++ (d ++ (e ++ (f ++ (g ++ (h ++ (i ++ (j ++ (k ++ (l ++ m)))))))))))
+with_last a b c d e f g h i j k l m =
+    ap (λ (t : Bytes). t ++ m) (sym (twelve_pieces a b c d e f g h i j k l)) ∙ thirteen_pieces a b c d e f g h i j k l m
+
+-- the lines with the numbers as they were counted
+pub lines_are : (seed sessions rounds bag counter : ℕ) → bag ≡ commits_of sessions rounds → counter ≡ load_sum seed sessions rounds
+    → (codes "demo seed " ++ (decimal seed ++ (codes " sessions " ++ (decimal sessions ++ (codes " rounds " ++ (decimal rounds
+    ++ (codes "\ncommits " ++ (decimal (1 + bag) ++ (codes "\ncounter " ++ (decimal counter ++ (codes "\nbag " ++ decimal bag)))))))))))
+    ++ codes "\n" ≡ demo_lines seed sessions rounds
+lines_are seed sessions rounds bag counter commits sum =
+    with_last (codes "demo seed ") (decimal seed) (codes " sessions ") (decimal sessions) (codes " rounds ") (decimal rounds)
+    (codes "\ncommits ") (decimal (1 + bag)) (codes "\ncounter ") (decimal counter) (codes "\nbag ") (decimal bag) (codes "\n")
+    ∙ ap₂ (λ (b n : ℕ). codes "demo seed " ++ (decimal seed
+    ++ (codes " sessions " ++ (decimal sessions ++ (codes " rounds " ++ (decimal rounds ++ (codes "\ncommits " ++ (decimal (1 + b)
+    ++ (codes "\ncounter " ++ (decimal n ++ (codes "\nbag " ++ (decimal b ++ codes "\n")))))))))))) commits sum
+
+-- ---- How it ends.
+
+module _ (seed sessions rounds : ℕ) (sink : Seen (Option Bytes)) (events : List Event) (book : RunBook) where
+  pub demo_told : (status : Status) → IsServedLoad seed sessions rounds events book
+      → HasWritten sink (demo_lines seed sessions rounds) status → Demos seed sessions rounds sink status events book
+  demo_told Done served has = record {
+    so = (served, has.0);
+    sink_fault_told = λ lt. let quiet = has.1 in absurd (omega (arith, lt, quiet));
+    later = let quiet = has.1 in omega (arith, quiet);
+  }
+  demo_told WriteFault served has =
+      record { so = (served, has.0, has.1); sink_fault_told = λ lt. refl; later = has.2 }
+  demo_told Usage served has = absurd has
+  demo_told (Script line rule) served has = absurd has
+  demo_told (NotStore flaw) served has = absurd has
+  demo_told (SerialsUsed base sessions) served has = absurd has
+  demo_told (NotEmpty extent log) served has = absurd has
+  demo_told ReadFault served has = absurd has
+  demo_told DiskFault served has = absurd has
+  demo_told NoMemory served has = absurd has
+
+  -- it isn't a faulty command line
+  pub never_usage : (status : Status) → Demos seed sessions rounds sink status events book → status ≡ Usage → ⊥
+  never_usage status demos same = (subst (λ (s : Status). Demos seed sessions rounds sink s events book) same demos).so
+
+  pub demo_starved : (status : Status) → status ≡ NoMemory → IsBlank events book → IsUnused sink
+      → Demos seed sessions rounds sink status events book
+  demo_starved status is blank unused = subst (λ (s : Status). Demos seed sessions rounds sink s events book) (sym is) (record {
+    so = (blank, unused);
+    sink_fault_told = λ lt. let quiet = unused.quiet in absurd (omega (arith, lt, quiet));
+    later = let quiet = unused.quiet in omega (arith, quiet);
+  })
+
+pub demo_completes : DemoCompletes
+demo_completes seed sessions rounds sink status events book demos no_write = so status demos.so
+  where
+    so : (status : Status) → DemosSo seed sessions rounds sink status events book → (status ≡ Done) ⊎ (status ≡ NoMemory)
+    so Done has = inl refl
+    so NoMemory has = inr refl
+    so WriteFault has = absurd (no_write has.1)
+    so Usage has = absurd has
+    so (Script line rule) has = absurd has
+    so (NotStore flaw) has = absurd has
+    so (SerialsUsed base sessions) has = absurd has
+    so (NotEmpty extent log) has = absurd has
+    so ReadFault has = absurd has
+    so DiskFault has = absurd has

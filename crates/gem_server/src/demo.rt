@@ -1,0 +1,206 @@
+//! Serves a generated load over a disk of its own.
+ghost use Rattle.std.specs.Prelude.{◌≡◌, ◌+◌, ◌*◌, ◌≤◌, [], length, string_bytes, IfOk};
+ghost use Rattle.gem_disk.specs.Disk.{as_read};
+ghost use Rattle.load_maker.specs.Numbers.{load_sum};
+ghost use Rattle.load_maker.specs.Scripts.{setup_text, load_text, tally_text};
+ghost use Rattle.gem_server.specs.Devices.{seen};
+ghost use Rattle.gem_server.specs.Demo.{IsLoad, demo_lines, tally_report, IsServedLoad, Demos};
+ghost use Rattle.gem_server.specs.DemoParts.{IsPart, OnlyCommits};
+
+use crate::output::write_out;
+use crate::serving::serve_store;
+use crate::status::{Ended, Events, Status};
+use gem_disk::MemDisk;
+use gem_io::{Gate, MemSink, MemSource, OpenGate, Sink};
+use gem_replies::RunBook;
+use load_maker::{load_script, load_sum, setup_script, tally_script};
+use std::alloc::{AllocError, Global};
+use std::sync::Wait;
+use std::thread::Threads;
+
+/// Which load is to be served.
+#[derive(Clone, Copy, Debug)]
+pub(crate) struct Load {
+    /// What its numbers come from.
+    pub seed: u32,
+    /// How many sessions it has.
+    pub sessions: u32,
+    /// How many rounds each of these has.
+    pub rounds: u32,
+}
+
+// What a script leaves that was served whole.
+#[derive(Drop)]
+struct Part {
+    book: RunBook,
+    events: Events,
+    report: MemSink,
+    disk: MemDisk,
+}
+
+/// Serves the load between its set-up and its tally, all three over one disk in memory, and writes to
+/// the sink what came of it. The disk that is handed in is only handed back.
+///
+/// What was committed and what the tally printed is compared with what is written. Where it differs
+/// the status is `NoMemory`: only a session or a disk in memory that found no memory makes it differ.
+pub(crate) fn serve_demo<R: Threads + Wait + Sync, K: Sink, D: Drop, G: Gate + Sync>(
+    rt: &R,
+    alloc: Global,
+    load: Load,
+    disk: D,
+    gate: &G,
+    sink: &mut K,
+) -> Ended<D>
+    requires { IsLoad load.seed load.sessions load.rounds }
+    ensures demos { Demos load.seed load.sessions load.rounds
+        (seen K.written K.faults sink.old sink.new)
+        result.status result.events result.book }
+    ensures disk { result.disk ≡ disk }
+{
+    let Ok((book, events)) = serve_parts(rt, alloc, load, gate) else {
+        return Ended::blank(alloc, Status::NoMemory, disk);
+    };
+    let Ok(lines) = lines_of(alloc, load) else {
+        return Ended::blank(alloc, Status::NoMemory, disk);
+    };
+    Ended {
+        status: write_out(sink, lines.as_bytes()),
+        book,
+        events,
+        disk,
+    }
+}
+
+// Serves the set-up, the load and the tally, and gives the book and the events of the load.
+fn serve_parts<R: Threads + Wait + Sync, G: Gate + Sync>(
+    rt: &R,
+    alloc: Global,
+    load: Load,
+    gate: &G,
+) -> Result<(RunBook, Events), AllocError>
+    requires { IsLoad load.seed load.sessions load.rounds }
+    ensures { IfOk result (λ run. IsServedLoad load.seed load.sessions load.rounds
+        run.1 run.0) }
+{
+    let setup = serve_setup(rt, alloc)?;
+    let loaded = serve_load(rt, alloc, load, setup.disk, gate)?;
+    let script = tally_script(alloc)?;
+    let tally = serve_part(rt, alloc, script, loaded.disk, &OpenGate)?;
+    let expected = tally_report(alloc, load)?;
+    if tally.report.written() != expected.as_bytes() {
+        return Err(AllocError);
+    }
+    Ok((loaded.book, loaded.events))
+}
+
+// Serves the set-up over an empty disk. It has one session, which no gate has to hold.
+fn serve_setup<R: Threads + Wait + Sync>(rt: &R, alloc: Global) -> Result<Part, AllocError>
+    ensures part { IfOk result (IsPart setup_text (record { extent = []; log = [] })) }
+    ensures commits { IfOk result (OnlyCommits 1) }
+{
+    let script = setup_script(alloc)?;
+    let disk = MemDisk::new(Vec::new(alloc), Vec::new(alloc));
+    let part = serve_part(rt, alloc, script, disk, &OpenGate)?;
+    commits_only(part, 1)
+}
+
+// Serves the load over what the set-up left.
+fn serve_load<R: Threads + Wait + Sync, G: Gate + Sync>(
+    rt: &R,
+    alloc: Global,
+    load: Load,
+    disk: MemDisk,
+    gate: &G,
+) -> Result<Part, AllocError>
+    requires { IsLoad load.seed load.sessions load.rounds }
+    ensures part { IfOk result
+        (IsPart (load_text load.seed load.sessions load.rounds) (as_read disk.past)) }
+    ensures commits { IfOk result (OnlyCommits (load.sessions * load.rounds)) }
+{
+    let script = load_script(alloc, load.seed, load.sessions, load.rounds)?;
+    let part = serve_part(rt, alloc, script, disk, gate)?;
+    commits_only(part, load_commits(load))
+}
+
+// Serves one script over a disk in memory, of which the report is kept, too.
+fn serve_part<R: Threads + Wait + Sync, G: Gate + Sync>(
+    rt: &R,
+    alloc: Global,
+    script: Vec<u8>,
+    disk: MemDisk,
+    gate: &G,
+) -> Result<Part, AllocError>
+    ensures { IfOk result (IsPart script.items (as_read disk.past)) }
+{
+    let mut source = MemSource::new(script, Vec::new(alloc));
+    let mut report = MemSink::new(Vec::new(alloc));
+    let ended = serve_store(rt, alloc, &mut source, disk, gate, &mut report);
+    match ended.status {
+        Status::Done => Ok(Part {
+            book: ended.book,
+            events: ended.events,
+            report,
+            disk: ended.disk,
+        }),
+        _ => Err(AllocError),
+    }
+}
+
+// The part, where it committed so often, and nothing else happened.
+fn commits_only(part: Part, commits: u32) -> Result<Part, AllocError>
+    ensures same { IfOk result (λ it. it ≡ part) }
+    ensures commits { IfOk result (OnlyCommits commits) }
+{
+    let commits = commits as usize;
+    if part.book.history.len() != commits {
+        return Err(AllocError);
+    }
+    if part.events.len() != commits {
+        return Err(AllocError);
+    }
+    Ok(part)
+}
+
+// How often the load commits: once in each round.
+fn load_commits(load: Load) -> u32
+    requires { IsLoad load.seed load.sessions load.rounds }
+    ensures is { result ≡ load.sessions * load.rounds }
+    ensures bound { result ≤ 16000 }
+{
+    load.sessions * load.rounds
+}
+
+// What is written of the load.
+fn lines_of(alloc: Global, load: Load) -> Result<String, AllocError>
+    requires { IsLoad load.seed load.sessions load.rounds }
+    ensures { IfOk result (λ lines. string_bytes lines ≡
+        demo_lines load.seed load.sessions load.rounds) }
+{
+    let Load {
+        seed,
+        sessions,
+        rounds,
+    } = load;
+    let bag = load_commits(load);
+    let commits = 1 + bag;
+    let counter = load_sum(seed, sessions, rounds);
+    format!(in alloc;
+        "demo seed {seed} sessions {sessions} rounds {rounds}\ncommits {commits}\n\
+         counter {counter}\nbag {bag}\n"
+    )
+}
+
+// The report of a tally behind the load.
+fn tally_report(alloc: Global, load: Load) -> Result<String, AllocError>
+    requires { IsLoad load.seed load.sessions load.rounds }
+    ensures { IfOk result (λ report. string_bytes report ≡
+        tally_report load.seed load.sessions load.rounds) }
+{
+    let bag = load_commits(load);
+    let view = 1 + bag;
+    let counter = load_sum(load.seed, load.sessions, load.rounds);
+    format!(in alloc;
+        "session 1 DataCurator\n[0] login view {view}\n[1] {counter}\n[2] {bag}\n[3] logout\n\
+         commits 0\n"
+    )
+}
