@@ -4,11 +4,15 @@
 #[cfg(test)]
 mod alone_tests;
 #[cfg(test)]
+mod demo_tests;
+#[cfg(test)]
 mod faults_tests;
 #[cfg(test)]
 mod limits_tests;
 #[cfg(test)]
 mod reports;
+#[cfg(test)]
+mod short_sink;
 #[cfg(test)]
 mod store_tests;
 #[cfg(test)]
