@@ -21,6 +21,7 @@ use Rattle.stone_store.specs.Store.{Held, root_number, misfit, held_unless, held
 use Rattle.stone_store.specs.Opening.{IsFound}
 use Rattle.stone_store.specs.Resting.{IsStoredIn}
 use Rattle.stone_store.proofs.Images.{settled_is_found}
+use Rattle.stone_store.proofs.Opens.{no_record}
 use Rattle.program_words.specs.Asked.{Asked, serve_load}
 use Rattle.program_words.specs.WordsGrammar.{ReadsWords}
 use Rattle.program_words.proofs.Ranges.{demo_in_range}
@@ -98,16 +99,10 @@ ok_same x y e = cc
 never_ok : {A E G : Type 0} (x : A) (e : E) → ◌≡◌ {A = Result A E} (Err e) (Ok x) → G
 never_ok x e same = absurd cc
 
-new_length : (stored : Stored) (is : IsStoredIn no_files stored) (records : List _) → is.records ≡ records → stored.log_length ≡ 1
-new_length stored is [] same = rw same at is.length_is
-new_length stored is (one ∷ records) same =
-    let logged = rw same at is.log in
-    absurd cc
-
 new_stored : (stored : Stored) → IsStoredIn no_files stored → stored ≡ record { log_length = 1; root = None }
 new_stored stored is =
     let root : is.root ≡ None = ok_same is.root None (sym is.extent) in
-    let log_length : stored.log_length ≡ 1 = new_length stored is is.records refl in
+    let log_length : stored.log_length ≡ 1 = no_record [] stored.log_length (omega arith) is.log_length in
     let no_root : stored.root ≡ None = rw root at is.root_is in
     λ i. record { log_length = log_length i; root = no_root i }
 

@@ -33,7 +33,7 @@ use Rattle.gem_server.specs.Starting.{HasRoom, IsFull, IsStarted, IsRefused, IsW
 -- a disk that wasn't used
 pub stays_unused : (tells : Bool) (disk : Seen Past) → disk.after ≡ disk.before → Stays tells disk
 stays_unused tells disk same = record {
-  same = λ told. subst (ReadsSame disk.before) (sym same) (record { extent = refl; log = refl });
+  same = λ told. subst (ReadsSame disk.before) (sym same) (record { extent = refl; log = refl; bytes = λ long. refl; short = λ small. small });
   crash_since = λ image number told all. subst (λ (p : Past). LeavesOnly disk.before p (FilesStandFor image number)) (sym same)
       (nothing_done disk.before (FilesStandFor image number) all.each);
 }

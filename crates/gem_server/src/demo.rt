@@ -42,7 +42,8 @@ struct Part {
 /// the sink what came of it. The disk that is handed in is only handed back.
 ///
 /// What was committed and what the tally printed is compared with what is written. Where it differs
-/// the status is `NoMemory`: only a session or a disk in memory that found no memory makes it differ.
+/// the status is `NoMemory`, as where a session or a disk in memory found no memory. No clause says
+/// that nothing else makes it differ.
 pub(crate) fn serve_demo<R: Threads + Wait + Sync, K: Sink, D: Drop, G: Gate + Sync>(
     rt: &R,
     alloc: Global,

@@ -26,7 +26,8 @@ pub fn looking_completes()
     ensures { LookingCompletes }
 {}
 
-/// Nothing but the sink, or want of memory, keeps the lines from being written that tell of a load.
+/// Nothing but the sink, or the status `NoMemory`, keeps the lines from being written that tell of a
+/// load.
 pub fn demo_completes()
     ensures { DemoCompletes }
 {}

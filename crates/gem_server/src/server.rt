@@ -54,9 +54,9 @@ use std::thread::Threads;
 ///   or printed isn't what the lines would say.
 ///
 /// Where sessions ran, the book has their transcripts and the commits, and the events are what
-/// happened to the Stone; with `NoMemory` the transcripts are missing. Of a demo they are those of the
-/// load, with `Done` and `WriteFault`. Else both are blank, but that with `SerialsUsed` the book of
-/// `serve` has the number and the base of the store.
+/// happened to the Stone; with `NoMemory` over a store the transcripts are missing, and without one
+/// both are blank. Of a demo they are those of the load, with `Done` and `WriteFault`. Else both are
+/// blank, but that with `SerialsUsed` the book of `serve` has the number and the base of the store.
 ///
 /// The sessions of a script, or of a load, run side by side, each in a thread of its own, and pass the
 /// gate: before the login, before each command, and before the logout. It may hold them, and so fix their order;

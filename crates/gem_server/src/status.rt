@@ -84,7 +84,7 @@ pub struct Ended<D: Drop> {
     pub status: Status,
     /// What the sessions replied, and what was committed. It is blank where no sessions ran, but
     /// for the number and the base of a store that was opened and has no room for them. Where memory
-    /// ran out when they had run, it has the commits and no replies.
+    /// ran out when they had run over a store, it has the commits and no replies.
     pub book: RunBook,
     /// What happened to the Stone, in order. Blank where no sessions ran.
     pub events: Events,

@@ -93,7 +93,7 @@ impl SessionScript {
     }
 }
 
-/// A script: at most 16 sessions, which run one after the other. A contract sees the list of them.
+/// A script: at most 16 sessions, which run side by side. A contract sees the list of them.
 #[derive(Debug, Drop)]
 pub struct Script {
     sessions: Vec<SessionScript>,

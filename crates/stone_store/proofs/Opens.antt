@@ -1,6 +1,7 @@
 -- What crashes leave of a store while it is opened, and what it stands for then.
-use Rattle.std.proofs.Common.{◌≡◌, ℕ, ◌<◌, ◌≤◌, List, [], ◌∷◌, length, Option, Some, None, option_map, IfSome, Result, Ok, Err, refl, sym, ap, ap₂, subst, ◌∙◌, inl, inr, arith}
+use Rattle.std.proofs.Common.{◌≡◌, ℕ, suc, ◌+◌, ◌<◌, ◌≤◌, List, [], ◌∷◌, length, Option, Some, None, option_map, IfSome, Result, Ok, Err, refl, sym, ap, ap₂, subst, ◌∙◌, inl, inr, arith}
 use Rattle.std.proofs.lemmas.Bool.{cases_lt}
+use Rattle.std.proofs.lemmas.List.{length-append}
 use Rattle.std.specs.FinMap.{get}
 use Rattle.gem_sound.specs.Sound.{IsSoundImage, BreaksFirst}
 use Rattle.image_check.specs.declared.fault.SoundFault.{SoundFault}
@@ -23,7 +24,7 @@ use Rattle.tran_log.specs.declared.logged.Logged.{Logged}
 use Rattle.tran_log.specs.declared.fault.LogFault.{LogFault}
 use Rattle.tran_log.specs.declared.fault.LogFault.TheVariants as logs
 use Rattle.tran_log.specs.declared.fault.LogRule.TheVariants as rule
-use Rattle.tran_log.specs.Log.{log_of}
+use Rattle.tran_log.specs.Log.{chain, log_of}
 use Rattle.tran_log.specs.Reads.{LogFails}
 use Rattle.tran_log.specs.Resting.{SameExtent, IsOldOrRead}
 use Rattle.tran_log.proofs.Restarting.{rest_reads}
@@ -37,7 +38,7 @@ use Rattle.stone_store.specs.Store.{Held, held_unless, held_by, store_of, found_
 use Rattle.stone_store.specs.Left.{FilesStandFor, StandsInAll}
 use Rattle.stone_store.specs.Opening.{of_pages, of_log, of_sound, OpensNot, IsFound, MayGoOn, ReadsSame}
 use Rattle.stone_store.specs.Restoring.{image_read, IsRestored, IsFromRecords, RestsAs, IsStoreOf}
-use Rattle.stone_store.specs.Resting.{BothRest}
+use Rattle.stone_store.specs.Resting.{BothRest, IsLogLength}
 use Rattle.stone_store.specs.Whole.{StoresBy}
 use Rattle.stone_store.proofs.Standing.{held_of, stands_itself, changed_by}
 use Rattle.stone_store.proofs.Rests.{store_at, log_read, is_store, found_read, extent_stays, kernel_is_unchanged}
@@ -73,7 +74,12 @@ module _ (old : Past) (image : Image) (number : ℕ) (all : StandsInAll old imag
   })
 
 same_reads : (old new : Past) → reads new OfExtent ≡ reads old OfExtent → reads new OfLog ≡ reads old OfLog → ReadsSame old new
-same_reads old new extent log = record { extent = ap extent_of extent; log = ap log_of log }
+same_reads old new extent log = record {
+  extent = ap extent_of extent;
+  log = ap log_of log;
+  bytes = λ long. log;
+  short = λ small. subst (λ (bytes : List ℕ). length bytes ≤ 1) (sym log) small;
+}
 
 synced_same : (old mid : Past) → mid ≡ synced old → ReadsSame old mid
 synced_same old mid is = same_reads old mid (ap (λ (p : Past). reads p OfExtent) is) (ap (λ (p : Past). reads p OfLog) is)
@@ -84,8 +90,12 @@ pages_same old mid (Err x) (inl same) = same_reads old mid (ap (λ (p : Past). r
 pages_same old mid (Err x) (inr is) = synced_same old mid is
 
 pub same_then : (old mid new : Past) → ReadsSame old mid → ReadsSame mid new → ReadsSame old new
-same_then old mid new first then =
-    record { extent = then.extent ∙ first.extent; log = then.log ∙ first.log }
+same_then old mid new first then = record {
+  extent = then.extent ∙ first.extent;
+  log = then.log ∙ first.log;
+  bytes = λ long. then.bytes (subst (λ (bytes : List ℕ). 1 < length bytes) (sym (first.bytes long)) long) ∙ first.bytes long;
+  short = λ small. then.short (first.short small);
+}
 
 -- what both files hold goes by what is read of them
 pub same_store : (old new : Past) → ReadsSame old new → store_of (as_read new) ≡ store_of (as_read old)
@@ -118,6 +128,8 @@ module _ (mid new : Past) (run : LeavesOnly mid new (IsOldOrRead mid)) (same : S
   log_same kept short = record {
     extent = ap extent_of same;
     log = log_stays (reads mid OfLog) (reads new OfLog) kept short;
+    bytes = kept;
+    short = short;
   }
 
   extents : (files : Files) → IsOldOrRead mid files → FileImages mid.first mid.steps OfExtent files.extent
@@ -274,6 +286,24 @@ goes_on_with restored is none sound = record {
       (sym (ap (λ (i : Image). get i name) is.restored_is.image_is) ∙ there));
 }
 
+one_left : (records behind end n : ℕ) → records + suc behind ≤ 1 → end ≡ records → n ≡ end + 1 → n ≡ 1
+one_left records behind end n small is length_is = omega arith
+
+-- the bytes of a short log are no records
+pub no_record : (bytes : List ℕ) (n : ℕ) → length bytes ≤ 1 → IsLogLength bytes n → n ≡ 1
+no_record bytes n small (inl short) = short.1
+no_record bytes n small (inr (logged, (end, (ends, is)))) =
+    let whole : length bytes ≡ length (chain ends.chained) + length (ends.gate ∷ ends.behind) =
+    ap length ends.file ∙ length-append (chain ends.chained) (ends.gate ∷ ends.behind) in
+    one_left (length (chain ends.chained)) (length ends.behind) end n (subst (λ (m : ℕ). m ≤ 1) whole small) ends.end_is is
+
+log_length_before : (old new : List ℕ) (n : ℕ) → (1 < length old → new ≡ old) → (length old ≤ 1 → length new ≤ 1)
+    → IsLogLength new n → IsLogLength old n
+log_length_before old new n kept short is = elim (cases_lt 1 (length old)) [
+  | inl long ↦ subst (λ (bytes : List ℕ). IsLogLength bytes n) (kept long) is
+  | inr small ↦ inl (small, no_record new n (short small) is)
+]
+
 -- what is stored is what the files held when they were opened
 pub stored_before : (old new : Past) (parts : Option Parts) → ReadsSame old new → StoresBy (as_read new) parts
     → StoresBy (as_read old) parts
@@ -282,7 +312,5 @@ stored_before old new (Some parts) same stored = record {
   root = stored.root;
   extent = sym same.extent ∙ stored.extent;
   root_is = stored.root_is;
-  records = stored.records;
-  log = sym same.log ∙ stored.log;
-  length_is = stored.length_is;
+  log_length = log_length_before (reads old OfLog) (reads new OfLog) _ same.bytes same.short stored.log_length;
 }

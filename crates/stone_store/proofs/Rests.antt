@@ -1,5 +1,5 @@
 -- A store at rest, and what a run of calls leaves of it.
-use Rattle.std.proofs.Common.{◌≡◌, ℕ, ◌+◌, ◌^◌, ◌<◌, ◌≤◌, List, [], ◌∷◌, ◌++◌, length, Option, Some, None, IsTrue, IfSome, option_map, Ok, sym, ap, ap₂, subst, ◌∙◌, inl, inr, arith}
+use Rattle.std.proofs.Common.{◌≡◌, ℕ, ◌+◌, ◌^◌, ◌<◌, ◌≤◌, List, [], ◌∷◌, ◌++◌, length, Option, Some, None, IsTrue, IfSome, option_map, Ok, refl, sym, ap, ap₂, subst, ◌∙◌, inl, inr, arith}
 use Rattle.std.proofs.lemmas.List.{length-append}
 use Rattle.gem_disk.specs.declared.disk.Which.TheVariants.{Extent as OfExtent, Log as OfLog}
 use Rattle.gem_disk.specs.Disk.{Files, Past, moment, reads, as_read, FileImages, CrashImages}
@@ -24,7 +24,6 @@ use Rattle.tran_log.specs.Log.{Format2, content, follows, spelled_record, logged
 use Rattle.tran_log.specs.Reads.{AreRead}
 use Rattle.tran_log.specs.Resting.{SameExtent, IsAtRest as LogRests, MayAppend, HoldsEither}
 use Rattle.tran_log.proofs.Restarting.{rest_reads}
-use Rattle.tran_log.proofs.Places.{chain_size}
 use Rattle.tran_log.proofs.Walks.{record_long}
 use Rattle.gem_keeper.specs.Found.{Found, StandsFor}
 use Rattle.gem_keeper.specs.Crashes.{IsNextBody, StandsForEither}
@@ -103,9 +102,7 @@ stored_is past parts rest = record {
   root = rest.root;
   extent = rest.extent.stands;
   root_is = rest.counted;
-  records = rest.log.ends.chained;
-  log = log_read past parts rest ∙ ap (λ (l : List Logged). Ok l) rest.log.ends.logged_is;
-  length_is = ap (λ (n : ℕ). n + 1) (rest.log.ends.end_is ∙ chain_size rest.log.ends.chained);
+  log_length = inr (rest.logged, (_, (rest.log.ends, refl)));
 }
 
 pub stores_by : (past : Past) (parts : Option Parts) → RestsBy past parts → StoresBy (as_read past) parts

@@ -1,5 +1,5 @@
 -- What opening a store gives.
-use Rattle.std.specs.Prelude.{◌≡◌, ◌≤◌, ℕ, Some, Result, Ok, Err}
+use Rattle.std.specs.Prelude.{◌≡◌, ◌<◌, ◌≤◌, ℕ, length, Some, Result, Ok, Err}
 use Rattle.std.specs.FinMap.{get}
 use Rattle.gem_object.specs.declared.object.Object.{Object}
 use Rattle.gem_disk.specs.declared.disk.Which.TheVariants.{Extent as OfExtent, Log as OfLog}
@@ -75,7 +75,10 @@ Opens store (Err why) = OpensNot store why
 
 -- ---- What stays.
 
--- Both files are read as before: the extent with its root, and each record of the log.
+-- Both files are read as before: the extent with its root, and each record of the log. A log of more
+-- than one byte has the same bytes.
 pub record ReadsSame (old new : Past) : Type 0 where
   pub extent : extent_of (reads new OfExtent) ≡ extent_of (reads old OfExtent)
   pub log : log_of (reads new OfLog) ≡ log_of (reads old OfLog)
+  pub bytes : 1 < length (reads old OfLog) → reads new OfLog ≡ reads old OfLog
+  pub short : length (reads old OfLog) ≤ 1 → length (reads new OfLog) ≤ 1

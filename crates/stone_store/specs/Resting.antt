@@ -1,5 +1,5 @@
 -- How a store stands on its disk between calls.
-use Rattle.std.specs.Prelude.{◌≡◌, ◌+◌, ℕ, List, [], sum_by, Option, Some, None, option_map, Ok}
+use Rattle.std.specs.Prelude.{◌≡◌, ◌⊎◌, ◌+◌, ◌≤◌, ℕ, List, [], length, Option, Some, None, option_map, Ok}
 use Rattle.gem_disk.specs.Disk.{Files, Past}
 use Rattle.gem_image.specs.Image.{Image}
 use Rattle.gem_record.specs.Stored.{Root as StoredRoot, Stored, image_pages}
@@ -8,7 +8,7 @@ use Rattle.page_file.specs.PageFile.{IsAtRest as ExtentRests}
 use Rattle.page_file.specs.Checkpoint.{IsCheckpoint}
 use Rattle.page_file.specs.Changing.{counted_root}
 use Rattle.tran_log.specs.declared.logged.Logged.{Logged}
-use Rattle.tran_log.specs.Log.{LogRecord, record_size, logged_from, log_of}
+use Rattle.tran_log.specs.Reads.{EndsAt}
 use Rattle.tran_log.specs.Resting.{IsAtRest as LogRests}
 use Rattle.stone_store.specs.declared.parts.Root.{Root}
 use Rattle.stone_store.specs.declared.parts.Parts.{Parts}
@@ -52,12 +52,16 @@ pub record IsEmptied (past : Past) (parts : Parts) (image : Image) (number : ℕ
   pub counted : counted_root (Some next)
       ≡ Some (record { number = number; pages = image_pages image })
 
+-- Of the bytes of a log so many are its records and the gate behind them. In one byte at most there
+-- is no record.
+abbrev pub IsLogLength : List ℕ → ℕ → Type 0
+IsLogLength bytes n = ((length bytes ≤ 1) × (n ≡ 1))
+    ⊎ ((logged : List Logged) × ((end : ℕ) × (EndsAt bytes logged end × (n ≡ end + 1))))
+
 -- What is stored is what two files have: the root of the extent with the pages that it uses, where
 -- there is one, and a log as long as its records and the gate behind them.
 pub record IsStoredIn (files : Files) (stored : Stored) : Type 0 where
   pub root : Option Extent
   pub extent : extent_of files.extent ≡ Ok root
   pub root_is : stored.root ≡ counted_root root
-  pub records : List LogRecord
-  pub log : log_of files.log ≡ Ok (logged_from 0 records)
-  pub length_is : stored.log_length ≡ sum_by record_size records + 1
+  pub log_length : IsLogLength files.log stored.log_length
