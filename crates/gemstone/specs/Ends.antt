@@ -5,7 +5,7 @@ use Rattle.program_words.specs.Asked.{Files, serve_store, init_store, check_stor
 use Rattle.program_words.specs.WordsGrammar.{ReadsWords}
 use Rattle.gem_server.specs.declared.status.Status.{Status}
 use Rattle.gem_server.specs.declared.status.Status.TheVariants.{Usage}
-use Rattle.gem_server.specs.Devices.{Seen}
+use Rattle.gem_server.specs.Devices.{Seen, IsUnused}
 use Rattle.gem_server.specs.Server.{AsksAlone, AsksStore, AsksInit, AsksCheck, AsksDemo, AsksSome}
 use Rattle.gem_server.specs.Alone.{ServesAlone}
 use Rattle.gem_server.specs.Serving.{ServesStore}
@@ -23,18 +23,20 @@ NamesFiles words files = ReadsWords words (serve_store files) ⊎ ReadsWords wor
 abbrev pub NamesNone : List (List ℕ) → Type 0
 NamesNone words = (files : Files) → NamesFiles words files → ⊥
 
--- What was asked for ended with this status, over a disk that tells its contents or doesn't.
+-- What was asked for ended with this status, over a disk that tells its contents or doesn't. Only to
+-- serve a script is the source used.
 pub record HasEnded (tells : Bool) (words : List (List ℕ)) (source sink : Seen (Option (List ℕ)))
     (status : Status) : Type 0 where
   pub usage : (status ≡ Usage) ↔ (AsksSome words → ⊥)
+  pub unused : (AsksSome words → ⊥) → IsUnused source × IsUnused sink
   pub alone : AsksAlone words → (events : _) × ((book : _)
       × ServesAlone source sink status events book)
   pub store : AsksStore words → (disk : Seen Past) × ((events : _) × ((book : _)
       × ServesStore tells source sink disk status events book))
-  pub init : AsksInit words → (disk : Seen Past) × Inits tells sink disk status
-  pub check : AsksCheck words → (disk : Seen Past) × Checks tells sink disk status
-  pub demo : (seed sessions rounds : ℕ) → AsksDemo words seed sessions rounds
-      → (events : _) × ((book : _) × Demos seed sessions rounds sink status events book)
+  pub init : AsksInit words → IsUnused source × ((disk : Seen Past) × Inits tells sink disk status)
+  pub check : AsksCheck words → IsUnused source × ((disk : Seen Past) × Checks tells sink disk status)
+  pub demo : (seed sessions rounds : ℕ) → AsksDemo words seed sessions rounds → IsUnused source
+      × ((events : _) × ((book : _) × Demos seed sessions rounds sink status events book))
 
 -- The program fails as the status of what was asked for says.
 abbrev pub Ends : {T : Type 0} → Bool → List (List ℕ) → (source sink : Seen (Option (List ℕ)))
