@@ -124,7 +124,7 @@ module _ {X : Type 0} where
       ap (λ b. cond b (Some e.1) (find nat_cmp name es)) (other_key name e.0 (λ is. omega (arith, is, less)))
       ∙ none_above name es above.1
 
-  found_first : (name : ℕ) (e : ℕ × X) (es : List (ℕ × X)) → name ≡ e.0 → find nat_cmp name (e ∷ es) ≡ Some e.1
+  pub found_first : (name : ℕ) (e : ℕ × X) (es : List (ℕ × X)) → name ≡ e.0 → find nat_cmp name (e ∷ es) ≡ Some e.1
   found_first name e es is = ap (λ b. cond b (Some e.1) (find nat_cmp name es)) (same_key name e.0 is)
 
   found_later : (name : ℕ) (e : ℕ × X) (es : List (ℕ × X)) → name ≢ e.0 → find nat_cmp name (e ∷ es) ≡ find nat_cmp name es
@@ -333,7 +333,7 @@ stale_none since leaf (e ∷ es) none name object there own = by (eqb name e.0) 
       let other : name ≢ e.0 = λ same. absurd (false≢true (sym is ∙ eq-eqb name e.0 same)) in
       further parts.1 name object (sym (found_later name e es other) ∙ there) own
 
-later_none : (image : Image) (since leaf before : ℕ)
+pub later_none : (image : Image) (since leaf before : ℕ)
     → ((place : ℕ) → place < before → is_later since (get image (name_in leaf place)) ≡ false) → later_before image since leaf before ≡ false
 unfolding later_before
 later_none image since leaf zero none = refl
@@ -531,7 +531,7 @@ is_numbered name (leaf ∷ leaves) object all there = by (find nat_cmp name leaf
       let it = names_among name leaf.number leaf.objects own (recursion_from_All (IsOfLeaf leaf.number) leaf.objects all.0.are.each) is in
       ap (λ b. b || is_one_of (name / 64) (numbers_of leaves)) (eq-eqb (name / 64) leaf.number it)
 
-numbers_placed : (places : List LeafPlace) (leaves : List Leaf) → ArePlaces places leaves → numbers_at places ≡ numbers_of leaves
+pub numbers_placed : (places : List LeafPlace) (leaves : List Leaf) → ArePlaces places leaves → numbers_at places ≡ numbers_of leaves
 numbers_placed [] [] are = refl
 numbers_placed [] (leaf ∷ leaves) are = absurd are
 numbers_placed (place ∷ places) [] are = absurd are
@@ -540,7 +540,7 @@ numbers_placed (place ∷ places) (leaf ∷ leaves) (one, are) =
 
 module _ (image : Image) (since : ℕ) (old : List Leaf) (stored : AreStored old)
     (keeps : KeepsHeld image (from_entries (objects_in_all old)) since) where
-  leaf_held : (leaf : ℕ) → has_leaf image leaf ≡ true → is_changed image since leaf ≡ false → is_one_of leaf (numbers_of old) ≡ true
+  pub leaf_held : (leaf : ℕ) → has_leaf image leaf ≡ true → is_changed image since leaf ≡ false → is_one_of leaf (numbers_of old) ≡ true
   leaf_held leaf has unchanged = by (find nat_cmp name (objects_in_all old)) refl where
     stands : StandsIn leaf (entries image)
     stands = some_in leaf (entries image) (sym (one_is_found leaf (entries image)) ∙ sym (has_is_one image leaf) ∙ has)

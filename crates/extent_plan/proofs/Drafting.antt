@@ -1,25 +1,28 @@
 -- Leaves drafted one after the other.
-use Rattle.std.proofs.Common.{◌≡◌, inl, inr, ℕ, ◌+◌, ◌-◌, ◌*◌, ◌/◌, ◌^◌, ◌<◌, ◌≤◌, false, List, [], ◌∷◌, ◌++◌, length, None, Some, refl, sym, ap, subst, ◌∙◌, append_assoc, length-append, arith}
+use Rattle.std.proofs.Common.{◌≡◌, ℕ, ◌+◌, ◌^◌, ◌<◌, ◌≤◌, ◌==◌, Bool, true, false, cond, List, [], ◌∷◌, ◌++◌, length, refl, sym, ap, subst, ◌∙◌, append_assoc, arith}
 use Rattle.std.specs.List.{AllByRecursion}
 use Rattle.std.specs.List.Sorted.{IsStrictlySortedBy}
 use Rattle.std.specs.Ordering.{nat_cmp}
-use Rattle.std.specs.FinMap.{get}
+use Rattle.std.proofs.lemmas.Bool.Decides.{nat_tests}
 use Rattle.std.proofs.lemmas.List.{map-append}
-use Rattle.gem_object.specs.declared.object.Object.{Object}
-use Rattle.gem_image.specs.Image.{Image, AreSpelled}
+use Rattle.gem_image.specs.Image.{Image, AreNamed, AreSpelled}
 use Rattle.extent_pages.specs.Spelled.{spelled_leaf}
-use Rattle.extent_pages.specs.Contents.{leaf_size}
 use Rattle.extent_pages.specs.Extent.{Leaf, largest_serial}
 use Rattle.extent_pages.specs.Stored.{AreOfLeaf}
 use Rattle.extent_plan.specs.declared.place.LeafPlace.{LeafPlace}
 use Rattle.extent_plan.specs.declared.draft.Draft.{Draft}
 use Rattle.extent_plan.specs.declared.draft.Draft.TheVariants.{Shared, Fresh}
 use Rattle.extent_plan.specs.declared.fresh.FreshLeaf.{FreshLeaf}
-use Rattle.extent_plan.specs.Leaves.{leaf_objects, is_changed, name_in, Holds}
+use Rattle.extent_plan.specs.Leaves.{leaf_objects, is_changed, Holds}
 use Rattle.extent_plan.specs.Plan.{IsPlace, SamePlace, ArePlaces}
-use Rattle.extent_plan.specs.Drafts.{unplaced, IsSpelledLeaf, DraftsTo, AgreesBelow, StaysHere, IsToWrite, IsDrafted, IsSharable, Sharing, numbers_of, objects_in_all, Drafted}
+use Rattle.extent_plan.specs.Needed.{has_leaf, numbers_at, AreToWrite}
+use Rattle.extent_plan.specs.Drafts.{unplaced, IsSpelledLeaf, DraftsTo, AgreesBelow, places_behind, IsSharable, Sharing, numbers_of, objects_in_all, Drafted}
 use Rattle.extent_plan.proofs.Agrees.{holds_own, agrees_none, agrees_more, agrees_all, objects_more}
-use Rattle.extent_plan.proofs.Stored.{all_both, all_less, sorted_push, sorted_none, are_own, some_own}
+use Rattle.extent_plan.proofs.Stored.{all_both, all_less, sorted_push, sorted_none, are_own}
+use Rattle.extent_plan.proofs.Merging.{StaysHere, SpelledHere, Merged, Comes, merge_start, stays_next, spelled_next, nothing_more}
+
+some_objects : (image : Image) (leaf : ℕ) → has_leaf image leaf ≡ true → 0 < length (leaf_objects image leaf)
+some_objects image leaf there = grind (arith, nat_tests, there)
 
 one_of_all : {X : Type 0} (P : X → Type 0) (before : List X) (x : X) (after : List X) → AllByRecursion P (before ++ x ∷ after) → P x
 one_of_all P [] x after all = all.0
@@ -97,26 +100,20 @@ module _ (image : Image) where
 
   -- ---- places
 
-  -- the leaves of places in two parts
-  record Parted (before rest : List LeafPlace) (leaves : List Leaf) : Type 0 where
+  -- the leaves that are left behind the places of one leaf
+  record Left (rest : List LeafPlace) (leaves : List Leaf) : Type 0 where
     front : List Leaf
     back : List Leaf
     whole : leaves ≡ front ++ back
-    fronts : ArePlaces before front
     backs : ArePlaces rest back
 
-  parted : (before rest : List LeafPlace) (leaves : List Leaf) → ArePlaces (before ++ rest) leaves → Parted before rest leaves
-  parted [] rest leaves are = record { front = []; back = leaves; whole = refl; fronts = tt; backs = are }
-  parted (place ∷ before) rest [] are = absurd are
-  parted (place ∷ before) rest (leaf ∷ leaves) are =
-      let more = parted before rest leaves are.1 in
-      record {
-        front = leaf ∷ more.front;
-        back = more.back;
-        whole = ap (λ (l : List Leaf). leaf ∷ l) more.whole;
-        fronts = (are.0, more.fronts);
-        backs = more.backs;
-      }
+  left_behind : (leaf : ℕ) (places : List LeafPlace) (leaves : List Leaf) → ArePlaces places leaves → Left (places_behind leaf places) leaves
+  left_behind leaf [] leaves are = record { front = []; back = leaves; whole = refl; backs = are }
+  left_behind leaf (place ∷ places) [] are = absurd are
+  left_behind leaf (place ∷ places) (first ∷ leaves) are = by (place.number == leaf) where
+    by : (b : Bool) → Left (cond b places (place ∷ places)) (first ∷ leaves)
+    by true = record { front = first ∷ []; back = leaves; whole = refl; backs = are.1 }
+    by false = record { front = []; back = first ∷ leaves; whole = refl; backs = are }
 
   record First (place : LeafPlace) (rest : List LeafPlace) (leaves : List Leaf) : Type 0 where
     leaf : Leaf
@@ -140,147 +137,135 @@ module _ (image : Image) where
 
   -- ---- the loop
 
-  -- the leaves below this number are drafted
-  pub record Drafting (old : List Leaf) (places : List LeafPlace) (drafts : List Draft) (next : ℕ) : Type 0 where
-    pub made : List Leaf
-    pub left : List Leaf
-    pub to : DraftsTo image old drafts made left
-    pub places_are : ArePlaces places left
-    pub agrees : AgreesBelow image next (objects_in_all made)
-    pub ascend : IsStrictlySortedBy nat_cmp (numbers_of made)
-    pub below : AllByRecursion (λ number. number < next) (numbers_of made)
-    pub small : AllByRecursion (λ number. number < 2 ^ 42) (numbers_of made)
-    pub each : AllByRecursion (λ (leaf : Leaf). AreOfLeaf leaf.number leaf.objects) made
+  module _ (kept changed : List ℕ) (old : List Leaf) where
+    -- the leaves below a number are drafted
+    pub record Drafting (places : List LeafPlace) (left : List ℕ) (drafts : List Draft) : Type 0 where
+      pub next : ℕ
+      pub merged : Merged kept changed places left next
+      pub made : List Leaf
+      pub old_left : List Leaf
+      pub to : DraftsTo image old drafts made old_left
+      pub places_are : ArePlaces places old_left
+      pub agrees : AgreesBelow image next (objects_in_all made)
+      pub ascend : IsStrictlySortedBy nat_cmp (numbers_of made)
+      pub below : AllByRecursion (λ number. number < next) (numbers_of made)
+      pub small : AllByRecursion (λ number. number < 2 ^ 42) (numbers_of made)
+      pub each : AllByRecursion (λ (leaf : Leaf). AreOfLeaf leaf.number leaf.objects) made
 
-  pub draft_start : (old : List Leaf) (places : List LeafPlace) → ArePlaces places old → Drafting old places [] 0
-  draft_start old places are = record {
-    made = [];
-    left = old;
-    to = (refl, ([], refl));
-    places_are = are;
-    agrees = agrees_none image;
-    ascend = sorted_none;
-    below = tt;
-    small = tt;
-    each = tt;
-  }
+    -- one leaf more, as it was made
+    leaf_more : (places rest : List LeafPlace) (left behind : List ℕ) (drafts new : List Draft) (leaf : Leaf) (old_left : List Leaf)
+        → (done : Drafting places left drafts) → Comes kept changed image rest behind done.next leaf.number
+        → Holds image leaf → AreOfLeaf leaf.number leaf.objects
+        → DraftsTo image old new (done.made ++ leaf ∷ []) old_left → ArePlaces rest old_left
+        → Drafting rest behind new
+    leaf_more places rest left behind drafts new leaf old_left done comes holds are to rest_are =
+        let next = done.next in
+        let least = comes.least in
+        record {
+          next = leaf.number + 1;
+          merged = comes.merged;
+          made = done.made ++ leaf ∷ [];
+          old_left = old_left;
+          to = to;
+          places_are = rest_are;
+          agrees = subst (AgreesBelow image (leaf.number + 1)) (sym (objects_more image done.made leaf))
+              (agrees_more image next (objects_in_all done.made) leaf done.agrees least comes.none holds);
+          ascend = subst (IsStrictlySortedBy nat_cmp) (numbers done.made) (sorted_push (numbers_of done.made) leaf.number done.ascend
+              (all_less (λ n. n < next) (λ n. n < leaf.number) (λ (n : ℕ) (b : n < next). omega (arith, b, least)) (numbers_of done.made) done.below));
+          below = subst (AllByRecursion (λ n. n < leaf.number + 1)) (numbers done.made) (all_both (λ n. n < leaf.number + 1) (numbers_of done.made) (leaf.number ∷ [])
+              (all_less (λ n. n < next) (λ n. n < leaf.number + 1) (λ (n : ℕ) (b : n < next). omega (arith, b, least)) (numbers_of done.made) done.below)
+              (omega arith, tt));
+          small = subst (AllByRecursion (λ n. n < 2 ^ 42)) (numbers done.made)
+              (all_both (λ n. n < 2 ^ 42) (numbers_of done.made) (leaf.number ∷ []) done.small (comes.low, tt));
+          each = all_both (λ (l : Leaf). AreOfLeaf l.number l.objects) done.made (leaf ∷ []) done.each (are, tt);
+        }
+      where
+        numbers : (made : List Leaf) → numbers_of made ++ leaf.number ∷ [] ≡ numbers_of (made ++ leaf ∷ [])
+        numbers made = sym (map-append (λ (l : Leaf). l.number) made (leaf ∷ []))
 
-  -- one leaf more, as it was made
-  leaf_more : (old : List Leaf) (places rest : List LeafPlace) (drafts new : List Draft) (next : ℕ) (leaf : Leaf) (left : List Leaf)
-      → (done : Drafting old places drafts next) → next ≤ leaf.number → leaf.number < 2 ^ 42
-      → ((name : ℕ) → next ≤ name / leaf_size → name / leaf_size < leaf.number → get image name ≡ None)
-      → Holds image leaf → AreOfLeaf leaf.number leaf.objects
-      → DraftsTo image old new (done.made ++ leaf ∷ []) left → ArePlaces rest left
-      → Drafting old rest new (leaf.number + 1)
-  leaf_more old places rest drafts new next leaf left done least few none holds are to rest_are = record {
-    made = done.made ++ leaf ∷ [];
-    left = left;
-    to = to;
-    places_are = rest_are;
-    agrees = subst (AgreesBelow image (leaf.number + 1)) (sym (objects_more image done.made leaf))
-        (agrees_more image next (objects_in_all done.made) leaf done.agrees least none holds);
-    ascend = subst (IsStrictlySortedBy nat_cmp) numbers (sorted_push (numbers_of done.made) leaf.number done.ascend
-        (all_less (λ n. n < next) (λ n. n < leaf.number) (λ (n : ℕ) (b : n < next). omega (arith, b, least)) (numbers_of done.made) done.below));
-    below = subst (AllByRecursion (λ n. n < leaf.number + 1)) numbers (all_both (λ n. n < leaf.number + 1) (numbers_of done.made) (leaf.number ∷ [])
-        (all_less (λ n. n < next) (λ n. n < leaf.number + 1) (λ (n : ℕ) (b : n < next). omega (arith, b, least)) (numbers_of done.made) done.below)
-        (omega arith, tt));
-    small = subst (AllByRecursion (λ n. n < 2 ^ 42)) numbers (all_both (λ n. n < 2 ^ 42) (numbers_of done.made) (leaf.number ∷ []) done.small (few, tt));
-    each = all_both (λ (l : Leaf). AreOfLeaf l.number l.objects) done.made (leaf ∷ []) done.each (are, tt);
-  } where
-    numbers : numbers_of done.made ++ leaf.number ∷ [] ≡ numbers_of (done.made ++ leaf ∷ [])
-    numbers = sym (map-append (λ (l : Leaf). l.number) done.made (leaf ∷ []))
+    module _ (since : ℕ) (named : AreNamed image) (are : AreToWrite image since kept changed) where
+      pub draft_start : (places : List LeafPlace) → numbers_at places ≡ kept → ArePlaces places old → Drafting places changed []
+      draft_start places is places_are = record {
+        next = 0;
+        merged = merge_start kept changed image since named are places is;
+        made = [];
+        old_left = old;
+        to = (refl, ([], refl));
+        places_are = places_are;
+        agrees = agrees_none image;
+        ascend = sorted_none;
+        below = tt;
+        small = tt;
+        each = tt;
+      }
 
-  module _ (since : ℕ) (old : List Leaf) (sharing : Sharing image since old) (spelled : AreSpelled image) where
-    stays_more : (places rest : List LeafPlace) (drafts new : List Draft) (next leaf : ℕ)
-        → Drafting old places drafts next → next ≤ leaf → leaf < 2 ^ 42
-        → ((name : ℕ) → next ≤ name / leaf_size → name / leaf_size < leaf → get image name ≡ None)
-        → StaysHere image since leaf places rest drafts new → Drafting old rest new (leaf + 1)
-    stays_more places rest drafts new next leaf done least few none stays =
-        let parts = parted stays.before (stays.place ∷ rest) done.left (subst (λ l. ArePlaces l done.left) stays.places_are done.places_are) in
-        let first = first_place stays.place rest parts.back parts.backs in
-        let is = same_place stays.place stays.copy first.leaf stays.same first.is in
-        let number : first.leaf.number ≡ leaf = sym first.is.number ∙ stays.number in
-        let split : done.left ≡ parts.front ++ first.leaf ∷ first.others = parts.whole ∙ ap (λ (l : List Leaf). parts.front ++ l) first.whole in
-        let behind = drafts_left old drafts done.made done.left done.to in
-        let whole : old ≡ (behind.0 ++ parts.front) ++ first.leaf ∷ first.others =
-        behind.1 ∙ ap (λ (l : List Leaf). behind.0 ++ l) split ∙ sym (append_assoc behind.0 parts.front (first.leaf ∷ first.others)) in
-        let sharable = one_of_all (IsSharable image since) (behind.0 ++ parts.front) first.leaf first.others
-        (subst (AllByRecursion (IsSharable image since)) whole sharing) in
-        let to : DraftsTo image old new (done.made ++ first.leaf ∷ []) first.others =
-        subst (λ d. DraftsTo image old d (done.made ++ first.leaf ∷ []) first.others) (sym stays.drafts)
-        (drafts_shared old drafts done.made done.left parts.front first.leaf first.others stays.copy split is done.to) in
-        subst (λ (n : ℕ). Drafting old rest new (n + 1)) number
-        (leaf_more old places rest drafts new next first.leaf first.others done
-        (subst (λ (n : ℕ). next ≤ n) (sym number) least) (subst (λ (n : ℕ). n < 2 ^ 42) (sym number) few)
-        (λ name from below. none name from (subst (λ (n : ℕ). name / leaf_size < n) number below))
-        (sharable.holds
-        (subst (λ (n : ℕ). is_changed image since n ≡ false) (sym number) stays.unchanged))
-        sharable.are to first.are)
+      module _ (sharing : Sharing image since old) (spelled : AreSpelled image) where
+        pub kept_more : (places rest : List LeafPlace) (left : List ℕ) (drafts new : List Draft) → Drafting places left drafts
+            → StaysHere places rest left drafts new → Drafting rest left new
+        kept_more places rest left drafts new done stays =
+            let next = stays_next kept changed image since named are places rest left drafts new done.next done.merged stays in
+            let first = first_place stays.place rest done.old_left (subst (λ l. ArePlaces l done.old_left) stays.places_are done.places_are) in
+            let is = same_place stays.place stays.keeps.copy first.leaf stays.keeps.same first.is in
+            let number : stays.place.number ≡ first.leaf.number = first.is.number in
+            let front = drafts_left old drafts done.made done.old_left done.to in
+            let whole : old ≡ front.0 ++ first.leaf ∷ first.others =
+            front.1 ∙ ap (λ (l : List Leaf). front.0 ++ l) first.whole in
+            let sharable = one_of_all (IsSharable image since) front.0 first.leaf first.others
+            (subst (AllByRecursion (IsSharable image since)) whole sharing) in
+            let to : DraftsTo image old new (done.made ++ first.leaf ∷ []) first.others =
+            subst (λ d. DraftsTo image old d (done.made ++ first.leaf ∷ []) first.others) (sym stays.keeps.drafts)
+            (drafts_shared old drafts done.made done.old_left [] first.leaf first.others stays.keeps.copy first.whole is done.to) in
+            leaf_more places rest left left drafts new first.leaf first.others done
+            (subst (λ (n : ℕ). Comes kept changed image rest left done.next n) number next.0)
+            (sharable.holds (subst (λ (n : ℕ). is_changed image since n ≡ false) number next.2))
+            sharable.are to first.are
 
-    writes_more : (places rest : List LeafPlace) (drafts new : List Draft) (next leaf : ℕ)
-        → Drafting old places drafts next → next ≤ leaf → leaf < 2 ^ 42
-        → ((name : ℕ) → next ≤ name / leaf_size → name / leaf_size < leaf → get image name ≡ None)
-        → 0 < length (leaf_objects image leaf)
-        → IsToWrite image since leaf places rest drafts new → Drafting old rest new (leaf + 1)
-    writes_more places rest drafts new next leaf done least few none some w =
-        let parts = parted w.before rest done.left (subst (λ l. ArePlaces l done.left) w.places_are done.places_are) in
-        let objects = leaf_objects image leaf in
-        let same : leaf_objects image w.fresh.number ≡ objects = ap (leaf_objects image) w.is.number in
-        let payload : w.fresh.payload.items ≡ spelled_leaf objects = w.is.payload
-        ∙ ap (λ (n : ℕ). n ∷ w.gathered.items.items) w.are.count ∙ ap (λ (l : List ℕ). length objects ∷ l) w.are.items in
-        let spelled_so : IsSpelledLeaf image w.fresh = record {
-          payload = payload ∙ ap spelled_leaf (sym same);
-          count = w.is.count ∙ w.are.count ∙ ap length (sym same);
-          serial = w.is.serial ∙ w.are.serial ∙ ap largest_serial (sym same);
-          are = subst (λ (n : ℕ). AreOfLeaf n (leaf_objects image n)) (sym w.is.number) (are_own image spelled leaf few some);
-        } in
-        let to : DraftsTo image old new (done.made ++ unplaced image leaf ∷ []) parts.back =
-        subst (λ d. DraftsTo image old d (done.made ++ unplaced image leaf ∷ []) parts.back) (sym w.drafts)
-        (subst (λ (n : ℕ). DraftsTo image old (drafts ++ Fresh w.fresh ∷ []) (done.made ++ unplaced image n ∷ []) parts.back) w.is.number
-        (drafts_fresh old drafts done.made parts.back w.fresh spelled_so
-        (drafts_pass old drafts done.made done.left parts.front parts.back parts.whole done.to))) in
-        leaf_more old places rest drafts new next (unplaced image leaf) parts.back done least few none
-        (holds_own image leaf) (are_own image spelled leaf few some) to parts.backs
+        pub spelled_more : (places rest : List LeafPlace) (left behind : List ℕ) (drafts new : List Draft) → Drafting places left drafts
+            → SpelledHere image places rest left behind drafts new → Drafting rest behind new
+        spelled_more places rest left behind drafts new done w =
+            let next = spelled_next kept changed image since named are places rest left behind drafts new done.next done.merged w in
+            let s = w.spells in
+            let parts = left_behind w.leaf places done.old_left done.places_are in
+            let objects = leaf_objects image w.leaf in
+            let own = are_own image spelled w.leaf next.0.low (some_objects image w.leaf next.0.there) in
+            let same : leaf_objects image s.fresh.number ≡ objects = ap (leaf_objects image) s.is.number in
+            let payload : s.fresh.payload.items ≡ spelled_leaf objects = s.is.payload
+            ∙ ap (λ (n : ℕ). n ∷ s.gathered.items.items) s.are.count ∙ ap (λ (l : List ℕ). length objects ∷ l) s.are.items in
+            let spelled_so : IsSpelledLeaf image s.fresh = record {
+              payload = payload ∙ ap spelled_leaf (sym same);
+              count = s.is.count ∙ s.are.count ∙ ap length (sym same);
+              serial = s.is.serial ∙ s.are.serial ∙ ap largest_serial (sym same);
+              are = subst (λ (n : ℕ). AreOfLeaf n (leaf_objects image n)) (sym s.is.number) own;
+            } in
+            let to : DraftsTo image old new (done.made ++ unplaced image w.leaf ∷ []) parts.back =
+            subst (λ d. DraftsTo image old d (done.made ++ unplaced image w.leaf ∷ []) parts.back) (sym s.drafts)
+            (subst (λ (n : ℕ). DraftsTo image old (drafts ++ Fresh s.fresh ∷ []) (done.made ++ unplaced image n ∷ []) parts.back) s.is.number
+            (drafts_fresh old drafts done.made parts.back s.fresh spelled_so
+            (drafts_pass old drafts done.made done.old_left parts.front parts.back parts.whole done.to))) in
+            leaf_more places rest left behind drafts new (unplaced image w.leaf) parts.back done next.0
+            (holds_own image w.leaf) own to
+            (subst (λ (l : List LeafPlace). ArePlaces l parts.back) (sym w.rest_is) parts.backs)
 
-    pub drafted_more : (places rest : List LeafPlace) (drafts new : List Draft) (next leaf : ℕ)
-        → Drafting old places drafts next → next ≤ leaf → leaf < 2 ^ 42
-        → ((name : ℕ) → next ≤ name / leaf_size → name / leaf_size < leaf → get image name ≡ None)
-        → 0 < length (leaf_objects image leaf)
-        → IsDrafted image since leaf places rest drafts new → Drafting old rest new (leaf + 1)
-    drafted_more places rest drafts new next leaf done least few none some (inl stays) =
-        stays_more places rest drafts new next leaf done least few none stays
-    drafted_more places rest drafts new next leaf done least few none some (inr writes) =
-        writes_more places rest drafts new next leaf done least few none some writes
+      -- the image has nothing from here on
+      pub draft_end : (places : List LeafPlace) (left : List ℕ) (drafts : List Draft) → Drafting places left drafts
+          → places ≡ [] → left ≡ [] → Drafted image old drafts
+      draft_end places left drafts done no_place no_leaf = record {
+        made = done.made;
+        left = done.old_left;
+        to = done.to;
+        agrees = agrees_all image done.next (objects_in_all done.made) done.agrees
+            (nothing_more kept changed image since named are places left done.next done.merged no_place no_leaf);
+        ascend = done.ascend;
+        small = done.small;
+        each = done.each;
+      }
 
-  -- the image has nothing from here on
-  pub draft_end : (old : List Leaf) (places : List LeafPlace) (drafts : List Draft) (next : ℕ) → Drafting old places drafts next
-      → ((name : ℕ) → next ≤ name / leaf_size → get image name ≡ None) → Drafted image old drafts
-  draft_end old places drafts next done none = record {
-    made = done.made;
-    left = done.left;
-    to = done.to;
-    agrees = agrees_all image next (objects_in_all done.made) done.agrees none;
-    ascend = done.ascend;
-    small = done.small;
-    each = done.each;
-  }
+-- ---- what is left
 
-  -- the next leaf that has an object
-  pub next_drafted : (since : ℕ) (old : List Leaf) → Sharing image since old → AreSpelled image
-      → (places rest : List LeafPlace) (drafts new : List Draft) (next oid leaf : ℕ) (object : Object)
-      → Drafting old places drafts next → leaf_size * next ≤ oid → oid < 2 ^ 48 → get image oid ≡ Some object
-      → ((name : ℕ) → leaf_size * next ≤ name → name < oid → get image name ≡ None) → leaf ≡ oid / leaf_size
-      → IsDrafted image since leaf places rest drafts new → Drafting old rest new (leaf + 1)
-  next_drafted since old sharing spelled places rest drafts new next oid leaf object done from few there none leaf_is drafted =
-      let place : ℕ = oid - leaf_size * leaf in
-      let name_is : oid ≡ name_in leaf place = omega (arith, leaf_is) in
-      let own : get image (name_in leaf place) ≡ Some object = subst (λ (n : ℕ). get image n ≡ Some object) name_is there in
-      drafted_more since old sharing spelled places rest drafts new next leaf done
-      (omega (arith, leaf_is, from)) (omega (arith, leaf_is, few))
-      (λ name low high. none name (omega (arith, low)) (omega (arith, high, leaf_is)))
-      (some_own image leaf place leaf_size object (omega (arith, leaf_is)) own) drafted
-
-  pub drafted_long : (since leaf : ℕ) (places rest : List LeafPlace) (old new : List Draft) → IsDrafted image since leaf places rest old new
-      → length new ≡ length old + 1
-  drafted_long since leaf places rest old new (inl stays) = omega (arith, ap length stays.drafts, length-append old (Shared stays.copy ∷ []))
-  drafted_long since leaf places rest old new (inr writes) = omega (arith, ap length writes.drafts, length-append old (Fresh writes.fresh ∷ []))
+-- behind a leaf there are no more places
+pub no_longer : (leaf : ℕ) (places : List LeafPlace) → length (places_behind leaf places) ≤ length places
+no_longer leaf [] = omega arith
+no_longer leaf (place ∷ places) = by (place.number == leaf) where
+  by : (b : Bool) → length (cond b places (place ∷ places)) ≤ length (place ∷ places)
+  by true = omega arith
+  by false = omega arith

@@ -1,5 +1,5 @@
 -- What is gathered of a leaf, name by name.
-use Rattle.std.proofs.Common.{◌≡◌, ℕ, zero, suc, ◌≤◌, max, Bool, false, ◌||◌, List, [], ◌∷◌, ◌++◌, length, Option, None, Some, refl, sym, ap, subst, ◌∙◌, append_assoc, append-nil, length-append, arith}
+use Rattle.std.proofs.Common.{◌≡◌, ℕ, zero, suc, ◌≤◌, max, List, [], ◌∷◌, ◌++◌, length, Option, None, Some, refl, sym, ap, subst, ◌∙◌, append_assoc, append-nil, length-append, arith}
 use Rattle.std.specs.List.{flat_map, fold}
 use Rattle.std.specs.FinMap.{get}
 use Rattle.gem_object.specs.declared.object.Object.{Object}
@@ -8,7 +8,7 @@ use Rattle.gem_image.specs.Image.{Image}
 use Rattle.body_codec.specs.Spelled.{spelled_changed}
 use Rattle.extent_pages.specs.Extent.{larger_serial, largest_serial}
 use Rattle.extent_plan.specs.declared.gather.Gathered.{Gathered}
-use Rattle.extent_plan.specs.Leaves.{plain, stored_at, name_in, objects_before, later_before, is_later}
+use Rattle.extent_plan.specs.Leaves.{plain, stored_at, name_in, objects_before}
 use Rattle.extent_plan.specs.Gathered.{Adds, AreGathered}
 
 -- ---- lists with one item more
@@ -74,15 +74,3 @@ pub gather_none : (image : Image) (leaf : ℕ) (gathered : Gathered) → AreGath
     → AreGathered (objects_before image leaf 0) gathered
 unfolding objects_before
 gather_none image leaf gathered is = is
-
--- ---- whether one was changed later
-
-pub later_none : (image : Image) (since leaf : ℕ) → false ≡ later_before image since leaf 0
-unfolding later_before
-later_none image since leaf = refl
-
-pub later_next : (image : Image) (since leaf place : ℕ) (changed : Bool)
-    → changed ≡ later_before image since leaf place
-    → (changed || is_later since (get image (name_in leaf place))) ≡ later_before image since leaf (suc place)
-unfolding later_before
-later_next image since leaf place changed is = ap (λ b. b || is_later since (get image (name_in leaf place))) is

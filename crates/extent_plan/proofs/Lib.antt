@@ -13,6 +13,9 @@ pub mod Assembling
 pub mod Sharing
 pub mod Marking
 pub mod Needs
+pub mod Merging
+pub mod Tallies
 pub mod Same
 pub mod Storing
 pub mod Counts
+pub mod Changed

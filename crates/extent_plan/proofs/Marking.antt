@@ -1,5 +1,6 @@
 -- Pages that are marked, and those that are collected.
 use Rattle.std.proofs.Common.{◌≡◌, ◌≢◌, ◌⊎◌, inl, inr, ℕ, zero, suc, replicate, ◌+◌, ◌≤◌, ◌<◌, ◌==◌, Bool, true, false, ◌||◌, List, [], ◌∷◌, ◌++◌, length, take, drop, get_or, refl, sym, ap, subst, ◌∙◌, length-append, arith}
+use Rattle.std.specs.List.{AllByRecursion}
 use Rattle.std.proofs.lemmas.Bool.{eq-eqb}
 use Rattle.std.proofs.lemmas.List.{take_at}
 use Rattle.extent_pages.specs.Pages.{is_one_of}
@@ -44,53 +45,68 @@ ascend_more : (from : ℕ) (pages : List ℕ) (page : ℕ) → AscendFrom from p
 ascend_more from [] page ascend last = (last, tt)
 ascend_more from (first ∷ pages) page ascend last = (ascend.0, ascend_more (first + 1) pages page ascend.1 last)
 
-pub collect_none : (marks : List Bool) → Collected marks [] 3
-collect_none marks = record {
-  ascend = tt;
-  last = omega arith;
-  few = omega arith;
-  are = λ page low high. absurd (omega (arith, low, high));
-  low = λ page low. refl;
-  high = λ page high. refl;
-}
-
 split : (a b : ℕ) → a < b + 1 → (a < b) ⊎ (a ≡ b)
 split a b below = search arith
 
-pub collect_skip : (marks : List Bool) (pages : List ℕ) (to : ℕ) → Collected marks pages to → get_or marks to false ≡ false
-    → Collected marks pages (to + 1)
-collect_skip marks pages to is unmarked = record {
+pub collect_none : (from : ℕ) (test : ℕ → Bool) → Collected from test [] from
+collect_none from test = record {
+  ascend = tt;
+  last = omega arith;
+  few = omega arith;
+  are = λ number low high. absurd (omega (arith, low, high));
+  low = λ number low. refl;
+  high = λ number high. refl;
+}
+
+pub collect_take : (from : ℕ) (test : ℕ → Bool) (numbers : List ℕ) (to : ℕ) → from ≤ to → Collected from test numbers to → test to ≡ true
+    → Collected from test (numbers ++ to ∷ []) (to + 1)
+collect_take from test numbers to least is marked = record {
+  ascend = ascend_more from numbers to is.ascend is.last;
+  last = omega (arith, behind_more from numbers to);
+  few = omega (arith, is.few, length-append numbers (to ∷ []));
+  are = λ number low high. by number low (split number to high);
+  low = λ number low. none number (λ e. omega (arith, e, low, least)) (is.low number low);
+  high = λ number high. none number (λ e. omega (arith, e, high)) (is.high number (omega (arith, high)));
+} where
+  none : (number : ℕ) → number ≢ to → is_one_of number numbers ≡ false → is_one_of number (numbers ++ to ∷ []) ≡ false
+  none number differ other = none_of_both number numbers (to ∷ []) other (ap (λ b. b || false) (not_same number to differ))
+
+  by : (number : ℕ) → from ≤ number → (number < to) ⊎ (number ≡ to) → is_one_of number (numbers ++ to ∷ []) ≡ test number
+  by number low (inl below) = one_of_both number numbers (to ∷ [])
+      ∙ ap (λ b. is_one_of number numbers || (b || false)) (not_same number to (λ e. omega (arith, e, below)))
+      ∙ or_none (is_one_of number numbers) ∙ is.are number low below
+  by number low (inr here) = one_of_both number numbers (to ∷ [])
+      ∙ ap (λ b. b || is_one_of number (to ∷ [])) (is.high number (omega (arith, here)))
+      ∙ ap (λ b. b || false) (eq-eqb number to here) ∙ sym (ap test here ∙ marked)
+
+-- there are none up to this number
+pub collect_over : (from : ℕ) (test : ℕ → Bool) (numbers : List ℕ) (to high : ℕ) → to ≤ high → Collected from test numbers to
+    → ((number : ℕ) → to ≤ number → number < high → test number ≡ false) → Collected from test numbers high
+collect_over from test numbers to high more is none = record {
   ascend = is.ascend;
-  last = omega (arith, is.last);
-  few = omega (arith, is.few);
-  are = λ page low high. by page low (split page to high);
+  last = omega (arith, is.last, more);
+  few = omega (arith, is.few, more);
+  are = λ number least below. by number least below (side number to);
   low = is.low;
-  high = λ page high. is.high page (omega (arith, high));
+  high = λ number above. is.high number (omega (arith, above, more));
 } where
-  by : (page : ℕ) → 3 ≤ page → (page < to) ⊎ (page ≡ to) → is_one_of page pages ≡ get_or marks page false
-  by page low (inl below) = is.are page low below
-  by page low (inr here) = is.high page (omega (arith, here)) ∙ sym (ap (λ (n : ℕ). get_or marks n false) here ∙ unmarked)
+  side : (a b : ℕ) → (a < b) ⊎ (b ≤ a)
+  side a b = search arith
 
-pub collect_take : (marks : List Bool) (pages : List ℕ) (to : ℕ) → 3 ≤ to → Collected marks pages to → get_or marks to false ≡ true
-    → Collected marks (pages ++ to ∷ []) (to + 1)
-collect_take marks pages to least is marked = record {
-  ascend = ascend_more 3 pages to is.ascend is.last;
-  last = omega (arith, behind_more 3 pages to);
-  few = omega (arith, is.few, length-append pages (to ∷ []));
-  are = λ page low high. by page low (split page to high);
-  low = λ page low. none page (λ e. omega (arith, e, low, least)) (is.low page low);
-  high = λ page high. none page (λ e. omega (arith, e, high)) (is.high page (omega (arith, high)));
-} where
-  none : (page : ℕ) → page ≢ to → is_one_of page pages ≡ false → is_one_of page (pages ++ to ∷ []) ≡ false
-  none page differ other = none_of_both page pages (to ∷ []) other (ap (λ b. b || false) (not_same page to differ))
+  by : (number : ℕ) → from ≤ number → number < high → (number < to) ⊎ (to ≤ number) → is_one_of number numbers ≡ test number
+  by number least below (inl less) = is.are number least less
+  by number least below (inr above) = is.high number above ∙ sym (none number above below)
 
-  by : (page : ℕ) → 3 ≤ page → (page < to) ⊎ (page ≡ to) → is_one_of page (pages ++ to ∷ []) ≡ get_or marks page false
-  by page low (inl below) = one_of_both page pages (to ∷ [])
-      ∙ ap (λ b. is_one_of page pages || (b || false)) (not_same page to (λ e. omega (arith, e, below)))
-      ∙ or_none (is_one_of page pages) ∙ is.are page low below
-  by page low (inr here) = one_of_both page pages (to ∷ [])
-      ∙ ap (λ b. b || is_one_of page (to ∷ [])) (is.high page (omega (arith, here)))
-      ∙ ap (λ b. b || false) (eq-eqb page to here) ∙ sym (ap (λ (n : ℕ). get_or marks n false) here ∙ marked)
+-- numbers that ascend are below what is behind them
+behind_least : (from : ℕ) (numbers : List ℕ) → AscendFrom from numbers → from ≤ behind from numbers
+behind_least from [] ascend = omega arith
+behind_least from (first ∷ numbers) ascend = omega (arith, ascend.0, behind_least (first + 1) numbers ascend.1)
+
+pub ascend_low : (from to : ℕ) (numbers : List ℕ) → AscendFrom from numbers → behind from numbers ≤ to
+    → AllByRecursion (λ number. number < to) numbers
+ascend_low from to [] ascend last = tt
+ascend_low from to (first ∷ numbers) ascend last =
+    (omega (arith, behind_least (first + 1) numbers ascend.1, last), ascend_low (first + 1) to numbers ascend.1 last)
 
 -- one page more is marked
 pub mark_one : (old now new : List Bool) (page : ℕ) (rest whole : List ℕ) → length now ≡ length old
@@ -100,10 +116,10 @@ mark_one old now new page rest whole long marked so =
     mark_more old now new (page ∷ []) rest whole long
     (λ other inside. marked other inside ∙ ap (λ b. get_or now other false || b) (sym (or_none (other == page)))) so
 
-pub none_outside : (marks : List Bool) (pages : List ℕ) (to page : ℕ) → Collected marks pages to → (page < 3) ⊎ (to ≤ page)
-    → is_one_of page pages ≡ false
-none_outside marks pages to page is (inl low) = is.low page low
-none_outside marks pages to page is (inr high) = is.high page high
+pub none_outside : (from : ℕ) (test : ℕ → Bool) (numbers : List ℕ) (to number : ℕ) → Collected from test numbers to
+    → (number < from) ⊎ (to ≤ number) → is_one_of number numbers ≡ false
+none_outside from test numbers to number is (inl low) = is.low number low
+none_outside from test numbers to number is (inr high) = is.high number high
 
 -- the marks of two lists, one after the other
 pub both_marked : (none one two given : List Bool) (first second : List ℕ) (page : ℕ) → page < length none

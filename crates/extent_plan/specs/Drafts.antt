@@ -1,6 +1,6 @@
--- Leaves that were looked at: which stay as they are, and which are to be written, with their bytes
--- but without pages.
-use Rattle.std.specs.Prelude.{◌≡◌, ◌⊎◌, ℕ, ◌/◌, ◌^◌, ◌<◌, ◌≤◌, true, false, List, [], ◌∷◌, ◌++◌, length, map, None}
+-- Leaves that were drafted: which stay as they are, and which are to be written, with their bytes but
+-- without pages.
+use Rattle.std.specs.Prelude.{◌≡◌, ℕ, ◌/◌, ◌^◌, ◌<◌, ◌≤◌, ◌==◌, nat_lt, Bool, true, false, if◌then◌else◌, List, [], ◌∷◌, ◌++◌, length, map, None}
 use Rattle.std.specs.List.{flat_map, AllByRecursion}
 use Rattle.std.specs.List.Sorted.{IsStrictlySortedBy}
 use Rattle.std.specs.Ordering.{nat_cmp}
@@ -18,7 +18,6 @@ use Rattle.extent_plan.specs.declared.draft.Draft.TheVariants.{Shared, Fresh}
 use Rattle.extent_plan.specs.declared.fresh.FreshLeaf.{FreshLeaf}
 use Rattle.extent_plan.specs.Leaves.{leaf_objects, is_changed, contents_at, Holds}
 use Rattle.extent_plan.specs.Gathered.{AreGathered}
-use Rattle.extent_plan.specs.Needed.{NotFirst, NotBelow, AreBelow}
 use Rattle.extent_plan.specs.Plan.{IsPlace, SamePlace}
 
 -- a leaf as an image has it; it has no pages yet
@@ -61,37 +60,34 @@ pub record IsFreshOf (leaf : ℕ) (gathered : Gathered) (fresh : FreshLeaf) : Ty
   pub serial : fresh.serial ≡ gathered.serial
   pub payload : fresh.payload.items ≡ gathered.count ∷ gathered.items.items
 
--- The first of the places that aren't passed is that of the leaf of this number, and stays.
-pub record StaysHere (image : Image) (since leaf : ℕ) (places rest : List LeafPlace)
-    (old new : List Draft) : Type 0 where
-  pub before : List LeafPlace
-  pub place : LeafPlace
-  pub places_are : places ≡ before ++ place ∷ rest
-  pub number : place.number ≡ leaf
-  pub unchanged : is_changed image since leaf ≡ false
+-- whether a leaf comes before the first of these, if there is one
+abbrev pub comes_before : ℕ → List ℕ → Bool
+comes_before leaf [] = true
+comes_before leaf (first ∷ others) = nat_lt leaf first
+
+-- the first of these places, if there is one, doesn't come before the first of these leaves
+abbrev pub NoneBefore : List LeafPlace → List ℕ → Type 0
+NoneBefore [] changed = Unit {0}
+NoneBefore (place ∷ places) changed = comes_before place.number changed ≡ false
+
+-- the places behind that of the leaf of this number, where it is the first
+abbrev pub places_behind : ℕ → List LeafPlace → List LeafPlace
+places_behind leaf [] = []
+places_behind leaf (place ∷ places) = if place.number == leaf then places else place ∷ places
+
+-- a place was drafted, which stays
+pub record KeepsPlace (place : LeafPlace) (old new : List Draft) : Type 0 where
   pub copy : LeafPlace
   pub same : SamePlace place copy
   pub drafts : new ≡ old ++ Shared copy ∷ []
 
--- The leaf of this number is to be written: an object was changed in it, or it isn't one of the
--- places.
-pub record IsToWrite (image : Image) (since leaf : ℕ) (places rest : List LeafPlace)
-    (old new : List Draft) : Type 0 where
-  pub before : List LeafPlace
-  pub places_are : places ≡ before ++ rest
-  pub below : AreBelow leaf before
-  pub first : NotBelow leaf rest
-  pub reason : (is_changed image since leaf ≡ true) ⊎ NotFirst leaf rest
+-- the leaf of this number was drafted, which is to be written as the image has it
+pub record SpellsLeaf (image : Image) (leaf : ℕ) (old new : List Draft) : Type 0 where
   pub gathered : Gathered
   pub are : AreGathered (leaf_objects image leaf) gathered
   pub fresh : FreshLeaf
   pub is : IsFreshOf leaf gathered fresh
   pub drafts : new ≡ old ++ Fresh fresh ∷ []
-
-abbrev pub IsDrafted : Image → ℕ → ℕ → List LeafPlace → List LeafPlace → List Draft → List Draft
-    → Type 0
-IsDrafted image since leaf places rest old new =
-    StaysHere image since leaf places rest old new ⊎ IsToWrite image since leaf places rest old new
 
 -- An old leaf can be stored, and where none of its objects was changed after this commit it holds
 -- what the image has.

@@ -1,9 +1,10 @@
--- How many pages a checkpoint of an image takes.
-use Rattle.std.specs.Prelude.{◌≡◌, ◌≢◌, ℕ, zero, suc, ◌+◌, ◌*◌, ◌^◌, ◌<◌, ◌≤◌, nat_lt, Bool, not, ◌&&◌, if◌then◌else◌, List, [], ◌∷◌, ◌++◌, length, map}
+-- Which leaves a checkpoint of an image writes, and how many pages it takes.
+use Rattle.std.specs.Prelude.{◌≡◌, ℕ, zero, suc, ◌+◌, ◌*◌, ◌^◌, nat_lt, Bool, true, not, ◌&&◌, if◌then◌else◌, List, length, map, Option, None, Some}
 use Rattle.gem_image.specs.Image.{Image}
 use Rattle.extent_pages.specs.Pages.{is_one_of}
 use Rattle.extent_pages.specs.Spelled.{spelled_leaf}
 use Rattle.extent_plan.specs.declared.place.LeafPlace.{LeafPlace}
+use Rattle.extent_plan.specs.Runs.{AscendFrom}
 use Rattle.extent_plan.specs.Pieces.{pages_filled}
 use Rattle.extent_plan.specs.Leaves.{leaf_objects, is_changed}
 
@@ -21,12 +22,34 @@ has_leaf image leaf = nat_lt 0 (length (leaf_objects image leaf))
 abbrev pub stays : Image → ℕ → List ℕ → ℕ → Bool
 stays image since numbers leaf = is_one_of leaf numbers && not (is_changed image since leaf)
 
+-- whether the leaf is written: the image has it, and it doesn't stay
+abbrev pub is_written : Image → ℕ → List ℕ → ℕ → Bool
+is_written image since numbers leaf = has_leaf image leaf && not (stays image since numbers leaf)
+
 -- how many pages the leaf is written on
 abbrev pub pages_written : Image → ℕ → List ℕ → ℕ → ℕ
-pages_written image since numbers leaf =
-    if has_leaf image leaf && not (stays image since numbers leaf)
+pages_written image since numbers leaf = if is_written image since numbers leaf
     then pages_filled (length (spelled_leaf (leaf_objects image leaf)))
     else 0
+
+-- These are the numbers of all leaves that are written, where the current root has those leaves and
+-- goes up to the commit of this number. Both lists ascend, and the image has each leaf of the root.
+pub record AreToWrite (image : Image) (since : ℕ) (numbers changed : List ℕ) : Type 0 where
+  pub root_ascends : AscendFrom 0 numbers
+  pub held : (leaf : ℕ) → is_one_of leaf numbers ≡ true → has_leaf image leaf ≡ true
+  pub ascend : AscendFrom 0 changed
+  pub are : (leaf : ℕ) → is_one_of leaf changed ≡ is_written image since numbers leaf
+
+-- whether a leaf counts as changed over a root that goes up to this commit: one of its objects was
+-- changed after it; without a root whether the image has the leaf
+abbrev pub counts_changed : Option ℕ → Image → ℕ → Bool
+counts_changed None image leaf = has_leaf image leaf
+counts_changed (Some since) image leaf = is_changed image since leaf
+
+-- these are the numbers of all leaves that do, in ascending order
+pub record AreChanged (root : Option ℕ) (image : Image) (changed : List ℕ) : Type 0 where
+  pub ascend : AscendFrom 0 changed
+  pub are : (leaf : ℕ) → is_one_of leaf changed ≡ counts_changed root image leaf
 
 -- 1 for a leaf, so that leaves are counted
 abbrev pub one_leaf : Image → ℕ → ℕ
@@ -45,28 +68,6 @@ pages_needed image since numbers = pages_filled (4 + 12 * leaves_in image)
 -- the numbers of places
 abbrev pub numbers_at : List LeafPlace → List ℕ
 numbers_at places = map (λ (place : LeafPlace). place.number) places
-
--- the first of these places, if there is one, isn't that of the leaf of this number
-abbrev pub NotFirst : ℕ → List LeafPlace → Type 0
-NotFirst leaf [] = Unit {0}
-NotFirst leaf (place ∷ places) = place.number ≢ leaf
-
--- nor is it one of a leaf below it
-abbrev pub NotBelow : ℕ → List LeafPlace → Type 0
-NotBelow leaf [] = Unit {0}
-NotBelow leaf (place ∷ places) = leaf ≤ place.number
-
--- the numbers of these places are below this one
-abbrev pub AreBelow : ℕ → List LeafPlace → Type 0
-AreBelow leaf [] = Unit {0}
-AreBelow leaf (place ∷ places) = (place.number < leaf) × AreBelow leaf places
-
--- Places from those of the leaf of this number on: those before it are passed.
-pub record ArePassed (leaf : ℕ) (places rest : List LeafPlace) : Type 0 where
-  pub before : List LeafPlace
-  pub parts : places ≡ before ++ rest
-  pub below : AreBelow leaf before
-  pub first : NotBelow leaf rest
 
 -- all pages of a checkpoint: the three at the front, those that the current root uses, and those that
 -- are written

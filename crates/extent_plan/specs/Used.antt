@@ -9,11 +9,15 @@ use Rattle.extent_plan.specs.Runs.{AscendFrom, behind}
 abbrev pub pages_in : List LeafPlace → List ℕ
 pages_in leaves = flat_map (λ (leaf : LeafPlace). leaf.pages.items) leaves
 
--- these are the marked pages from 3 on and before another, in ascending order
-pub record Collected (marks : List Bool) (pages : List ℕ) (to : ℕ) : Type 0 where
-  pub ascend : AscendFrom 3 pages
-  pub last : behind 3 pages ≤ to
-  pub few : 3 + length pages ≤ to
-  pub are : (page : ℕ) → 3 ≤ page → page < to → is_one_of page pages ≡ get_or marks page false
-  pub low : (page : ℕ) → page < 3 → is_one_of page pages ≡ false
-  pub high : (page : ℕ) → to ≤ page → is_one_of page pages ≡ false
+-- whether a page is marked
+abbrev pub marked : List Bool → ℕ → Bool
+marked marks page = get_or marks page false
+
+-- these are the numbers from one on and before another for which a test holds, in ascending order
+pub record Collected (from : ℕ) (test : ℕ → Bool) (numbers : List ℕ) (to : ℕ) : Type 0 where
+  pub ascend : AscendFrom from numbers
+  pub last : behind from numbers ≤ to
+  pub few : from + length numbers ≤ to
+  pub are : (number : ℕ) → from ≤ number → number < to → is_one_of number numbers ≡ test number
+  pub low : (number : ℕ) → number < from → is_one_of number numbers ≡ false
+  pub high : (number : ℕ) → to ≤ number → is_one_of number numbers ≡ false

@@ -1,9 +1,9 @@
 //! Leaves gathered from an image.
-ghost use Rattle.std.specs.Prelude.{◌≡◌, ◌<◌, ◌^◌, ◌++◌, ◌||◌, nat_lt, IfOk, OnOk};
+ghost use Rattle.std.specs.Prelude.{◌≡◌, ◌<◌, ◌^◌, ◌++◌, IfOk, OnOk};
 ghost use Rattle.std.specs.FinMap as map;
 ghost use Rattle.body_codec.specs.Spelled.{spelled_changed};
 ghost use Rattle.extent_plan.specs.Leaves;
-ghost use Rattle.extent_plan.specs.Leaves.{plain, leaf_objects, is_changed};
+ghost use Rattle.extent_plan.specs.Leaves.{plain, leaf_objects};
 ghost use Rattle.extent_plan.specs.Gathered.{AddsOne, Adds, AreGathered};
 
 use crate::numbers::put_eight;
@@ -13,7 +13,7 @@ use gem_object::{Object, Oid};
 use std::alloc::{AllocError, Global};
 
 // How many names a leaf has.
-pub(crate) const LEAF_SIZE: u64 = 64;
+const LEAF_SIZE: u64 = 64;
 
 // What was gathered of a leaf: how many objects it has, their largest serial, and each object's
 // bytes behind its name.
@@ -82,41 +82,6 @@ fn name_in(leaf: u64, place: u64) -> Oid
         unreachable!()
     };
     oid
-}
-
-fn either(one: bool, other: bool) -> bool
-    ensures { result ≡ (one || other) }
-{
-    one || other
-}
-
-fn is_later(since: u64, changed: u64) -> bool
-    ensures { result ≡ nat_lt since changed }
-{
-    since < changed
-}
-
-// Whether what stands at a name was changed after the commit of this number.
-fn name_changed(image: &Image, since: u64, oid: Oid) -> bool
-    ensures { result ≡ Leaves.is_later since (map.get image.now oid) }
-{
-    match image.look(oid) {
-        Some(object) => is_later(since, object.changed),
-        None => false,
-    }
-}
-
-// Whether an object of a leaf was changed after the commit of this number. Looks at no contents.
-pub(crate) fn leaf_changed(image: &Image, since: u64, leaf: u64) -> bool
-    requires { leaf < 2 ^ 42 }
-    ensures { result ≡ is_changed image.now since leaf }
-{
-    let mut changed = false;
-    for place in 0..LEAF_SIZE {
-        let later = name_changed(image, since, name_in(leaf, place));
-        changed = either(changed, later);
-    }
-    changed
 }
 
 // Gathers the objects that the image has at the names of a leaf.

@@ -16,7 +16,7 @@ ghost use Rattle.extent_plan.specs.declared.place.LeafPlace.{LeafPlace};
 ghost use Rattle.extent_plan.specs.Pieces.{pages_filled};
 ghost use Rattle.extent_plan.specs.Plan.{ArePlaces, Around, IsPlanned};
 ghost use Rattle.extent_plan.specs.Drafts.{objects_in_all, Sharing};
-ghost use Rattle.extent_plan.specs.Needed.{checkpoint_pages};
+ghost use Rattle.extent_plan.specs.Needed.{AreChanged, AreToWrite, numbers_at, checkpoint_pages};
 ghost use Rattle.extent_plan.specs.Shared.{KeepsHeld, Alike};
 
 /// In each file in which the pieces of a plan stand, and in which the old leaves lie in pages that are
@@ -38,6 +38,19 @@ pub fn leaves_may_stay()
     ensures { (image : Image) (since : ℕ) (old : List Leaf) →
         KeepsHeld image (from_entries (objects_in_all old)) since → AreStored old →
         Sharing image since old }
+{}
+
+/// The leaves that count as changed over a root are those that a checkpoint writes over it, where each
+/// name of the root's image is in the image, and each object that wasn't changed since stands in the
+/// root's image with the same class, segment and body. Without a root these are all leaves.
+pub fn changed_leaves_are_written()
+    ensures first { (image : Image) (since : ℕ) (changed : List ℕ) →
+        AreChanged None image changed → AreToWrite image since [] changed }
+    ensures later { (image : Image) (since : ℕ) (old : List Leaf) (places : List LeafPlace)
+        (changed : List ℕ) → ArePlaces places old → AreStored old →
+        KeepsHeld image (from_entries (objects_in_all old)) since →
+        AreChanged (Some since) image changed →
+        AreToWrite image since (numbers_at places) changed }
 {}
 
 /// The extent of a plan can be stored, where each of the old leaves can: its leaves are of their form,

@@ -1,12 +1,13 @@
 //! The plan of a checkpoint.
-ghost use Rattle.std.specs.Prelude.{◌≡◌, ◌+◌, ◌-◌, ◌*◌, ◌<◌, ◌≤◌, ◌^◌, ℕ, List, length, min, IfOk, OnOk, IsErrOf};
+ghost use Rattle.std.specs.Prelude.{◌≡◌, ◌+◌, ◌-◌, ◌*◌, ◌<◌, ◌≤◌, ◌^◌, ℕ, List, length, min, IfOk, IfSome, OnOk, IsErrOf};
+ghost use Rattle.std.specs.List.{AllByRecursion};
 ghost use Rattle.extent_pages.specs.Pages.{most_pages};
 ghost use Rattle.extent_pages.specs.Extent.{Leaf, pages_of_leaves};
 ghost use Rattle.extent_plan.specs.Runs.{AscendFrom};
 ghost use Rattle.extent_plan.specs.Pieces;
 ghost use Rattle.extent_plan.specs.Plan.{ArePlaces};
 ghost use Rattle.extent_plan.specs.Drafts.{Sharing};
-ghost use Rattle.extent_plan.specs.Needed.{numbers_at, checkpoint_pages};
+ghost use Rattle.extent_plan.specs.Needed.{numbers_at, AreToWrite, checkpoint_pages};
 ghost use Rattle.extent_plan.specs.Planning.{IsWritten, IsPlanFor};
 
 use crate::chain::put_chain;
@@ -21,6 +22,9 @@ use std::alloc::{AllocError, Global};
 
 /// The number from which on there are no pages.
 pub const MOST_PAGES: u64 = 262_144;
+
+// How many numbers there are for leaves.
+const LEAVES: usize = 1 << 42;
 
 /// What a checkpoint is to write, and where the extent lies then.
 #[derive(Debug, Drop)]
@@ -56,6 +60,17 @@ impl From<AllocError> for PlanFault {
     }
 }
 
+// The pages of a directory of so many leaves; None where they are more than there are numbers, which
+// no memory holds.
+fn directory_pages(leaves: usize) -> Option<usize>
+    ensures { IfSome result (λ pages. pages ≡ Pieces.pages_filled (4 + 12 * leaves)) }
+{
+    if leaves > LEAVES {
+        return None;
+    }
+    Some(pages_filled(4 + 12 * leaves))
+}
+
 // Makes the pieces of an extent with this number, its root in this page and its directory in these.
 fn write_plan(
     alloc: Global,
@@ -85,46 +100,52 @@ fn write_plan(
 }
 
 /// Plans a checkpoint of an image up to the commit of this number, with its root in this page. The
-/// current root goes up to the commit `since`; it uses these pages, which ascend from 3 on, and has
-/// these leaves. Where there is no root, that is 0, no page and no leaf.
+/// current root uses these pages, which ascend from 3 on, and has these leaves; where there is no
+/// root, that is no page and no leaf. The changed leaves are told by their numbers.
 ///
-/// Written are the leaves that the current root hasn't, those in which an object was changed after
-/// its commit, a directory and a root, in the lowest pages that it doesn't use; its other leaves
-/// stay. The pieces around are written before the root and behind it.
+/// Written are the changed leaves, a directory and a root, in the lowest pages that the current root
+/// doesn't use; its other leaves stay, and the image isn't asked about them. The pieces around are
+/// written before the root and behind it.
 ///
-/// The clause speaks of the old leaves as they lie; each that stays has to hold what the image has.
+/// The clauses speak of the old leaves as they lie, and of a commit up to which the root goes: the
+/// changed leaves have to be those in which an object was changed after it, and those that the root
+/// hasn't (`AreToWrite`). Each leaf that stays has to hold what the image has.
 ///
 /// # Errors
 ///
 /// `Full` exactly where the three pages at the front, those that are used and those that would be
-/// written are more than `MOST_PAGES`, with their number; it is said of leaves whose numbers ascend.
-/// `NoMemory` may come in place of any answer.
+/// written are more than `MOST_PAGES`, with their number. `NoMemory` may come in place of any answer.
 pub fn plan_checkpoint(
     alloc: Global,
     image: &Image,
     number: u64,
     page: u32,
-    since: u64,
+    changed: &[u64],
     used: &[u32],
     leaves: &[LeafPlace],
     around: (Vec<Piece>, Vec<Piece>),
 ) -> Result<Plan, PlanFault>
     requires used { AscendFrom 3 used.now }
     requires few { length used.now ≤ most_pages }
-    ensures planned { (old : List Leaf) → number < 2 ^ 63 →
+    requires low { AllByRecursion (λ leaf. leaf < 2 ^ 42) changed.now }
+    ensures planned { (since : ℕ) (old : List Leaf) → number < 2 ^ 63 →
+        AreToWrite image.now since (numbers_at leaves.now) changed.now →
         ArePlaces leaves.now old → Sharing image.now since old →
         length (pages_of_leaves old) ≤ most_pages →
         IfOk result (IsPlanFor image.now number page used.now old
         around.0.items around.1.items) }
-    ensures full { (pages : ℕ) → AscendFrom 0 (numbers_at leaves.now) →
+    ensures full { (since pages : ℕ) →
+        AreToWrite image.now since (numbers_at leaves.now) changed.now →
         IsErrOf result (PlanFault.Full pages) →
         (most_pages < checkpoint_pages image.now since used.now leaves.now)
         × (pages ≡ min (checkpoint_pages image.now since used.now leaves.now) (2 ^ 64 - 1)) }
-    ensures room { AscendFrom 0 (numbers_at leaves.now) →
+    ensures room { (since : ℕ) → AreToWrite image.now since (numbers_at leaves.now) changed.now →
         OnOk result (checkpoint_pages image.now since used.now leaves.now ≤ most_pages) }
 {
-    let drafts = draft_leaves(alloc, image, since, leaves)?;
-    let directory = pages_filled(4 + 12 * drafts.len());
+    let drafts = draft_leaves(alloc, image, leaves, changed)?;
+    let Some(directory) = directory_pages(drafts.len()) else {
+        return Err(PlanFault::NoMemory);
+    };
     let needed = (directory as u64).saturating_add(pages_of(&drafts));
     let pages = (3 + used.len() as u64).saturating_add(needed);
     if pages > MOST_PAGES {

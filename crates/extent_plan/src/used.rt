@@ -2,7 +2,7 @@
 ghost use Rattle.std.specs.Prelude.{◌≡◌, ◌⊎◌, ◌+◌, ◌<◌, ◌≤◌, ◌++◌, ◌==◌, ◌||◌, false, ℕ, length, get_or, IfOk};
 ghost use Rattle.extent_pages.specs.Pages.{most_pages, is_one_of};
 ghost use Rattle.extent_plan.specs.Runs.{AscendFrom};
-ghost use Rattle.extent_plan.specs.Used.{pages_in, Collected};
+ghost use Rattle.extent_plan.specs.Used.{pages_in, marked, Collected};
 
 use crate::place::LeafPlace;
 use std::alloc::{AllocError, Global};
@@ -71,7 +71,7 @@ fn is_marked(marks: &[bool], page: u32) -> bool
 // The pages from 3 on and before this one that are marked, in ascending order.
 fn marked_pages(alloc: Global, marks: &[bool], count: u32) -> Result<Vec<u32>, AllocError>
     requires { 3 ≤ count }
-    ensures { IfOk result (λ pages. Collected marks.now pages.items count) }
+    ensures { IfOk result (λ pages. Collected 3 (marked marks.now) pages.items count) }
 {
     let mut pages = Vec::new(alloc);
     for page in 3..count {

@@ -68,7 +68,7 @@ fn check_plan<R: Abort, L: Ledger>(rt: &R, alloc: Global, blank: Blank) -> Resul
     let mut steps = Steps::<L>::start(blank);
     let image = image_of(alloc, &mut steps)?;
     let around = (Vec::new(alloc), Vec::new(alloc));
-    match plan_checkpoint(alloc, &image, 9, 1, 0, &[], &[], around) {
+    match plan_checkpoint(alloc, &image, 9, 1, &[524_288], &[], &[], around) {
         Ok(plan) => {
             assert!(rt; is_as_written(&plan));
             let used = used_pages(alloc, &plan.directory, &plan.leaves)?;

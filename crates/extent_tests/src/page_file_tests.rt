@@ -1,6 +1,7 @@
 // Checkpoints that are written and opened again, on disks in memory that tell nothing of what they
 // hold. A page k begins at 16,384 k. Expected values are worked by hand.
 ghost use Rattle.std.specs.Prelude.{◌≡◌, ◌<◌, ◌^◌, IfOk};
+ghost use Rattle.std.specs.List.{AllByRecursion};
 ghost use Rattle.gem_object.specs.Spelling.{IsOid, IsSpelled};
 
 use crate::extent_pages_tests::small;
@@ -120,11 +121,30 @@ struct Left {
     extent: Vec<u8>,
 }
 
+// Which of the two leaves have changed.
+#[derive(Clone, Copy)]
+enum Leaves {
+    First,
+    Second,
+    Both,
+}
+
+fn numbers(leaves: Leaves) -> &'static [u64]
+    ensures { AllByRecursion (λ leaf. leaf < 2 ^ 42) result.now }
+{
+    match leaves {
+        Leaves::First => &[262_144],
+        Leaves::Second => &[262_145],
+        Leaves::Both => &[262_144, 262_145],
+    }
+}
+
 // A checkpoint of an image up to a commit, on a disk that stops after so many calls behind those of
 // the opening.
 #[derive(Clone, Copy)]
 struct Order {
     number: u32,
+    changed: Leaves,
     calls: u64,
     pick: Pick,
 }
@@ -140,8 +160,9 @@ fn check<L: Ledger>(
     let is_made = match open(alloc, &mut disk, steps) {
         Some(mut pages) => {
             disk.stop_after(order.calls);
+            let number = u64::from(order.number);
             pages
-                .write_changed(alloc, &mut disk, image, u64::from(order.number))
+                .write_changed(alloc, &mut disk, image, number, numbers(order.changed))
                 .is_ok()
         }
         None => false,
@@ -162,10 +183,12 @@ fn next_extent<L: Ledger>(
     extent: &[u8],
     image: &Image,
     number: u32,
+    changed: Leaves,
     steps: &mut Steps<L>,
 ) -> Result<Vec<u8>, AllocError> {
     let order = Order {
         number,
+        changed,
         calls: ALL,
         pick: Pick::Old,
     };
@@ -182,7 +205,7 @@ fn is_small<L: Ledger>(alloc: Global, steps: &mut Steps<L>) -> Result<bool, Fail
         changed: 7,
     };
     image.insert(alloc, name(3), counter(row), steps)?;
-    let extent = next_extent(alloc, &[], &image, 7, steps)?;
+    let extent = next_extent(alloc, &[], &image, 7, Leaves::First, steps)?;
     let is_written = extent.as_slice() == small(alloc, 5)?.as_slice();
     Ok(is_written && open_bytes(alloc, extent, steps) == Opened::Stands(7, 1, [20, -1, -1]))
 }
@@ -245,7 +268,7 @@ fn opens_large<L: Ledger>(alloc: Global, extent: Vec<u8>, steps: &mut Steps<L>) 
 fn is_large<L: Ledger>(alloc: Global, steps: &mut Steps<L>) -> Result<bool, AllocError> {
     let mut image = Image::empty();
     image.insert(alloc, name(3), large_object(alloc, LARGE)?, steps)?;
-    let extent = next_extent(alloc, &[], &image, 7, steps)?;
+    let extent = next_extent(alloc, &[], &image, 7, Leaves::First, steps)?;
     Ok(extent.len() == 66 * 16_384 && opens_large(alloc, extent, steps))
 }
 
@@ -303,12 +326,14 @@ const AFTER_SECOND: Opened = Opened::Stands(8, 3, [20, 21, 33]);
 
 const AFTER_THIRD: Opened = Opened::Stands(9, 3, [20, 42, 33]);
 
-// A checkpoint of these counters: of so many calls, what stands before it, and what stands behind
-// it. The last call but one writes a byte that makes it count, and so does this byte there.
+// A checkpoint of these counters, some of whose leaves have changed: of so many calls, what stands
+// before it, and what stands behind it. The last call but one writes a byte that makes it count, and
+// so does this byte there.
 #[derive(Clone, Copy)]
 struct Step {
     rows: Rows,
     number: u32,
+    changed: Leaves,
     before: Opened,
     behind: Opened,
     calls: u64,
@@ -320,6 +345,7 @@ struct Step {
 const STEP_ONE: Step = Step {
     rows: FIRST,
     number: 7,
+    changed: Leaves::Both,
     before: Opened::Nothing,
     behind: AFTER_FIRST,
     calls: 12,
@@ -331,6 +357,7 @@ const STEP_ONE: Step = Step {
 const STEP_TWO: Step = Step {
     rows: SECOND,
     number: 8,
+    changed: Leaves::Second,
     before: AFTER_FIRST,
     behind: AFTER_SECOND,
     calls: 6,
@@ -340,6 +367,7 @@ const STEP_TWO: Step = Step {
 const STEP_THREE: Step = Step {
     rows: THIRD,
     number: 9,
+    changed: Leaves::First,
     before: AFTER_SECOND,
     behind: AFTER_THIRD,
     calls: 6,
@@ -354,7 +382,7 @@ fn behind<L: Ledger>(
     steps: &mut Steps<L>,
 ) -> Result<Vec<u8>, AllocError> {
     let image = image_of(alloc, step.rows, steps)?;
-    next_extent(alloc, extent, &image, step.number, steps)
+    next_extent(alloc, extent, &image, step.number, step.changed, steps)
 }
 
 // What such checkpoints make of no extent, one after another.
@@ -412,6 +440,7 @@ fn are_left<L: Ledger>(
     for pick in picks {
         let order = Order {
             number: step.number,
+            changed: step.changed,
             calls,
             pick: *pick,
         };

@@ -1,6 +1,7 @@
 // Plans of checkpoints of three counters in two leaves: which pages they write, which they leave, and
 // which they use again. A page k begins at 16,384 k. Expected values are worked by hand.
 ghost use Rattle.std.specs.Prelude.{◌≡◌, ◌<◌, ◌^◌, length, All, IfOk};
+ghost use Rattle.std.specs.List.{AllByRecursion};
 ghost use Rattle.gem_object.specs.Spelling.{IsOid, IsSpelled};
 
 use disk_pieces::Piece;
@@ -55,41 +56,34 @@ fn three<L: Ledger>(alloc: Global, steps: &mut Steps<L>) -> Result<Image, AllocE
     with_counter(alloc, &two, 64, 7, steps)
 }
 
-// Of what is planned: the commit up to which it goes, the page of its root, and the commit of the
-// root before.
+// Of what is planned: the commit up to which it goes, and the page of its root.
 #[derive(Clone, Copy)]
 struct Order {
     number: u64,
     page: u32,
-    since: u64,
 }
 
-// A plan where a directory and leaves are in use.
+// A plan where a directory and leaves are in use, and these leaves have changed.
 fn plan_over(
     alloc: Global,
     image: &Image,
     order: Order,
+    changed: &[u64],
     directory: &[u32],
     leaves: &[LeafPlace],
-) -> Result<Plan, PlanFault> {
+) -> Result<Plan, PlanFault>
+    requires { AllByRecursion (λ leaf. leaf < 2 ^ 42) changed.now }
+{
     let used = used_pages(alloc, directory, leaves)?;
-    let Order {
-        number,
-        page,
-        since,
-    } = order;
+    let Order { number, page } = order;
     let around = (Vec::new(alloc), Vec::new(alloc));
-    plan_checkpoint(alloc, image, number, page, since, &used, leaves, around)
+    plan_checkpoint(alloc, image, number, page, changed, &used, leaves, around)
 }
 
 // The first plan of an image.
 fn first_plan(alloc: Global, image: &Image) -> Result<Plan, PlanFault> {
-    let order = Order {
-        number: 7,
-        page: 1,
-        since: 0,
-    };
-    plan_over(alloc, image, order, &[], &[])
+    let order = Order { number: 7, page: 1 };
+    plan_over(alloc, image, order, &[262_144, 262_145], &[], &[])
 }
 
 // Where the pieces begin.
@@ -147,7 +141,7 @@ fn around(alloc: Global, before: u64, after: u64) -> Result<(Vec<Piece>, Vec<Pie
 fn plans_around<L: Ledger>(alloc: Global, steps: &mut Steps<L>) -> Result<bool, PlanFault> {
     let image = with_counter(alloc, &Image::empty(), 3, 7, steps)?;
     let around = around(alloc, 0, 32_768)?;
-    let plan = plan_checkpoint(alloc, &image, 7, 1, 0, &[], &[], around)?;
+    let plan = plan_checkpoint(alloc, &image, 7, 1, &[262_144], &[], &[], around)?;
     let starts = [0, 16_384, 32_768, 49_152, 65_536];
     Ok(offsets(alloc, &plan.pieces)?.as_slice() == starts.as_slice())
 }
@@ -172,12 +166,15 @@ fn second_plan<L: Ledger>(
 ) -> Result<(Image, Plan), PlanFault> {
     let first = first_plan(alloc, image)?;
     let changed = with_counter(alloc, image, 64, 8, steps)?;
-    let order = Order {
-        number: 8,
-        page: 2,
-        since: 7,
-    };
-    let plan = plan_over(alloc, &changed, order, &first.directory, &first.leaves)?;
+    let order = Order { number: 8, page: 2 };
+    let plan = plan_over(
+        alloc,
+        &changed,
+        order,
+        &[262_145],
+        &first.directory,
+        &first.leaves,
+    )?;
     Ok((changed, plan))
 }
 
@@ -196,12 +193,15 @@ fn third_plan<L: Ledger>(
     steps: &mut Steps<L>,
 ) -> Result<Plan, PlanFault> {
     let changed = with_counter(alloc, image, 5, 9, steps)?;
-    let order = Order {
-        number: 9,
-        page: 1,
-        since: 8,
-    };
-    plan_over(alloc, &changed, order, &second.directory, &second.leaves)
+    let order = Order { number: 9, page: 1 };
+    plan_over(
+        alloc,
+        &changed,
+        order,
+        &[262_144],
+        &second.directory,
+        &second.leaves,
+    )
 }
 
 // It takes the pages 3 and 5, which aren't in use any more, and shares the leaf in page 7.
@@ -221,6 +221,32 @@ fn plans_changes<L: Ledger>(
     Ok(is_second(alloc, &second)? && is_third(alloc, &third)?)
 }
 
+// Two leaves, and then one between them that is new.
+fn plan_between<L: Ledger>(alloc: Global, steps: &mut Steps<L>) -> Result<Plan, PlanFault> {
+    let one = with_counter(alloc, &Image::empty(), 3, 7, steps)?;
+    let two = with_counter(alloc, &one, 128, 7, steps)?;
+    let order = Order { number: 7, page: 1 };
+    let first = plan_over(alloc, &two, order, &[262_144, 262_146], &[], &[])?;
+    let three = with_counter(alloc, &two, 64, 8, steps)?;
+    let order = Order { number: 8, page: 2 };
+    plan_over(
+        alloc,
+        &three,
+        order,
+        &[262_145],
+        &first.directory,
+        &first.leaves,
+    )
+}
+
+// It stands between the others, which stay in the pages 4 and 5.
+fn plans_between<L: Ledger>(alloc: Global, steps: &mut Steps<L>) -> Result<bool, PlanFault> {
+    let plan = plan_between(alloc, steps)?;
+    let starts = [32_768, 98_304, 114_688];
+    let rows = [(262_144, 4, 1, 1), (262_145, 7, 1, 1), (262_146, 5, 1, 1)];
+    Ok(is_plan(alloc, &plan, &starts, 6, &rows)?)
+}
+
 // The pages from 3 on and before this one.
 fn pages_before(alloc: Global, end: u32) -> Result<Vec<u32>, AllocError> {
     let mut pages = Vec::new(alloc);
@@ -232,13 +258,9 @@ fn pages_before(alloc: Global, end: u32) -> Result<Vec<u32>, AllocError> {
 
 // A plan of an image where these pages are in use, and no leaf is.
 fn plan_behind(alloc: Global, image: &Image, end: u32) -> Result<Plan, PlanFault> {
-    let order = Order {
-        number: 8,
-        page: 2,
-        since: 7,
-    };
+    let order = Order { number: 8, page: 2 };
     let pages = pages_before(alloc, end)?;
-    plan_over(alloc, image, order, &pages, &[])
+    plan_over(alloc, image, order, &[262_144, 262_145], &pages, &[])
 }
 
 // Whether three more pages have just room, or one is too many.
@@ -266,6 +288,7 @@ fn check_plans<R: Abort, L: Ledger>(rt: &R, alloc: Global, blank: Blank) -> Resu
     assert_eq!(rt; plans_around(alloc, &mut steps), Ok(true));
     assert_eq!(rt; plans_three(alloc, &image), Ok(true));
     assert_eq!(rt; plans_changes(alloc, &image, &mut steps), Ok(true));
+    assert_eq!(rt; plans_between(alloc, &mut steps), Ok(true));
     assert_eq!(rt; plans_to_the_end(alloc, &image), Ok(true));
     assert!(rt; is_full(alloc, &image));
     Ok(())

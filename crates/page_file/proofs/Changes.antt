@@ -15,8 +15,10 @@ use Rattle.extent_plan.specs.declared.place.LeafPlace.{LeafPlace}
 use Rattle.extent_plan.specs.declared.plan.Plan.{Plan}
 use Rattle.extent_plan.specs.Drafts.{Sharing}
 use Rattle.extent_plan.specs.Plan.{ArePlaces, IsPlanned}
+use Rattle.extent_plan.specs.Needed.{AreChanged, AreToWrite, numbers_at}
 use Rattle.extent_plan.specs.Planning.{IsPlanFor}
 use Rattle.extent_plan.specs.Shared.{KeepsHeld}
+use Rattle.extent_plan.proofs.Changed.{later_written}
 use Rattle.extent_plan.proofs.Sharing.{sharing_from}
 use Rattle.extent_plan.proofs.Storing.{planned_stored}
 use Rattle.page_file.specs.declared.file.Current.{Current}
@@ -35,8 +37,9 @@ module _ (file : List ℕ) (current : Current) (extent : Extent) (is : IsCurrent
   laid : IsLaid (pages_of file) (selected file) extent
   laid = (opened file extent stands).laid
 
-  pub may_share : (image : Image) → KeepsHeld image (image_in extent) extent.number → MayShare image current extent
-  may_share image keeps = record {
+  pub may_share : (image : Image) (changed : List ℕ) → KeepsHeld image (image_in extent) extent.number
+      → AreChanged (Some extent.number) image changed → MayShare image changed current extent
+  may_share image changed keeps are = record {
     number = is.number;
     directory = is.directory;
     leaves = is.leaves;
@@ -44,6 +47,8 @@ module _ (file : List ℕ) (current : Current) (extent : Extent) (is : IsCurrent
     numbers = used_few file (selected file) extent laid;
     few = leaves_few file (selected file) extent laid;
     sharing = subst (λ (n : ℕ). Sharing image n extent.leaves) (sym is.number) (sharing_from image extent.number extent.leaves keeps is.stored.leaves);
+    written = subst (λ (n : ℕ). AreToWrite image n (numbers_at current.leaves.items) changed) (sym is.number)
+        (later_written image extent.number extent.leaves current.leaves.items changed is.leaves is.stored.leaves keeps are);
     stored = is.stored.leaves;
     keeps = keeps;
     many = λ used ascend are. used_many file (selected file) extent laid used 3 ascend are;
@@ -52,17 +57,24 @@ module _ (file : List ℕ) (current : Current) (extent : Extent) (is : IsCurrent
 -- ---- what was planned
 
 -- what is asked of a later one
-pub later_shares : (past : Past) (image : Image) (number : ℕ) (pages : PageFile) (current : Current)
-    (before : Option Extent) → MayChange past pages before image number → pages.current ≡ Some current
-    → (extent : Extent) × (before ≡ Some extent) × MayShare image current extent
-later_shares past image number pages current None may e = absurd (subst (λ (o : Option Current). AreLists (reads past OfExtent) o None) e may.at_rest.lists)
-later_shares past image number pages current (Some extent) may e =
+pub later_shares : (past : Past) (image : Image) (number : ℕ) (changed : List ℕ) (pages : PageFile) (current : Current)
+    (before : Option Extent) → MayChange past pages before image number changed → pages.current ≡ Some current
+    → (extent : Extent) × (before ≡ Some extent) × MayShare image changed current extent
+later_shares past image number changed pages current None may e = absurd (subst (λ (o : Option Current). AreLists (reads past OfExtent) o None) e may.at_rest.lists)
+later_shares past image number changed pages current (Some extent) may e =
     let is : IsCurrent (reads past OfExtent) current extent = subst (λ (o : Option Current). AreLists (reads past OfExtent) o (Some extent)) e may.at_rest.lists in
-    (extent, refl, may_share (reads past OfExtent) current extent is may.at_rest.stands image may.follows.1)
+    (extent, refl, may_share (reads past OfExtent) current extent is may.at_rest.stands image changed may.follows.1 may.leaves)
 
-module _ (past : Past) (image : Image) (number : ℕ) (plan : Plan) where
+-- what is known where there is none
+pub no_root : (past : Past) (image : Image) (number : ℕ) (changed : List ℕ) (pages : PageFile) (before : Option Extent)
+    → MayChange past pages before image number changed → pages.current ≡ None
+    → (before ≡ None) × AreChanged None image changed
+no_root past image number changed pages None may e = (refl, may.leaves)
+no_root past image number changed pages (Some extent) may e = absurd (subst (λ (o : Option Current). AreLists (reads past OfExtent) o (Some extent)) e may.at_rest.lists)
+
+module _ (past : Past) (image : Image) (number : ℕ) (changed : List ℕ) (plan : Plan) where
   -- a first checkpoint
-  pub first_next : (pages : PageFile) (before : Option Extent) → MayChange past pages before image number
+  pub first_next : (pages : PageFile) (before : Option Extent) → MayChange past pages before image number changed
       → pages.current ≡ None
       → IsPlanFor image number 1 [] [] first_around.before first_around.after plan → IsNext past before image number 1 plan
   first_next pages None may e for = record {
@@ -82,13 +94,13 @@ module _ (past : Past) (image : Image) (number : ℕ) (plan : Plan) where
 
   -- a later one
   pub later_next : (pages : PageFile) (current : Current) (before : Option Extent) (extent : Extent) → before ≡ Some extent
-      → MayChange past pages before image number → pages.current ≡ Some current
+      → MayChange past pages before image number changed → pages.current ≡ Some current
       → (kept : List ℕ) → AreUsed kept extent
       → IsPlanFor image number (3 - current.page) kept extent.leaves later_around.before later_around.after plan
       → IsNext past before image number (3 - current.page) plan
-  later_next pages current before extent same may e kept used for = subst (λ (b : Option Extent). MayChange past pages b image number → IsNext past b image number (3 - current.page) plan) (sym same) made may
+  later_next pages current before extent same may e kept used for = subst (λ (b : Option Extent). MayChange past pages b image number changed → IsNext past b image number (3 - current.page) plan) (sym same) made may
     where
-      made : MayChange past pages (Some extent) image number
+      made : MayChange past pages (Some extent) image number changed
           → IsNext past (Some extent) image number (3 - current.page) plan
       made change =
           let is : IsCurrent (reads past OfExtent) current extent = subst (λ (o : Option Current). AreLists (reads past OfExtent) o (Some extent)) e change.at_rest.lists in
@@ -110,9 +122,9 @@ module _ (past : Past) (image : Image) (number : ℕ) (plan : Plan) where
 -- ---- around the writing
 
 -- the page that the open extent names is that of the file's root
-pub root_is : (past : Past) (pages : PageFile) (before : Option Extent) (image : Image) (number : ℕ)
-    → MayChange past pages before image number → root_in pages.current ≡ root_before (reads past OfExtent) before
-root_is past pages before image number may = by pages.current before may.at_rest.lists
+pub root_is : (past : Past) (pages : PageFile) (before : Option Extent) (image : Image) (number : ℕ) (changed : List ℕ)
+    → MayChange past pages before image number changed → root_in pages.current ≡ root_before (reads past OfExtent) before
+root_is past pages before image number changed may = by pages.current before may.at_rest.lists
   where
     by : (current : Option Current) (b : Option Extent) → AreLists (reads past OfExtent) current b
         → root_in current ≡ root_before (reads past OfExtent) b
@@ -160,11 +172,11 @@ is_changed past new before image number page plan pages current next durable roo
 }
 
 -- where nothing was done
-pub still_stands : (past : Past) (pages : PageFile) (before : Option Extent) (image : Image) (number : ℕ)
-    → MayChange past pages before image number → OnlyLeaves (StandsFor before image number) past past
-still_stands past pages before image number may = only_durable (λ (file : List ℕ). StandsFor before image number file) past may.at_rest.durable (inl may.at_rest.stands)
+pub still_stands : (past : Past) (pages : PageFile) (before : Option Extent) (image : Image) (number : ℕ) (changed : List ℕ)
+    → MayChange past pages before image number changed → OnlyLeaves (StandsFor before image number) past past
+still_stands past pages before image number changed may = only_durable (λ (file : List ℕ). StandsFor before image number file) past may.at_rest.durable (inl may.at_rest.stands)
 
-pub nothing_switched : (past : Past) (pages : PageFile) (before : Option Extent) (image : Image) (number : ℕ)
-    → MayChange past pages before image number → SwitchesFrom before past past
-nothing_switched past pages before image number may = switches_none (λ (file : List ℕ). extent_of file ≡ Ok before) (switch_of before) past past
+pub nothing_switched : (past : Past) (pages : PageFile) (before : Option Extent) (image : Image) (number : ℕ) (changed : List ℕ)
+    → MayChange past pages before image number changed → SwitchesFrom before past past
+nothing_switched past pages before image number changed may = switches_none (λ (file : List ℕ). extent_of file ≡ Ok before) (switch_of before) past past
     (only_durable (λ (file : List ℕ). extent_of file ≡ Ok before) past may.at_rest.durable may.at_rest.stands)

@@ -1,51 +1,22 @@
 -- How many pages a checkpoint takes.
-use Rattle.std.proofs.Common.{◌≡◌, ℕ, ◌+◌, ◌-◌, ◌^◌, ◌≤◌, ◌<◌, min, Bool, true, false, cond, ltb, List, [], ◌∷◌, length, Some, None, Result, Ok, Err, OnOk, refl, sym, ap, subst, ◌∙◌, arith}
+use Rattle.std.proofs.Common.{◌≡◌, ℕ, ◌-◌, ◌^◌, ◌≤◌, ◌<◌, min, Bool, true, false, cond, ltb, List, [], length, Some, None, Result, Ok, Err, OnOk, refl, sym, ap, subst, ◌∙◌, arith}
 use Rattle.std.proofs.lemmas.Bool.Decides.{nat_tests}
-use Rattle.std.proofs.lemmas.Cmp.{ranked}
-use Rattle.std.specs.List.{AllByRecursion}
-use Rattle.std.specs.List.Sorted.{IsStrictlySortedBy}
-use Rattle.std.specs.Ordering.{nat_cmp}
-use Rattle.std.specs.declared.cmp.Ordering.TheVariants.{Less}
 use Rattle.gem_image.specs.Image.{Image, AreNamed}
 use Rattle.extent_pages.specs.Pages.{most_pages}
-use Rattle.extent_pages.specs.Extent.{Leaf, Extent, pages_used}
+use Rattle.extent_pages.specs.Extent.{Extent, pages_used}
 use Rattle.extent_plan.specs.declared.place.LeafPlace.{LeafPlace}
 use Rattle.extent_plan.specs.declared.plan.PlanFault.{PlanFault}
 use Rattle.extent_plan.specs.declared.plan.PlanFault.TheVariants as plans
 use Rattle.extent_plan.specs.Runs.{AscendFrom}
-use Rattle.extent_plan.specs.Needed.{numbers_at, checkpoint_pages}
-use Rattle.extent_plan.specs.Drafts.{numbers_of}
+use Rattle.extent_plan.specs.Needed.{AreToWrite, numbers_at, checkpoint_pages}
 use Rattle.extent_plan.specs.Plan.{ArePlaces}
-use Rattle.extent_plan.proofs.Stored.{all_less}
 use Rattle.extent_plan.proofs.Counts.{first_counted as none_counted, later_counted as some_counted}
 use Rattle.page_file.specs.declared.fault.CheckFault.TheVariants as faults
 use Rattle.page_file.specs.declared.file.Current.{Current}
 use Rattle.page_file.specs.Planned.{AreUsed}
 use Rattle.page_file.specs.Changing.{check_fault, pages_taken, IsFaultCounted, IsPlanFaultCounted, IsPlanCounted, MayShare}
 
--- numbers that ascend
-pub ascend_numbers : (from : ℕ) (numbers : List ℕ) → AllByRecursion (λ (n : ℕ). from ≤ n) numbers
-    → IsStrictlySortedBy nat_cmp numbers → AscendFrom from numbers
-unfolding IsStrictlySortedBy
-ascend_numbers from [] above sorted = tt
-ascend_numbers from (number ∷ numbers) above sorted = (
-  above.0,
-  ascend_numbers (number + 1) numbers (all_less (λ (n : ℕ). nat_cmp number n ≡ Less) (λ (n : ℕ). number + 1 ≤ n) (λ n less. let low = ranked number n Less (sym less) in omega (arith, low)) numbers sorted.0) sorted.1,
-)
-
-pub from_zero : (numbers : List ℕ) → AllByRecursion (λ (n : ℕ). 0 ≤ n) numbers
-from_zero [] = tt
-from_zero (number ∷ numbers) = (omega arith, from_zero numbers)
-
 -- ---- how many pages are taken
-
-numbers_placed : (places : List LeafPlace) (leaves : List Leaf) → ArePlaces places leaves
-    → numbers_at places ≡ numbers_of leaves
-numbers_placed [] [] are = refl
-numbers_placed [] (leaf ∷ leaves) are = absurd are
-numbers_placed (place ∷ places) [] are = absurd are
-numbers_placed (place ∷ places) (leaf ∷ leaves) (one, are) =
-    ap (λ (n : ℕ). n ∷ numbers_at places) one.number ∙ ap (λ (l : List ℕ). leaf.number ∷ l) (numbers_placed places leaves are)
 
 -- a plan, by what its call says of its pages
 pub plan_counted : {T : Type 0} (pages : ℕ) (result : Result T PlanFault)
@@ -76,22 +47,22 @@ first_counted image result named full room =
     subst (λ (pages : ℕ). IsPlanCounted pages result) (none_counted image named 0) (plan_counted (checkpoint_pages image 0 [] []) result full room)
 
 -- a later plan
-pub later_counted : {T : Type 0} (image : Image) (current : Current) (extent : Extent) (used seen : List ℕ)
+pub later_counted : {T : Type 0} (image : Image) (changed : List ℕ) (current : Current) (extent : Extent) (used seen : List ℕ)
     (places : List LeafPlace) (result : Result T PlanFault)
-    → AreNamed image → MayShare image current extent → seen ≡ used → places ≡ current.leaves.items → AscendFrom 3 used
+    → AreNamed image → MayShare image changed current extent → seen ≡ used → places ≡ current.leaves.items → AscendFrom 3 used
     → AreUsed used extent
-    → ((pages : ℕ) → AscendFrom 0 (numbers_at places) → result ≡ Err (plans.Full pages)
+    → ((pages : ℕ) → AreToWrite image current.number (numbers_at places) changed → result ≡ Err (plans.Full pages)
     → (most_pages < checkpoint_pages image current.number seen places) × (pages ≡ min (checkpoint_pages image current.number seen places) (2 ^ 64 - 1)))
-    → (AscendFrom 0 (numbers_at places) → OnOk result (checkpoint_pages image current.number seen places ≤ most_pages))
+    → (AreToWrite image current.number (numbers_at places) changed → OnOk result (checkpoint_pages image current.number seen places ≤ most_pages))
     → IsPlanCounted (pages_taken (Some extent) image) result
-later_counted image current extent used seen places result named share seen_is places_are ascend are full room =
-    subst (λ (pages : ℕ). IsPlanCounted pages result) same (plan_counted (checkpoint_pages image current.number seen places) result (λ count is. full count up is) (room up))
+later_counted image changed current extent used seen places result named share seen_is places_are ascend are full room =
+    subst (λ (pages : ℕ). IsPlanCounted pages result) same (plan_counted (checkpoint_pages image current.number seen places) result (λ count is. full count written is) (room written))
   where
     lie : ArePlaces places extent.leaves
     lie = subst (λ (l : List LeafPlace). ArePlaces l extent.leaves) (sym places_are) share.leaves
 
-    up : AscendFrom 0 (numbers_at places)
-    up = subst (AscendFrom 0) (sym (numbers_placed places extent.leaves lie)) (ascend_numbers 0 (numbers_of extent.leaves) (from_zero (numbers_of extent.leaves)) share.stored.ascend)
+    written : AreToWrite image current.number (numbers_at places) changed
+    written = subst (λ (l : List LeafPlace). AreToWrite image current.number (numbers_at l) changed) (sym places_are) share.written
 
     many : length seen ≡ length (pages_used extent)
     many = ap (λ (l : List ℕ). length l) seen_is ∙ share.many used ascend are

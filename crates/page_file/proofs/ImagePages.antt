@@ -33,12 +33,12 @@ use Rattle.extent_plan.proofs.Needs.{sum_more, sum_over, no_leaf, leaf_there}
 use Rattle.extent_plan.proofs.Sharing.{found_in, none_of}
 use Rattle.extent_plan.proofs.Same.{same_bytes}
 use Rattle.extent_plan.proofs.Counts.{first_counted}
+use Rattle.extent_plan.proofs.Changed.{ascend_numbers, from_zero}
 use Rattle.page_file.specs.declared.file.Current.{Current}
 use Rattle.page_file.specs.declared.file.PageFile.{PageFile}
 use Rattle.page_file.specs.Checkpoint.{IsCheckpoint}
 use Rattle.page_file.specs.PageFile.{AreLists, IsAtRest, AreFound}
 use Rattle.page_file.specs.Changing.{counted_root, root_found}
-use Rattle.page_file.proofs.Counted.{ascend_numbers, from_zero}
 
 abbrev Entries : Type 0
 Entries = List (ℕ × Object)

@@ -1,5 +1,5 @@
 -- A checkpoint of an image over an open extent.
-use Rattle.std.specs.Prelude.{◌≡◌, ℕ, ◌-◌, ◌^◌, ◌≤◌, ◌<◌, nat_lt, min, true, if◌then◌else◌, List, length, Option, Some, None, Result, Ok, Err}
+use Rattle.std.specs.Prelude.{◌≡◌, ℕ, ◌-◌, ◌^◌, ◌≤◌, ◌<◌, nat_lt, min, true, if◌then◌else◌, List, length, Option, Some, None, option_map, Result, Ok, Err}
 use Rattle.std.specs.FinMap.{entries}
 use Rattle.gem_disk.specs.Disk.{Past}
 use Rattle.gem_disk.specs.declared.disk.Which.TheVariants.{Extent as OfExtent}
@@ -16,6 +16,7 @@ use Rattle.extent_plan.specs.declared.plan.Plan.{Plan}
 use Rattle.extent_plan.specs.declared.plan.PlanFault.{PlanFault}
 use Rattle.extent_plan.specs.declared.plan.PlanFault.TheVariants as plans
 use Rattle.extent_plan.specs.Plan.{ArePlaces}
+use Rattle.extent_plan.specs.Needed.{AreChanged, AreToWrite, numbers_at}
 use Rattle.extent_plan.specs.Shared.{KeepsHeld}
 use Rattle.page_file.specs.declared.fault.CheckFault.{CheckFault}
 use Rattle.page_file.specs.declared.fault.CheckFault.TheVariants as faults
@@ -77,20 +78,22 @@ IsPlanCounted pages (Err fault) = IsPlanFaultCounted pages fault
 -- ---- What is planned.
 
 -- The leaves of the current root lie as an extent has them, and those may stay in which nothing was
--- changed.
-pub record MayShare (image : Image) (current : Current) (extent : Extent) : Type 0 where
-  pub number : current.number ≡ extent.number
-  pub directory : current.directory.items ≡ extent.directory
-  pub leaves : ArePlaces current.leaves.items extent.leaves
-  pub far : (page : ℕ) → is_one_of page (pages_used extent) ≡ true → 3 ≤ page
-  pub numbers : (page : ℕ) → is_one_of page (pages_used extent) ≡ true → page < most_pages
-  pub few : length (pages_of_leaves extent.leaves) ≤ most_pages
-  pub sharing : Sharing image current.number extent.leaves
-  pub stored : AreStored extent.leaves
-  pub keeps : KeepsHeld image (image_in extent) extent.number
-  -- pages that ascend, and are those of the extent, are as many
-  pub many : (used : List ℕ) → AscendFrom 3 used → AreUsed used extent
-      → length used ≡ length (pages_used extent)
+-- changed; these are the others, with those that the root hasn't.
+pub record MayShare (image : Image) (changed : List ℕ) (current : Current) (extent : Extent) : Type 0
+  where
+    pub number : current.number ≡ extent.number
+    pub directory : current.directory.items ≡ extent.directory
+    pub leaves : ArePlaces current.leaves.items extent.leaves
+    pub far : (page : ℕ) → is_one_of page (pages_used extent) ≡ true → 3 ≤ page
+    pub numbers : (page : ℕ) → is_one_of page (pages_used extent) ≡ true → page < most_pages
+    pub few : length (pages_of_leaves extent.leaves) ≤ most_pages
+    pub sharing : Sharing image current.number extent.leaves
+    pub written : AreToWrite image current.number (numbers_at current.leaves.items) changed
+    pub stored : AreStored extent.leaves
+    pub keeps : KeepsHeld image (image_in extent) extent.number
+    -- pages that ascend, and are those of the extent, are as many
+    pub many : (used : List ℕ) → AscendFrom 3 used → AreUsed used extent
+        → length used ≡ length (pages_used extent)
 
 -- An image may follow what an extent stands for: it has each name, each object that wasn't changed
 -- since, and no lower number.
@@ -99,11 +102,16 @@ Follows None image number = Unit {0}
 Follows (Some extent) image number =
     (extent.number ≤ number) × KeepsHeld image (image_in extent) extent.number
 
--- a checkpoint of the image may be made over the open extent
+-- up to which commit the current root goes, where there is one
+abbrev pub number_before : Option Extent → Option ℕ
+number_before before = option_map (λ (extent : Extent). extent.number) before
+
+-- a checkpoint of the image may be made over the open extent, and these are the changed leaves
 pub record MayChange (past : Past) (pages : PageFile) (before : Option Extent) (image : Image)
-    (number : ℕ) : Type 0 where
+    (number : ℕ) (changed : List ℕ) : Type 0 where
   pub at_rest : IsAtRest past pages before
   pub follows : Follows before image number
+  pub leaves : AreChanged (number_before before) image changed
 
 -- what was planned: the checkpoint, and where it lies once it is made
 pub record IsNext (past : Past) (before : Option Extent) (image : Image) (number page : ℕ)

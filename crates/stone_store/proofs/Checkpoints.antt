@@ -4,21 +4,24 @@ use Rattle.gem_disk.specs.declared.disk.Which.TheVariants.{Extent as OfExtent, L
 use Rattle.gem_disk.specs.Disk.{Files, Past, reads, as_read, FileImages}
 use Rattle.gem_disk.specs.Runs.{LeavesOnly}
 use Rattle.gem_disk.proofs.Moments.{and_then, leaves_less}
-use Rattle.gem_record.specs.Stored.{image_pages}
+use Rattle.gem_record.specs.Stored.{Root as StoredRoot, image_pages}
 use Rattle.gem_image.specs.Image.{Image}
 use Rattle.disk_pieces.specs.Crashes.{ExtentHas, OnlyLeaves}
 use Rattle.extent_pages.specs.Extent.{Extent, extent_of}
+use Rattle.extent_plan.specs.Needed.{AreChanged}
 use Rattle.page_file.specs.declared.file.PageFile.{PageFile}
 use Rattle.page_file.specs.PageFile.{IsAtRest as ExtentRests}
 use Rattle.page_file.specs.Checkpoint.{IsCheckpoint, StandsFor as ExtentStands}
-use Rattle.page_file.specs.Changing.{counted_root, Follows, MayChange, IsChanged}
+use Rattle.page_file.specs.Changing.{counted_root, number_before, Follows, MayChange, IsChanged}
 use Rattle.tran_log.specs.declared.logged.Logged.{Logged}
 use Rattle.tran_log.specs.Log.{log_of}
 use Rattle.tran_log.specs.Reads.{EndsAt}
 use Rattle.tran_log.specs.Resting.{SameExtent, IsAtRest as LogRests, HoldsOrNone}
 use Rattle.tran_log.proofs.Restarting.{rest_reads}
 use Rattle.gem_keeper.specs.Found.{StandsFor}
+use Rattle.stone_store.specs.declared.parts.Root.{Root}
 use Rattle.stone_store.specs.declared.parts.Parts.{Parts}
+use Rattle.stone_store.specs.Counted.{since_root}
 use Rattle.stone_store.specs.Store.{found_in}
 use Rattle.stone_store.specs.Left.{FilesStandFor}
 use Rattle.stone_store.specs.Resting.{stored_root, BothRest, IsEmptied}
@@ -32,6 +35,18 @@ follows_root None logged is image number stands = tt
 follows_root (Some extent) logged is image number stands =
     (root_low (Some extent) logged is image number stands, keeps_held extent logged is image number stands)
 
+-- the root of the parts goes up to the commit of the extent's
+same_since : (known : Option Root) (root : Option Extent) → option_map stored_root known ≡ counted_root root
+    → since_root known ≡ number_before root
+same_since known root e = known_since known ∙ ap (option_map (λ (r : StoredRoot). r.number)) e ∙ extent_since root where
+  known_since : (known : Option Root) → since_root known ≡ option_map (λ (r : StoredRoot). r.number) (option_map stored_root known)
+  known_since None = refl
+  known_since (Some root) = refl
+
+  extent_since : (root : Option Extent) → option_map (λ (r : StoredRoot). r.number) (counted_root root) ≡ number_before root
+  extent_since None = refl
+  extent_since (Some extent) = refl
+
 module _ (past : Past) (parts : Parts) (rest : BothRest past parts) (image : Image) (number : ℕ)
     (stands : FilesStandFor image number (as_read past)) where
   store_is : IsStore rest.root rest.logged
@@ -41,10 +56,12 @@ module _ (past : Past) (parts : Parts) (rest : BothRest past parts) (image : Ima
   stands_held = stands_here past parts rest image number stands
 
   -- a checkpoint may be written
-  pub may_change : MayChange past parts.pages rest.root image number
-  may_change = record {
+  pub may_change : (changed : List ℕ) → AreChanged (since_root parts.root) image changed
+      → MayChange past parts.pages rest.root image number changed
+  may_change changed are = record {
     at_rest = rest.extent;
     follows = follows_root rest.root rest.logged store_is image number stands_held;
+    leaves = subst (λ (r : Option ℕ). AreChanged r image changed) (same_since parts.root rest.root rest.counted) are;
   }
 
   -- an extent with the checkpoint, and the log as it was or empty

@@ -1,6 +1,7 @@
 -- How many pages a checkpoint takes, as it is counted leaf by leaf.
-use Rattle.std.specs.Prelude.{◌≡◌, ◌≤◌, ◌<◌, ◌+◌, ◌^◌, ℕ, cond, List, [], length, Option, Some, None, option_map, Result, Ok, Err}
-use Rattle.std.specs.List.{filter}
+use Rattle.std.specs.Prelude.{◌≡◌, ◌≤◌, ◌<◌, ◌+◌, ◌^◌, ℕ, nat_lt, Bool, true, false, if◌then◌else◌, List, [], ◌∷◌, ◌++◌, length, Option, Some, None, option_map, Result, Ok, Err, Vec}
+use Rattle.std.specs.Global.{Global}
+use Rattle.std.specs.List.{filter, AllByRecursion}
 use Rattle.std.specs.FinMap.{entries}
 use Rattle.gem_object.specs.declared.object.Object.{Object}
 use Rattle.gem_image.specs.Image.{Image}
@@ -9,8 +10,9 @@ use Rattle.gem_record.specs.Stored.{pages_with, leaves_of, is_stale, pages_over,
 use Rattle.gem_record.specs.declared.limits.TheConstants.{PAGE_LIMIT}
 use Rattle.extent_pages.specs.Spelled.{spelled_leaf}
 use Rattle.extent_plan.specs.Pieces.{pages_filled}
-use Rattle.extent_plan.specs.Leaves.{leaf_objects, is_changed}
-use Rattle.extent_plan.specs.Needed.{sum_below, one_leaf, pages_written as pages_of_leaf}
+use Rattle.extent_plan.specs.Leaves.{leaf_objects}
+use Rattle.extent_plan.specs.Needed.{sum_below, one_leaf, counts_changed, AreChanged, pages_written as pages_of_leaf}
+use Rattle.extent_plan.specs.Used.{Collected}
 use Rattle.gem_keeper.specs.declared.keeper.CheckFault.{CheckFault}
 use Rattle.gem_keeper.specs.declared.keeper.CheckFault.TheVariants as fault
 use Rattle.stone_store.specs.declared.count.Sums.{Sums}
@@ -29,26 +31,52 @@ size_at name (Some object) = changed_size (name, object)
 abbrev pub leaf_pages : Image → ℕ → ℕ
 leaf_pages image leaf = pages_filled (length (spelled_leaf (leaf_objects image leaf)))
 
--- one leaf more was counted
-pub record AddsLeaf (image : Image) (since leaf : ℕ) (old new : Sums) : Type 0 where
+-- whether what stands at a name counts as changed over a root that goes up to this commit; without a
+-- root each object does
+abbrev pub stale_over : Option ℕ → Option Object → Bool
+stale_over root None = false
+stale_over None (Some object) = true
+stale_over (Some since) (Some object) = nat_lt since object.changed
+
+-- a leaf, where it has changed
+abbrev pub leaf_if : Bool → ℕ → List ℕ
+leaf_if stale leaf = if stale then leaf ∷ [] else []
+
+-- one leaf more was counted, and put behind the others that have changed, where it has
+pub record AddsLeaf (image : Image) (root : Option ℕ) (leaf : ℕ) (old new : Sums)
+    (before after : List ℕ) : Type 0 where
   pub leaves : new.leaves ≡ old.leaves + 1
   pub all : new.all ≡ old.all + leaf_pages image leaf
-  pub stale : new.stale ≡ old.stale + cond (is_changed image since leaf) (leaf_pages image leaf) 0
+  pub stale : new.stale ≡ old.stale
+      + (if counts_changed root image leaf then leaf_pages image leaf else 0)
+  pub listed : after ≡ before ++ leaf_if (counts_changed root image leaf) leaf
 
 -- all leaves of the image
 abbrev pub leaves_with : Image → List ℕ
 leaves_with image = leaves_of (entries image)
 
--- the leaves below this number were counted
-pub record AreCountedBelow (image : Image) (since below : ℕ) (sums : Sums) : Type 0 where
+-- the pages of a leaf that is written over a root that goes up to this commit; without a root all are
+abbrev pub stale_pages : Option ℕ → Image → ℕ → ℕ
+stale_pages None image = pages_of_leaf image 0 []
+stale_pages (Some since) image = pages_of_leaf image since (leaves_with image)
+
+-- the leaves below this number were counted, and those of them that have changed are these
+pub record AreCountedBelow (image : Image) (root : Option ℕ) (below : ℕ) (sums : Sums)
+    (changed : List ℕ) : Type 0 where
   pub few : sums.leaves ≤ below
   pub leaves : sums.leaves ≡ sum_below below (one_leaf image)
-  pub all : sums.all ≡ sum_below below (pages_of_leaf image since [])
-  pub stale : sums.stale ≡ sum_below below (pages_of_leaf image since (leaves_with image))
+  pub all : sums.all ≡ sum_below below (pages_of_leaf image 0 [])
+  pub stale : sums.stale ≡ sum_below below (stale_pages root image)
+  pub listed : Collected 0 (counts_changed root image) changed below
 
 -- all were
-abbrev pub AreCounted : Image → (since : ℕ) → Sums → Type 0
-AreCounted image since sums = AreCountedBelow image since (2 ^ 42) sums
+abbrev pub AreCounted : Image → (root : Option ℕ) → Sums → List ℕ → Type 0
+AreCounted image root sums changed = AreCountedBelow image root (2 ^ 42) sums changed
+
+-- the numbers of all leaves that have changed
+pub record AreListed (root : Option ℕ) (image : Image) (changed : List ℕ) : Type 0 where
+  pub are : AreChanged root image changed
+  pub low : AllByRecursion (λ leaf. leaf < 2 ^ 42) changed
 
 -- ---- Checkpoints.
 
@@ -89,7 +117,7 @@ CountFails image root (fault.Full pages) =
 CountFails image root fault.Disk = ⊥
 CountFails image root fault.NoMemory = Unit {0}
 
-abbrev pub Counts : Image → Option Root → Result PageCounts CheckFault → Type 0
-Counts image root (Ok counts) =
-    (counts.all ≡ image_pages image) × (pages_for image root ≤ PAGE_LIMIT)
+abbrev pub Counts : Image → Option Root → Result (PageCounts × Vec ℕ Global) CheckFault → Type 0
+Counts image root (Ok found) = (found.0.all ≡ image_pages image)
+    × (pages_for image root ≤ PAGE_LIMIT) × AreListed (since_root root) image found.1.items
 Counts image root (Err why) = CountFails image root why

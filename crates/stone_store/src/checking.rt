@@ -6,6 +6,7 @@ ghost use Rattle.gem_disk.specs.Runs.{LeavesOnly};
 ghost use Rattle.gem_record.specs.declared.limits.TheConstants.{PAGE_LIMIT};
 ghost use Rattle.gem_record.specs.Stored.{pages_needed, after_checkpoint};
 ghost use Rattle.gem_keeper.specs.Keeper.{CheckFails};
+ghost use Rattle.stone_store.specs.Counted.{since_root, AreListed};
 ghost use Rattle.stone_store.specs.Left.{FilesStandFor};
 ghost use Rattle.stone_store.specs.Resting.{stored_by, BothRest, IsEmptied};
 ghost use Rattle.stone_store.specs.Whole.{RestsBy};
@@ -26,8 +27,10 @@ fn write_checkpoint<D: Disk>(
     parts: &mut Parts,
     image: &Image,
     number: u64,
+    changed: &[u64],
 ) -> Result<(), PageFault>
     requires small { number < 2 ^ 63 }
+    requires changed { AreListed (since_root parts.old.root) image.now changed.now }
     requires rests { IsTrue D.tells → BothRest (D.past disk.old) parts.old }
     requires stands { IsTrue D.tells →
         FilesStandFor image.now number (as_read (D.past disk.old)) }
@@ -46,7 +49,9 @@ fn write_checkpoint<D: Disk>(
     ensures later { D.faults disk.old ≤ D.faults disk.new }
 {
     pages_are_those_of_the_image();
-    parts.pages.write_changed(alloc, disk, image, number)?;
+    parts
+        .pages
+        .write_changed(alloc, disk, image, number, changed)?;
     match parts.log.restart_empty(disk) {
         Ok(()) => Ok(()),
         Err(_) => Err(PageFault::Disk),
@@ -85,14 +90,14 @@ pub(crate) fn checkpoint_to<D: Disk>(
     let Some(mut kept) = parts.take() else {
         unreachable!()
     };
-    let counts = match counted(image, kept.root) {
-        Ok(counts) => counts,
+    let (counts, changed) = match counted(alloc, image, kept.root) {
+        Ok(found) => found,
         Err(fault) => {
             *parts = Some(kept);
             return Err(fault);
         }
     };
-    match write_checkpoint(alloc, disk, &mut kept, image, number) {
+    match write_checkpoint(alloc, disk, &mut kept, image, number, &changed) {
         Ok(()) => {
             let pages = counts.all;
             kept.root = Some(Root { number, pages });

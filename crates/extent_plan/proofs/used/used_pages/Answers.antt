@@ -31,4 +31,4 @@ returns-clause-are c = λ page low high.
     (c.deref.ensures.value ∙ whole_again _ two _ further (len_is ∙ sym long ∙ sym (ap length first)))
 
 pub returns-clause-none : goal.returns-clause-none
-returns-clause-none c = λ page outside. none_outside _ c.in_ok-pages.pages.items most_pages page c.in_ok-pages.ensures outside
+returns-clause-none c = λ page outside. none_outside 3 _ c.in_ok-pages.pages.items most_pages page c.in_ok-pages.ensures outside

@@ -24,8 +24,8 @@ returns-in-Ok-write_checkpoint-clause-stored g c =
     checkpoint_stored (record {
       log = c.write_checkpoint.new.parts.log;
       pages = c.write_checkpoint.new.parts.pages;
-      root = Some (record { number = c.args.number; pages = c.in-Ok.counts.all });
-    }) (record { number = c.args.number; pages = c.in-Ok.counts.all }) c.args.image.now c.args.number c.in-Ok-write_checkpoint.ensures.emptied refl refl c.in-Ok.ensures.0
+      root = Some (record { number = c.args.number; pages = c.in-Ok.found.0.all });
+    }) (record { number = c.args.number; pages = c.in-Ok.found.0.all }) c.args.image.now c.args.number c.in-Ok-write_checkpoint.ensures.emptied refl refl c.in-Ok.ensures.0
 
 pub returns-in-Ok-write_checkpoint-clause-fits : goal.returns-in-Ok-write_checkpoint-clause-fits
 returns-in-Ok-write_checkpoint-clause-fits g c = subst (λ (n : ℕ). n ≤ PAGE_LIMIT)

@@ -6,7 +6,10 @@ use Rattle.stone_store.proofs.checking.write_checkpoint.Goals as goal
 pub write_changed-requires-clause-may : goal.write_changed-requires-clause-may
 write_changed-requires-clause-may g c tells =
     let rest = c.requires.rests tells in
-    (rest.root, may_change (g.D.Disk.past c.args.disk.now) c.args.parts.now rest c.args.image.now c.args.number (c.requires.stands tells))
+    (rest.root, may_change (g.D.Disk.past c.args.disk.now) c.args.parts.now rest c.args.image.now c.args.number (c.requires.stands tells) c.args.changed.now c.requires.changed.are)
+
+pub write_changed-requires-clause-low : goal.write_changed-requires-clause-low
+write_changed-requires-clause-low g c = c.requires.changed.low
 
 pub returns-in_err-write_changed-clause-any_moment :
     goal.returns-in_err-write_changed-clause-any_moment
@@ -16,7 +19,7 @@ returns-in_err-write_changed-clause-any_moment g c tells =
     let stands = c.requires.stands tells in
     extent_leaves past c.args.parts.now rest c.args.image.now c.args.number stands (g.D.Disk.past c.write_changed.new.disk)
     (c.in_err-write_changed.ensures.any_moment rest.root tells
-    (may_change past c.args.parts.now rest c.args.image.now c.args.number stands))
+    (may_change past c.args.parts.now rest c.args.image.now c.args.number stands c.args.changed.now c.requires.changed.are))
 
 pub restart_empty-requires : goal.restart_empty-requires
 restart_empty-requires g c tells =
@@ -24,7 +27,7 @@ restart_empty-requires g c tells =
     let mid = g.D.Disk.past c.write_changed.new.disk in
     let rest = c.requires.rests tells in
     let stands = c.requires.stands tells in
-    let may = may_change past c.args.parts.now rest c.args.image.now c.args.number stands in (
+    let may = may_change past c.args.parts.now rest c.args.image.now c.args.number stands c.args.changed.now c.requires.changed.are in (
       rest.logged,
       log_rests past c.args.parts.now rest c.args.image.now c.args.number stands mid
           (c.in_ok-write_changed.ensures.any_moment rest.root tells may) c.write_changed.new.self
@@ -37,7 +40,7 @@ returns-in-Ok-clause-any_moment g c tells =
     let mid = g.D.Disk.past c.write_changed.new.disk in
     let rest = c.requires.rests tells in
     let stands = c.requires.stands tells in
-    let may = may_change past c.args.parts.now rest c.args.image.now c.args.number stands in
+    let may = may_change past c.args.parts.now rest c.args.image.now c.args.number stands c.args.changed.now c.requires.changed.are in
     let only = c.in_ok-write_changed.ensures.any_moment rest.root tells may in
     let changed = c.in_ok-write_changed.ensures.made rest.root tells may in
     let log = log_rests past c.args.parts.now rest c.args.image.now c.args.number stands mid only c.write_changed.new.self changed in
@@ -51,7 +54,7 @@ returns-in-Ok-clause-made g c tells =
     let mid = g.D.Disk.past c.write_changed.new.disk in
     let rest = c.requires.rests tells in
     let stands = c.requires.stands tells in
-    let may = may_change past c.args.parts.now rest c.args.image.now c.args.number stands in
+    let may = may_change past c.args.parts.now rest c.args.image.now c.args.number stands c.args.changed.now c.requires.changed.are in
     let only = c.in_ok-write_changed.ensures.any_moment rest.root tells may in
     let changed = c.in_ok-write_changed.ensures.made rest.root tells may in
     let log = log_rests past c.args.parts.now rest c.args.image.now c.args.number stands mid only c.write_changed.new.self changed in
@@ -69,7 +72,7 @@ returns-in-Ok-clause-reads g c tells =
     let mid = g.D.Disk.past c.write_changed.new.disk in
     let rest = c.requires.rests tells in
     let stands = c.requires.stands tells in
-    let may = may_change past c.args.parts.now rest c.args.image.now c.args.number stands in
+    let may = may_change past c.args.parts.now rest c.args.image.now c.args.number stands c.args.changed.now c.requires.changed.are in
     let only = c.in_ok-write_changed.ensures.any_moment rest.root tells may in
     let changed = c.in_ok-write_changed.ensures.made rest.root tells may in
     let log = log_rests past c.args.parts.now rest c.args.image.now c.args.number stands mid only c.write_changed.new.self changed in
@@ -86,7 +89,7 @@ returns-in-Err-clause-any_moment g c tells =
     let mid = g.D.Disk.past c.write_changed.new.disk in
     let rest = c.requires.rests tells in
     let stands = c.requires.stands tells in
-    let may = may_change past c.args.parts.now rest c.args.image.now c.args.number stands in
+    let may = may_change past c.args.parts.now rest c.args.image.now c.args.number stands c.args.changed.now c.requires.changed.are in
     let only = c.in_ok-write_changed.ensures.any_moment rest.root tells may in
     let changed = c.in_ok-write_changed.ensures.made rest.root tells may in
     let log = log_rests past c.args.parts.now rest c.args.image.now c.args.number stands mid only c.write_changed.new.self changed in
