@@ -46,6 +46,14 @@ impl KnownView {
         }
     }
 
+    /// Goes on with this view in place of the one before, of which nothing is remembered any more.
+    /// It takes no memory.
+    pub(crate) fn go_on(&mut self, view: View)
+        ensures { self.new ≡ view }
+    {
+        let _before = self.known.go_on(view);
+    }
+
     /// The view.
     pub(crate) fn view(&self) -> &View
         ensures { result.now ≡ self.now }

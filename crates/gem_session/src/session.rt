@@ -86,6 +86,7 @@ impl Session {
         let number = standing.number;
         let image = standing.image.share()?;
         let view = start_view(alloc, standing, serial, 1, user)?;
+        let view = KnownView::of(alloc, view);
         let cache = CodeCache::new(alloc)?;
         Ok(Session {
             session,
@@ -218,7 +219,8 @@ impl Session {
         let image = begun.image.share()?;
         let next = self.view.next_counter();
         let user = self.view.user();
-        self.view = start_view(alloc, begun, self.serial, next, user)?;
+        let started = start_view(alloc, begun, self.serial, next, user)?;
+        self.view.go_on(started);
         self.image = image;
         self.number = view;
         self.transaction += 1;
@@ -235,7 +237,7 @@ fn start_view(
     serial: u32,
     next: u32,
     user: Oid,
-) -> Result<KnownView, AllocError>
+) -> Result<View, AllocError>
     requires { IsSoundFor (objects_in standing.image) user serial next }
     ensures seen { IfOk result
         (λ view. view.state.seen ≡ begun standing.image standing.image user serial next) }
@@ -243,8 +245,7 @@ fn start_view(
 {
     begins_on_sound_images();
     standing.image.invariant();
-    let view = View::start(alloc, standing.image, serial, next, user)?;
-    Ok(KnownView::of(alloc, view))
+    View::start(alloc, standing.image, serial, next, user)
 }
 
 // The mode that a line of a script sets.

@@ -1,15 +1,15 @@
 -- What a read of a known object does, and what is known of an object once it was read.
-use Rattle.std.proofs.Common.{◌≡◌, ◌∙◌, refl, sym, ap, subst, ℕ, Bool, true, false, ◌&&◌, List, [], Option, Some, None, IfSome, is_some, option_map, Result, Ok, Err, is_ok}
+use Rattle.std.proofs.Common.{◌≡◌, ◌∙◌, refl, sym, ap, subst, ℕ, Bool, true, false, ◌&&◌, [], Option, Some, None, IfSome, is_some, Result, Ok, Err, is_ok}
 use Rattle.std.proofs.lemmas.Bool.{false≢true}
-use Rattle.std.proofs.lemmas.Option.{none-some, same_Some}
+use Rattle.std.proofs.lemmas.Option.{same_Some}
 use Rattle.gem_object.specs.declared.body.MethodCode.{MethodCode}
 use Rattle.running_objects.specs.gem_image.Image.{Contents}
 use Rattle.running_objects.specs.gem_world.World.{Setting, World}
-use Rattle.running_objects.specs.gem_world.Access.{a_read}
+use Rattle.running_objects.specs.gem_world.Access.{Access, a_read}
 use Rattle.running_objects.specs.object_programs.Atom.{Done}
 use Rattle.running_objects.specs.object_programs.Laws.{answered}
 use Rattle.running_objects.specs.object_programs.Local.{Local}
-use Rattle.running_objects.specs.object_programs.Run.{State, outcome_of}
+use Rattle.running_objects.specs.object_programs.Run.{outcome_of}
 use Rattle.running_objects.proofs.object_programs_lemmas.Exact.{read_done}
 use Rattle.running_objects.specs.Seen.{Seen, object_at, with_local}
 use Rattle.running_objects.specs.Acted.{Reached, Accessed}
@@ -20,9 +20,8 @@ use Rattle.gem_language.specs.LookUp.{Start, start_of_object}
 use Rattle.look_up_cache.specs.Lasting.{lasting_of}
 use Rattle.look_up_cache.specs.Calm.{Calm, Begins}
 use Rattle.look_up_cache.specs.Table.{AllHeld}
-use Rattle.look_up_cache.specs.Memory.{start_at, IsBegun, IsFound, IsCoded, Holds, Where, IsKnown}
+use Rattle.look_up_cache.specs.Memory.{start_at, IsMet, IsFound, IsCoded, Holds, Where, IsKnown}
 use Rattle.look_up_cache.specs.declared.memory.Beginning.{Beginning}
-use Rattle.look_up_cache.specs.declared.memory.Receiver.{Receiver}
 use Rattle.look_up_cache.specs.declared.memory.Memory.{Memory}
 use Rattle.look_up_cache.proofs.Calms.{Taken, taken, start_lasts, calm_touches}
 use Rattle.look_up_cache.proofs.Told.{read_calm}
@@ -72,17 +71,17 @@ reached_begins name before after reached object there =
       at = start_lasts name object.class object.body;
     }
 
--- What is known stays known after a read, and what was read is known.
-pub read_known : {T : Type 0} (is_of : T → MethodCode → Type 0) (name : ℕ) (held : Bool)
+-- What is known stays known after an access, and what was read or written is known.
+pub reached_known : {T : Type 0} (is_of : T → MethodCode → Type 0) (access : Access) (name : ℕ) (held : Bool)
     (middle memory : Memory T) (before after : Seen) (result : Result (Unit {0}) Stop)
-    → Accessed a_read name before result after → (held ≡ true → result ≡ Ok tt)
+    → Accessed access name before result after → (held ≡ true → result ≡ Ok tt)
     → IsKnown is_of held middle after
-    → (Reached a_read name before after → Where held (Holds middle after) → Where held (Holds memory after))
+    → (Reached access name before after → Where held (Holds middle after) → Where held (Holds memory after))
     → memory.methods.items ≡ middle.methods.items → IsKnown is_of held memory after
-read_known {T} is_of name false middle memory before after result accessed ok known learns same =
+reached_known {T} is_of access name false middle memory before after result accessed ok known learns same =
     record { holds = tt; coded = subst (λ methods. AllHeld (IsCoded is_of) methods) (sym same) known.coded }
-read_known {T} is_of name true middle memory before after result accessed ok known learns same = record {
-  holds = learns (subst (λ (ended : Result (Unit {0}) Stop). Accessed a_read name before ended after) (ok refl) accessed)
+reached_known {T} is_of access name true middle memory before after result accessed ok known learns same = record {
+  holds = learns (subst (λ (ended : Result (Unit {0}) Stop). Accessed access name before ended after) (ok refl) accessed)
       known.holds;
   coded = subst (λ methods. AllHeld (IsCoded is_of) methods) (sym same) known.coded;
 }
@@ -95,7 +94,7 @@ still_ok true now (Err ended) is holds = absurd (false≢true (sym is ∙ holds)
 
 -- What comes into the table of receivers leaves the look-ups.
 pub learned : {T : Type 0} (held : Bool) (old new : Memory T) (seen : Seen)
-    → (AllHeld (IsBegun seen) old.receivers.items → AllHeld (IsBegun seen) new.receivers.items)
+    → (AllHeld (IsMet seen) old.receivers.items → AllHeld (IsMet seen) new.receivers.items)
     → new.methods.items ≡ old.methods.items → Where held (Holds old seen) → Where held (Holds new seen)
 learned false old new seen learns same holds = tt
 learned true old new seen learns same holds = record {

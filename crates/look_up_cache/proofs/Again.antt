@@ -16,11 +16,10 @@ use Rattle.look_up_cache.specs.Lasting.{Lasting}
 use Rattle.look_up_cache.specs.Calm.{Begins, plain_start, start_by}
 use Rattle.look_up_cache.specs.Remembered.{Finds}
 use Rattle.look_up_cache.specs.Table.{held_at, AllHeld}
-use Rattle.look_up_cache.specs.Memory.{start_at, IsBegun, IsFound, IsCoded, Holds, Where, BeginsFor, FindsFor, founds}
+use Rattle.look_up_cache.specs.Memory.{start_at, IsMet, IsFound, IsCoded, Where, BeginsFor, FindsFor, founds}
 use Rattle.look_up_cache.specs.declared.memory.Beginning.{Beginning}
 use Rattle.look_up_cache.specs.declared.memory.Receiver.{Receiver}
 use Rattle.look_up_cache.specs.declared.memory.Entry.{Entry}
-use Rattle.look_up_cache.specs.declared.memory.Memory.{Memory}
 use Rattle.look_up_cache.proofs.Calms.{Taken, taken, start_lasts}
 use Rattle.look_up_cache.proofs.Places.{found_held}
 
@@ -45,11 +44,11 @@ plain_begins receiver None is seen = tt
 plain_begins (value.Ref name) (Some start) is seen = absurd (none-some (start_at start) (sym is))
 plain_begins receiver (Some start) is seen = sym is
 
-pub begun_here : (receivers : List (Option Receiver)) (at name : ℕ) (receiver : Receiver)
-    → held_at receivers at ≡ Some receiver → receiver.name ≡ name → (seen : Seen) → AllHeld (IsBegun seen) receivers
-    → Begins name (start_at receiver.start) seen.setting seen.world
-begun_here receivers at name receiver here same seen all =
-    subst (λ (n : ℕ). Begins n (start_at receiver.start) seen.setting seen.world) same (all at receiver here)
+pub begun_here : (name : ℕ) (receiver : Receiver) (start : Beginning) → receiver.name ≡ name → start ≡ receiver.start
+    → (seen : Seen) → IsMet seen receiver → Begins name (start_at start) seen.setting seen.world
+begun_here name receiver start same copied seen met =
+    subst (λ (s : Beginning). Begins name (start_at s) seen.setting seen.world) (sym copied)
+    (subst (λ (n : ℕ). Begins n (start_at receiver.start) seen.setting seen.world) same met.begins)
 
 -- ---- what a look-up is known to find
 

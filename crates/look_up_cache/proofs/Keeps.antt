@@ -9,26 +9,47 @@ use Rattle.gem_update.specs.declared.update.Update.{Update}
 use Rattle.running_objects.specs.gem_image.Image.{Contents}
 use Rattle.running_objects.specs.gem_world.World.{Setting}
 use Rattle.running_objects.specs.gem_world.Access.{Access}
-use Rattle.running_objects.specs.object_programs.Atom.{Atom, Put, Note, Names, Tick, Room, Show}
-use Rattle.running_objects.specs.Seen.{Seen, object_at, IsSoundState}
+use Rattle.running_objects.specs.object_programs.Atom.{Put, Note, Names, Tick, Room, Show}
+use Rattle.running_objects.specs.Seen.{Seen, object_at, IsSoundState, with_whole_budget}
 use Rattle.running_objects.specs.Acted.{Acted, Accessed, Owned, Known, Edited, Made}
 use Rattle.running_objects.specs.declared.stop.Stop.{Stop}
+use Rattle.gem_language.specs.LookUp.{Start}
 use Rattle.look_up_cache.specs.Lasting.{lasting_body}
-use Rattle.look_up_cache.specs.Calm.{Begins}
+use Rattle.look_up_cache.specs.Calm.{Begins, Writable}
 use Rattle.look_up_cache.specs.Remembered.{Finds}
 use Rattle.look_up_cache.specs.Remains.{Remains}
-use Rattle.look_up_cache.specs.Memory.{start_at, IsBegun, IsFound, Holds, Where, IsKnown}
+use Rattle.look_up_cache.specs.Table.{AllHeld}
+use Rattle.look_up_cache.specs.Memory.{start_at, IsMet, IsFound, Holds, Where, IsKnown}
 use Rattle.look_up_cache.specs.declared.memory.Receiver.{Receiver}
 use Rattle.look_up_cache.specs.declared.memory.Entry.{Entry}
 use Rattle.look_up_cache.specs.declared.memory.Memory.{Memory}
-use Rattle.look_up_cache.proofs.Stays.{begins_stay, finds_stay}
+use Rattle.look_up_cache.proofs.Stays.{writable_stays, begins_stay, finds_stay}
 use Rattle.look_up_cache.proofs.Atoms.{unit_remains, room_remains, names_remain, show_remains, access_remains, own_remains, known_remains, put_remains, edit_remains, note_remains, made_remains}
 
+where_still : (held : Bool) (P Q : Type 0) → (P → Q) → Where held P → Where held Q
+where_still true P Q keeps holds = keeps holds
+where_still false P Q keeps holds = tt
+
 module _ (before after : Seen) (remains : Remains before after) where
-  begun_remains : (receiver : Receiver) → IsBegun before receiver → IsBegun after receiver
+  begun_remains : (receiver : Receiver) → Begins receiver.name (start_at receiver.start) before.setting before.world
+      → Begins receiver.name (start_at receiver.start) after.setting after.world
   begun_remains receiver begun = subst (λ (setting : Setting).
       Begins receiver.name (start_at receiver.start) setting after.world) (sym remains.setting)
       (begins_stay before.setting before.world after.world remains.still receiver.name (start_at receiver.start) begun)
+
+  writable_remains : (name : ℕ) (start : Start) → Begins name start before.setting before.world
+      → Writable name before.setting before.world → Writable name after.setting after.world
+  writable_remains name start begins writable = subst (λ (setting : Setting). Writable name setting after.world)
+      (sym remains.setting)
+      (writable_stays before.setting before.world after.world remains.still name begins.part begins.calm.there writable)
+
+  met_remains : (receiver : Receiver) → IsMet before receiver → IsMet after receiver
+  met_remains receiver met = record {
+    begins = begun_remains receiver met.begins;
+    writable = where_still receiver.written (Writable receiver.name before.setting before.world)
+        (Writable receiver.name after.setting after.world)
+        (writable_remains receiver.name (start_at receiver.start) met.begins) met.writable;
+  }
 
   found_remains : {T : Type 0} (entry : Entry T) → IsFound before entry → IsFound after entry
   found_remains entry found = subst (λ (setting : Setting).
@@ -37,7 +58,7 @@ module _ (before after : Seen) (remains : Remains before after) where
 
   pub holds_remain : {T : Type 0} (memory : Memory T) → Holds memory before → Holds memory after
   holds_remain memory holds = record {
-    receivers = λ at receiver here. begun_remains receiver (holds.receivers at receiver here);
+    receivers = λ at receiver here. met_remains receiver (holds.receivers at receiver here);
     methods = λ at entry here. found_remains entry (holds.methods at entry here);
   }
 
@@ -135,6 +156,21 @@ module _ {T : Type 0} (is_of : T → MethodCode → Type 0) (memory : Memory T) 
   -- where all is forgotten
   pub unknown : (held : Bool) → IsKnown is_of held memory before → IsKnown is_of false memory after
   unknown held known = record { holds = tt; coded = known.coded }
+
+-- what is known of receivers, where it isn't forgotten
+pub known_receivers : {T : Type 0} (is_of : T → MethodCode → Type 0) (held : Bool) (memory : Memory T) (seen : Seen)
+    → IsKnown is_of held memory seen → held ≡ true → AllHeld (IsMet seen) memory.receivers.items
+known_receivers {T} is_of true memory seen known is = known.holds.receivers
+known_receivers {T} is_of false memory seen known is = absurd (false≢true is)
+
+-- in a new chunk, whose budget is whole
+pub chunk_known : {T : Type 0} (is_of : T → MethodCode → Type 0) (held : Bool) (memory : Memory T) (seen : Seen)
+    → IsKnown is_of held memory seen → IsKnown is_of held memory (with_whole_budget seen)
+chunk_known {T} is_of held memory seen known = record {
+  holds = where_still held (Holds memory seen) (Holds memory (with_whole_budget seen))
+      (λ holds. record { receivers = holds.receivers; methods = holds.methods }) known.holds;
+  coded = known.coded;
+}
 
 -- by the view of a value
 pub as_seen : {O F : Type 0} (seen : O → Seen) (P : Seen → Type 0) (objects : O) (found : F) (value : O × F)

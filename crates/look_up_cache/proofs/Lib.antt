@@ -10,4 +10,5 @@ mod Places
 mod Again
 mod There
 pub mod AfterReads
+mod AfterWrites
 pub mod Meets

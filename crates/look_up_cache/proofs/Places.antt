@@ -1,9 +1,10 @@
 -- What stands at the places of a table.
-use Rattle.std.proofs.Common.{◌≡◌, ◌∙◌, ◌⊎◌, inl, inr, refl, sym, ap, subst, ℕ, zero, suc, ◌<◌, List, [], ◌∷◌, ◌++◌, length, set, slice_get, Option, Some, None, IfSome, option_map, option_and_then, arith}
+use Rattle.std.proofs.Common.{◌≡◌, ◌∙◌, ◌⊎◌, inl, inr, refl, sym, ap, subst, ℕ, zero, suc, ◌+◌, ◌<◌, ◌≤◌, List, [], ◌∷◌, ◌++◌, length, set, slice_get, Option, Some, None, IfSome, option_map, option_and_then, arith}
+use Rattle.std.proofs.lemmas.Bool.{cases_lt}
 use Rattle.std.proofs.lemmas.Option.{none-some, same_Some}
 use Rattle.gem_language.specs.declared.found.Found.{Found}
 use Rattle.look_up_cache.specs.declared.memory.Entry.{Entry}
-use Rattle.look_up_cache.specs.Table.{held_at, AllHeld}
+use Rattle.look_up_cache.specs.Table.{held_at, NoneHeld, AllHeld}
 use Rattle.gem_object.specs.declared.body.MethodCode.{MethodCode}
 use Rattle.running_objects.specs.Seen.{Seen}
 use Rattle.look_up_cache.specs.Memory.{IsFound, IsCoded, coded_by, founds}
@@ -30,9 +31,38 @@ module _ {X : Type 0} where
   held_here (first ∷ places) zero x below = refl
   held_here (first ∷ places) (suc at) x below = held_here places at x (omega (arith, below))
 
-  -- nothing stands in an empty table
-  pub none_held : (P : X → Type 0) (places : List (Option X)) → places ≡ [] → AllHeld P places
-  none_held P places is at x here = absurd (none-some x (ap (λ (p : List (Option X)). held_at p at) (sym is) ∙ here))
+  -- nothing stands in a table without places
+  pub none_in_empty : (places : List (Option X)) → places ≡ [] → NoneHeld places
+  none_in_empty places is at = ap (λ (p : List (Option X)). held_at p at) is
+
+  -- of nothing all holds
+  pub none_held : (P : X → Type 0) (places : List (Option X)) → NoneHeld places → AllHeld P places
+  none_held P places none at x here = absurd (none-some x (sym (none at) ∙ here))
+
+  -- nothing stands past the last place
+  none_past : (places : List (Option X)) (at : ℕ) → length places ≤ at → held_at places at ≡ None
+  none_past [] at past = refl
+  none_past (place ∷ places) zero past = absurd (omega (arith, past))
+  none_past (place ∷ places) (suc at) past = none_past places at (omega (arith, past))
+
+  -- one place more is emptied
+  pub none_more : (places : List (Option X)) (at : ℕ)
+      → ((place : ℕ) → place < at → held_at places place ≡ None)
+      → (place : ℕ) → place < at + 1 → held_at (set places at None) place ≡ None
+  none_more [] at before place below = refl
+  none_more (first ∷ places) zero before zero below = refl
+  none_more (first ∷ places) zero before (suc place) below = absurd (omega (arith, below))
+  none_more (first ∷ places) (suc at) before zero below = before zero (omega arith)
+  none_more (first ∷ places) (suc at) before (suc place) below =
+      none_more places at (λ one within. before (suc one) (omega (arith, within))) place (omega (arith, below))
+
+  -- all places were emptied
+  pub none_left : (places : List (Option X)) (at : ℕ) → length places ≤ at
+      → ((place : ℕ) → place < at → held_at places place ≡ None) → NoneHeld places
+  none_left places at past before place = elim (cases_lt place at) [
+    | inl within ↦ before place within
+    | inr beyond ↦ none_past places place (omega (arith, past, beyond))
+  ]
 
 pub found_held : {T : Type 0} (places : List (Option (Entry T))) (at : ℕ)
     → held_at (founds places) at ≡ option_and_then (λ entry. entry.found) (held_at places at)

@@ -1,24 +1,24 @@
 -- What is remembered remains where nothing happens that look-ups depend on.
-use Rattle.std.proofs.Common.{◌≡◌, ◌∙◌, refl, sym, ap, ap₂, subst, ℕ, suc, ◌+◌, Bool, true, false, ◌&&◌, ◌||◌, cond, nat_le, nat_lt, Option, Some, None, List, is_some, option_map, option_and_then, inl, inr, arith}
+use Rattle.std.proofs.Common.{◌≡◌, ◌∙◌, refl, sym, ap, ap₂, ℕ, suc, Bool, true, false, ◌&&◌, cond, nat_le, nat_lt, Option, Some, None, List, is_some, option_map, option_and_then, inl, inr, arith}
 use Rattle.std.specs.FinMap.{get}
 use Rattle.std.proofs.lemmas.Bool.{false≢true, and_parts, and_from, or_cases, or_left, or_right, lt-ltb, ltb-true}
 use Rattle.std.proofs.lemmas.Option.{none-some}
 use Rattle.gem_object.specs.texts.Bytes.{Bytes as Text}
-use Rattle.gem_object.specs.seg_rights.Right.{allows_read}
 use Rattle.gem_object.specs.seg_rights.declared.right.Right.{Right}
+use Rattle.gem_object.specs.seg_rights.declared.right.Right.TheVariants as right
 use Rattle.gem_object.specs.seg_rights.declared.rights.Rights.{Rights}
 use Rattle.gem_object.specs.declared.body.Body.{Body}
 use Rattle.gem_object.specs.declared.body.Body.TheVariants.{Plain, Bytes, Dict, Class, Segment, User, Counter, Bag, RcDict, Queue}
 use Rattle.running_objects.specs.gem_image.Image.{Contents, Objects, objects_in}
 use Rattle.running_objects.specs.gem_image.Rights.{rights_of, groups_of, rights_at, groups_at, right_by, right_in, right_on_segment, right_on_body, right_on_object}
-use Rattle.running_objects.specs.gem_world.World.{Setting, World, name_of, next_name, are_shared, shown, shown_objects, is_made, is_private, is_among}
-use Rattle.running_objects.specs.gem_world.Access.{a_read, is_allowed}
+use Rattle.running_objects.specs.gem_world.World.{Setting, World, name_of, are_shared, shown, shown_objects, is_made, is_private, is_among}
+use Rattle.running_objects.specs.gem_world.Access.{Access, a_read, a_write, allows, is_allowed}
 use Rattle.running_objects.specs.object_programs.Guard.{chain_limit}
 use Rattle.running_objects.specs.gem_sound.Kernel.{class_class}
 use Rattle.gem_language.specs.declared.found.Found.{Found}
 use Rattle.gem_language.specs.LookUp.{Start}
 use Rattle.look_up_cache.specs.Lasting.{Lasting, lasting_body, lasting_of, is_settled, Still}
-use Rattle.look_up_cache.specs.Calm.{Calm, Begins}
+use Rattle.look_up_cache.specs.Calm.{Calm, Begins, Writable}
 use Rattle.look_up_cache.specs.Remembered.{Up, no_class, holds, last, above, IsNothing, Past, From, Finds}
 use Rattle.look_up_cache.proofs.Calms.{Taken, taken}
 
@@ -81,48 +81,55 @@ module _ {X : Type 0} (f : Body → Option X) (lasts : (body : Body) → option_
       ap (option_and_then (λ (object : Contents). f object.body)) now.there
       ∙ (told_same now.object object now.is ∙ is)
 
-by_stays : (user : ℕ) (rights after : Option (Rights Text)) (groups later : Option (List Text))
-    → ((r : Rights Text) → rights ≡ Some r → after ≡ Some r) → ((g : List Text) → groups ≡ Some g → later ≡ Some g)
-    → allows_read (right_by rights user groups) ≡ true → allows_read (right_by after user later) ≡ true
-by_stays user None after groups later keeps_rights keeps_groups allowed = absurd (false≢true allowed)
-by_stays user (Some r) after None later keeps_rights keeps_groups allowed = absurd (false≢true allowed)
-by_stays user (Some r) after (Some g) later keeps_rights keeps_groups allowed =
-    ap₂ (λ (rights : Option (Rights Text)) (groups : Option (List Text)). allows_read (right_by rights user groups))
-    (keeps_rights r refl) (keeps_groups g refl) ∙ allowed
+-- no right is enough for nothing
+nothing_allowed : (access : Access) → allows access right.None ≡ true → ⊥
+nothing_allowed a_read allowed = false≢true allowed
+nothing_allowed a_write allowed = false≢true allowed
 
-held_stays : (own : Option (Rights Text)) (right later : Right) (user : ℕ)
-    → (allows_read right ≡ true → allows_read later ≡ true)
-    → allows_read (right_held own right user) ≡ true → allows_read (right_held own later user) ≡ true
-held_stays None right later user keeps allowed = keeps allowed
-held_stays (Some rights) right later user keeps allowed = allowed
+module _ (access : Access) where
+  by_stays : (user : ℕ) (rights after : Option (Rights Text)) (groups later : Option (List Text))
+      → ((r : Rights Text) → rights ≡ Some r → after ≡ Some r) → ((g : List Text) → groups ≡ Some g → later ≡ Some g)
+      → allows access (right_by rights user groups) ≡ true → allows access (right_by after user later) ≡ true
+  by_stays user None after groups later keeps_rights keeps_groups allowed = absurd (nothing_allowed access allowed)
+  by_stays user (Some r) after None later keeps_rights keeps_groups allowed = absurd (nothing_allowed access allowed)
+  by_stays user (Some r) after (Some g) later keeps_rights keeps_groups allowed =
+      ap₂ (λ (rights : Option (Rights Text)) (groups : Option (List Text)). allows access (right_by rights user groups))
+      (keeps_rights r refl) (keeps_groups g refl) ∙ allowed
+
+  held_stays : (own : Option (Rights Text)) (right later : Right) (user : ℕ)
+      → (allows access right ≡ true → allows access later ≡ true)
+      → allows access (right_held own right user) ≡ true → allows access (right_held own later user) ≡ true
+  held_stays None right later user keeps allowed = keeps allowed
+  held_stays (Some rights) right later user keeps allowed = allowed
 
 module _ (setting : Setting) (world later : World) (still : Still setting world later) where
-  in_stays : (segment : ℕ) → allows_read (right_in (shown_objects setting world) setting.user segment) ≡ true
-      → allows_read (right_in (shown_objects setting later) setting.user segment) ≡ true
-  in_stays segment allowed = by_stays setting.user (rights_at (shown_objects setting world) segment)
+  in_stays : (access : Access) (segment : ℕ)
+      → allows access (right_in (shown_objects setting world) setting.user segment) ≡ true
+      → allows access (right_in (shown_objects setting later) setting.user segment) ≡ true
+  in_stays access segment allowed = by_stays access setting.user (rights_at (shown_objects setting world) segment)
       (rights_at (shown_objects setting later) segment) (groups_at (shown_objects setting world) setting.user)
       (groups_at (shown_objects setting later) setting.user)
       (told_stays rights_of rights_last (shown segment setting world) (shown segment setting later) (still.objects segment))
       (told_stays groups_of groups_last (shown setting.user setting world) (shown setting.user setting later)
       (still.objects setting.user)) allowed
 
-  -- an object that may be read may be read later
-  pub allowed_stays : (name : ℕ) (object : Contents) → shown name setting world ≡ Some object
-      → is_allowed a_read name setting world ≡ true → is_allowed a_read name setting later ≡ true
+  -- an object that may be read or written may be so later
+  pub allowed_stays : (access : Access) (name : ℕ) (object : Contents) → shown name setting world ≡ Some object
+      → is_allowed access name setting world ≡ true → is_allowed access name setting later ≡ true
   unfolding is_allowed
-  allowed_stays name object there allowed =
+  allowed_stays access name object there allowed =
       let before : Objects = shown_objects setting world in
       let after : Objects = shown_objects setting later in
       let user : ℕ = setting.user in
       let now : Taken (shown name setting later) (lasting_of object) =
       taken (shown name setting later) (lasting_of object) (still.objects name object there) in
-      let first : allows_read (right_held (rights_of object.body) (right_in before user object.segment) user) ≡ true =
-      sym (ap allows_read (ap (right_on_object before user) there ∙ right_is before user object.segment object.body)) ∙ allowed in
-      let second : allows_read (right_held (rights_of object.body) (right_in after user object.segment) user) ≡ true =
-      held_stays (rights_of object.body) (right_in before user object.segment) (right_in after user object.segment) user
-      (in_stays object.segment) first in
-      ap allows_read (ap (right_on_object after user) now.there ∙ right_is after user now.object.segment now.object.body)
-      ∙ (ap₂ (λ (own : Option (Rights Text)) (segment : ℕ). allows_read (right_held own (right_in after user segment) user))
+      let first : allows access (right_held (rights_of object.body) (right_in before user object.segment) user) ≡ true =
+      sym (ap (allows access) (ap (right_on_object before user) there ∙ right_is before user object.segment object.body)) ∙ allowed in
+      let second : allows access (right_held (rights_of object.body) (right_in after user object.segment) user) ≡ true =
+      held_stays access (rights_of object.body) (right_in before user object.segment) (right_in after user object.segment) user
+      (in_stays access object.segment) first in
+      ap (allows access) (ap (right_on_object after user) now.there ∙ right_is after user now.object.segment now.object.body)
+      ∙ (ap₂ (λ (own : Option (Rights Text)) (segment : ℕ). allows access (right_held own (right_in after user segment) user))
       (told_same rights_of rights_last now.object object now.is) (ap (λ (part : Lasting). part.segment) now.is) ∙ second)
 
   -- ---- touches
@@ -171,10 +178,19 @@ module _ (setting : Setting) (world later : World) (still : Still setting world 
       let now : Taken (shown name setting world) part = taken (shown name setting world) part calm.there in
       record {
         there = there_stays name part calm.there;
-        allowed = allowed_stays name now.object now.there calm.allowed;
+        allowed = allowed_stays a_read name now.object now.there calm.allowed;
         own = settled_stays name calm.own;
         segment = settled_stays part.segment calm.segment;
         user = settled_stays setting.user calm.user;
+      }
+
+  pub writable_stays : (name : ℕ) (part : Lasting) → option_map lasting_of (shown name setting world) ≡ Some part
+      → Writable name setting world → Writable name setting later
+  writable_stays name part there writable =
+      let now : Taken (shown name setting world) part = taken (shown name setting world) part there in
+      record {
+        allowed = allowed_stays a_write name now.object now.there writable.allowed;
+        changed = still.changed name writable.changed;
       }
 
   pub begins_stay : (name : ℕ) (start : Start) → Begins name start setting world → Begins name start setting later

@@ -1,8 +1,7 @@
 -- How a world changes without a change that look-ups depend on.
-use Rattle.std.proofs.Common.{◌≡◌, ◌∙◌, refl, sym, ap, subst, ℕ, ◌+◌, ◌<◌, ◌≤◌, Bool, true, false, ◌||◌, cond, nat_eq, Option, Some, None, List, length, is_some, option_map, arith}
+use Rattle.std.proofs.Common.{◌≡◌, ◌∙◌, refl, sym, ap, subst, ℕ, ◌≤◌, Bool, true, false, ◌||◌, cond, nat_eq, Option, Some, None, List, is_some, option_map, arith}
 use Rattle.std.specs.FinMap.{get, insert}
-use Rattle.std.proofs.lemmas.Bool.{false≢true, eqb-true, eqb-false, or_right}
-use Rattle.std.proofs.lemmas.Option.{same_Some}
+use Rattle.std.proofs.lemmas.Bool.{false≢true, eqb-true, eqb-false}
 use Rattle.running_objects.proofs.radix_pages_lemmas.Tables.{get-insert_same, get-insert_other}
 use Rattle.gem_update.specs.declared.update.Update.{Update}
 use Rattle.running_objects.specs.gem_image.Image.{Contents}
@@ -192,7 +191,7 @@ module _ (setting : Setting) where
       let whole : Still setting world thrice = still_along world once thrice (touch_still name world) rest in
       subst (λ (later : World). Calm name (lasting_of object) setting later) (touches_three name object world there) (record {
         there = whole.objects name object there;
-        allowed = allowed_stays setting world thrice whole name object there allowed;
+        allowed = allowed_stays setting world thrice whole a_read name object there allowed;
         own = settled_stays setting once thrice rest name (settled_now name world);
         segment = settled_stays setting twice thrice (touch_still setting.user twice) object.segment
             (settled_now object.segment once);

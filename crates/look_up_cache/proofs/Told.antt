@@ -1,5 +1,5 @@
 -- A look-up that found something leaves what is remembered of it.
-use Rattle.std.proofs.Common.{◌≡◌, ◌∙◌, refl, sym, ap, subst, ℕ, zero, suc, Bool, true, false, Option, Some, None, [], option_and_then, Ok}
+use Rattle.std.proofs.Common.{◌≡◌, ◌∙◌, refl, sym, ap, subst, ℕ, zero, suc, Bool, true, false, Option, Some, None, [], Ok}
 use Rattle.gem_object.specs.texts.Bytes.{Bytes as Text}
 use Rattle.gem_object.specs.declared.value.Value.{Value}
 use Rattle.gem_object.specs.declared.value.Value.TheVariants as value
@@ -7,24 +7,24 @@ use Rattle.gem_object.specs.declared.body.MethodCode.{MethodCode}
 use Rattle.gem_object.specs.declared.body.ClassBody.{ClassBody}
 use Rattle.running_objects.specs.gem_image.Image.{Contents}
 use Rattle.running_objects.specs.gem_world.World.{Setting, World, shown}
-use Rattle.running_objects.specs.gem_world.Access.{a_read, is_allowed, with_touches, accessed}
+use Rattle.running_objects.specs.gem_world.Access.{Access, a_read, is_allowed, with_touches, accessed}
 use Rattle.running_objects.specs.gem_sound.Parts.{class_of}
 use Rattle.running_objects.specs.gem_sound.Kernel.{class_class}
 use Rattle.running_objects.specs.object_programs.declared.fault.Fault.TheVariants as fault
 use Rattle.running_objects.specs.object_programs.Local.{Local}
 use Rattle.running_objects.specs.object_programs.Guard.{chain_limit}
-use Rattle.running_objects.specs.object_programs.Atom.{Answer, says, access_answer}
+use Rattle.running_objects.specs.object_programs.Atom.{access_fault, access_answer}
 use Rattle.running_objects.specs.object_programs.Run.{Run, give, and_then, Ending, gives, State, Outcome, end_of, perform}
 use Rattle.running_objects.specs.object_programs.Programs.{read}
 use Rattle.gem_language.specs.tree_meaning.Place.{Frame, MadeBlock}
 use Rattle.gem_language.specs.prim_rules.Parts.{class_of_plain}
 use Rattle.gem_language.specs.Comes.{Comes}
 use Rattle.gem_language.specs.declared.found.Found.{Found}
-use Rattle.gem_language.specs.LookUp.{FindingRun, methods_on, code_of, found_or, from_superclass, found_from, up_within, up_classes, past_last, Start, found_at, start_of_object, start_of_receiver, start_of, find_method}
+use Rattle.gem_language.specs.LookUp.{FindingRun, methods_on, code_of, found_or, from_superclass, found_from, up_within, up_classes, past_last, Start, found_at, start_of_object, start_of_receiver, find_method}
 use Rattle.gem_language.proofs.Ends.{Both, both, fails_gives, same_answer, read_gives}
 use Rattle.running_objects.specs.Seen.{Seen, with_local}
 use Rattle.prim_parts.specs.Does.{Does}
-use Rattle.look_up_cache.specs.Lasting.{Lasting, lasting_body, lasting_of, class_in, Still}
+use Rattle.look_up_cache.specs.Lasting.{lasting_of, Still}
 use Rattle.look_up_cache.specs.Calm.{Calm, Begins}
 use Rattle.look_up_cache.specs.Remembered.{Up, no_class, holds, last, above, IsNothing, Past, From, Finds}
 use Rattle.look_up_cache.specs.Remains.{Remains}
@@ -45,17 +45,18 @@ given : {A : Type 0} (one other : A) (state after : State MadeBlock) → came (g
     → one ≡ other
 given {A} one other state after same = same_answer one other (ap (λ (o : Outcome MadeBlock A). o.end) same)
 
+-- an access that was answered was allowed
+pub allowed_by : (access : Access) (name : ℕ) (allowed : Bool) (found : Option Contents) (object : Contents)
+    → end_of (access_answer allowed access name found) ≡ gives object → allowed ≡ true
+allowed_by access name true found object is = refl
+allowed_by access name false found object is = absurd (fails_gives (access_fault access name) object is)
+
 module _ (setting : Setting) where
   -- ---- a read
 
-  allowed_by : (name : ℕ) (allowed : Bool) (found : Option Contents) (object : Contents)
-      → end_of (access_answer allowed a_read name found) ≡ gives object → allowed ≡ true
-  allowed_by name true found object is = refl
-  allowed_by name false found object is = absurd (fails_gives (fault.NoReadRight name) object is)
-
   read_allowed : (name : ℕ) (state : State MadeBlock) (object : Contents) (after : State MadeBlock)
       → Comes (read name) setting state (gives object) after → is_allowed a_read name setting state.world ≡ true
-  read_allowed name state object after is = allowed_by name (is_allowed a_read name setting state.world)
+  read_allowed name state object after is = allowed_by a_read name (is_allowed a_read name setting state.world)
       (shown name setting state.world) object (ap (λ (o : Outcome MadeBlock Contents). o.end) is)
 
   read_leaves : (name : ℕ) (world : World) → is_allowed a_read name setting world ≡ true

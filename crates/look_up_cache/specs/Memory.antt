@@ -8,10 +8,11 @@ use Rattle.running_objects.specs.object_programs.Budget.{Budget}
 use Rattle.gem_language.specs.declared.found.Found.{Found}
 use Rattle.gem_language.specs.LookUp.{Start}
 use Rattle.running_objects.specs.gem_world.Access.{a_read}
+use Rattle.running_objects.specs.gem_world.World.{Setting, World}
 use Rattle.running_objects.specs.Acted.{Accessed}
 use Rattle.running_objects.specs.Seen.{Seen}
 use Rattle.running_objects.specs.declared.stop.Stop.{Stop}
-use Rattle.look_up_cache.specs.Calm.{Begins, plain_start}
+use Rattle.look_up_cache.specs.Calm.{Begins, Writable, plain_start}
 use Rattle.look_up_cache.specs.Remembered.{Finds}
 use Rattle.look_up_cache.specs.Table.{held_at, AllHeld}
 use Rattle.look_up_cache.specs.declared.memory.Beginning.{Beginning}
@@ -23,9 +24,20 @@ use Rattle.look_up_cache.specs.declared.memory.Memory.{Memory}
 abbrev pub start_at : Beginning → Start
 start_at start = record { class = start.class; class_side = start.class_side }
 
+-- It holds, where this is so.
+abbrev pub Where : Bool → Type 0 → Type 0
+Where true P = P
+Where false P = Unit {0}
+
+-- What is remembered of a receiver is so: look-ups for it begin there, and where it was written a
+-- further write changes nothing.
+pub record IsKnownAs (receiver : Receiver) (setting : Setting) (world : World) : Type 0 where
+  pub begins : Begins receiver.name (start_at receiver.start) setting world
+  pub writable : Where receiver.written (Writable receiver.name setting world)
+
 -- what is remembered of a receiver, and of a look-up, is so
-abbrev pub IsBegun : Seen → Receiver → Type 0
-IsBegun seen receiver = Begins receiver.name (start_at receiver.start) seen.setting seen.world
+abbrev pub IsMet : Seen → Receiver → Type 0
+IsMet seen receiver = IsKnownAs receiver seen.setting seen.world
 
 abbrev pub IsFound : {T : Type 0} → Seen → Entry T → Type 0
 IsFound seen entry =
@@ -41,13 +53,8 @@ coded_by code entry = record entry { code = Some code }
 
 -- All that is remembered is so.
 pub record Holds {T : Type 0} (memory : Memory T) (seen : Seen) : Type 0 where
-  pub receivers : AllHeld (IsBegun seen) memory.receivers.items
+  pub receivers : AllHeld (IsMet seen) memory.receivers.items
   pub methods : AllHeld (IsFound seen) memory.methods.items
-
--- It holds, where this is so.
-abbrev pub Where : Bool → Type 0 → Type 0
-Where true P = P
-Where false P = Unit {0}
 
 -- What is remembered holds, where it isn't forgotten; and the code that is kept is that of its
 -- method.

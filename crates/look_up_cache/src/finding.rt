@@ -5,14 +5,14 @@ ghost use Rattle.gem_language.specs.LookUp.{Start, start_of_object};
 ghost use Rattle.running_objects.specs.gem_world.Access.{a_read};
 ghost use Rattle.running_objects.specs.Acted.{Reached};
 ghost use Rattle.running_objects.specs.Seen.{Seen};
-ghost use Rattle.look_up_cache.specs.Calm.{Begins, plain_start};
+ghost use Rattle.look_up_cache.specs.Calm.{Begins, Writable, plain_start};
 ghost use Rattle.look_up_cache.specs.Remembered.{Finds};
 ghost use Rattle.look_up_cache.specs.Table.{held_at, AllHeld};
-ghost use Rattle.look_up_cache.specs.Memory.{start_at, IsBegun, IsFound, IsCoded, coded_by, Holds, Where, BeginsFor, FindsFor, founds};
+ghost use Rattle.look_up_cache.specs.Memory.{start_at, IsMet, IsFound, IsCoded, coded_by, Holds, Where, BeginsFor, FindsFor, founds};
 
 use crate::kept::MethodCodeKept;
 use crate::memory::{Beginning, Entry, Memory, Receiver};
-use crate::table::{held_at, put_at};
+use crate::table::{empty_all, held_at, put_at};
 use gem_language::Found;
 use gem_object::{Body, Oid, Text, Value};
 use prim_parts::class_of_plain;
@@ -20,7 +20,7 @@ use running_objects::Objects;
 use std::alloc::AllocError;
 use std::mem;
 
-/// Forgets all, unless it holds.
+/// Forgets all, unless it holds. The tables keep their places.
 #[tactic(auto, using(crate::proofs::Places::none_held, crate::proofs::Again::where_true))]
 pub(crate) fn renew<T: MethodCodeKept>(memory: &mut Memory<T>, held: bool)
     ensures holds { (seen : Seen) → Where held (Holds memory.old seen) → Holds memory.new seen }
@@ -30,8 +30,8 @@ pub(crate) fn renew<T: MethodCodeKept>(memory: &mut Memory<T>, held: bool)
     if held {
         return;
     }
-    memory.receivers.clear();
-    memory.methods.clear();
+    empty_all(&mut memory.receivers);
+    empty_all(&mut memory.methods);
 }
 
 /// The place of what a look-up for this receiver is known to find.
@@ -66,15 +66,24 @@ fn start_of_plain(receiver: &Value) -> Option<Beginning>
     })
 }
 
-// The same for an object.
-#[tactic(auto, using(crate::proofs::Again::begun_here))]
-fn object_start(receivers: &Vec<Option<Receiver>>, name: Oid) -> Option<Beginning>
-    ensures { (seen : Seen) → AllHeld (IsBegun seen) receivers.now.items
+/// The same for an object.
+pub(crate) fn object_start(receivers: &Vec<Option<Receiver>>, name: Oid) -> Option<Beginning>
+    ensures { (seen : Seen) → AllHeld (IsMet seen) receivers.now.items
         → IfSome result (λ start. Begins name (start_at start) seen.setting seen.world) }
+{
+    let receiver = receiver_of(receivers, name)?;
+    Some(receiver.start.copy())
+}
+
+/// What is remembered of the object of this name.
+pub(crate) fn receiver_of(receivers: &Vec<Option<Receiver>>, name: Oid) -> Option<&Receiver>
+    ensures name { IfSome result (λ receiver. receiver.now.name ≡ name) }
+    ensures met { (seen : Seen) → AllHeld (IsMet seen) receivers.now.items
+        → IfSome result (λ receiver. IsMet seen receiver.now) }
 {
     let receiver = held_at(receivers, receiver_place(name))?;
     if receiver.name == name {
-        Some(receiver.start.copy())
+        Some(receiver)
     } else {
         None
     }
@@ -222,25 +231,44 @@ fn remember_receiver(
     start: &Beginning,
 ) -> Result<(), AllocError>
     ensures { (seen : Seen) → BeginsFor receiver.now (start_at start.now) seen
-        → AllHeld (IsBegun seen) receivers.old.items → AllHeld (IsBegun seen) receivers.new.items }
+        → AllHeld (IsMet seen) receivers.old.items → AllHeld (IsMet seen) receivers.new.items }
 {
     match receiver {
-        Value::Ref(name) => remember_object(receivers, *name, start),
+        Value::Ref(name) => meet_object(receivers, *name, start),
         _ => Ok(()),
     }
 }
 
-fn remember_object(
+// Remembers an object that was read. Of one that is known all that is remembered stays.
+fn meet_object(
     receivers: &mut Vec<Option<Receiver>>,
     name: Oid,
     start: &Beginning,
 ) -> Result<(), AllocError>
     ensures { (seen : Seen) → Begins name (start_at start.now) seen.setting seen.world
-        → AllHeld (IsBegun seen) receivers.old.items → AllHeld (IsBegun seen) receivers.new.items }
+        → AllHeld (IsMet seen) receivers.old.items → AllHeld (IsMet seen) receivers.new.items }
+{
+    if is_calm(receivers, name) {
+        return Ok(());
+    }
+    remember_object(receivers, name, start, false)
+}
+
+/// Remembers an object, and whether it was written.
+pub(crate) fn remember_object(
+    receivers: &mut Vec<Option<Receiver>>,
+    name: Oid,
+    start: &Beginning,
+    written: bool,
+) -> Result<(), AllocError>
+    ensures { (seen : Seen) → Begins name (start_at start.now) seen.setting seen.world
+        → Where written (Writable name seen.setting seen.world)
+        → AllHeld (IsMet seen) receivers.old.items → AllHeld (IsMet seen) receivers.new.items }
 {
     let receiver = Receiver {
         name,
         start: start.copy(),
+        written,
     };
     put_at(receivers, receiver_place(name), receiver)
 }
@@ -248,7 +276,7 @@ fn remember_object(
 /// Whether the object of this name is known to be read without a change of anything.
 #[tactic(auto, using(crate::proofs::AfterReads::found_reached))]
 pub(crate) fn is_calm(receivers: &Vec<Option<Receiver>>, name: Oid) -> bool
-    ensures { (seen : Seen) → AllHeld (IsBegun seen) receivers.now.items → result ≡ true
+    ensures { (seen : Seen) → AllHeld (IsMet seen) receivers.now.items → result ≡ true
         → Reached a_read name seen seen }
 {
     object_start(receivers, name).is_some()
@@ -273,12 +301,12 @@ pub(crate) fn remember_read<O: Objects, T>(
 
 fn remember_object_read<O: Objects>(receivers: &mut Vec<Option<Receiver>>, objects: &O, name: Oid)
     ensures { (before : Seen) → Reached a_read name before (O.seen objects.now)
-        → AllHeld (IsBegun (O.seen objects.now)) receivers.old.items
-        → AllHeld (IsBegun (O.seen objects.now)) receivers.new.items }
+        → AllHeld (IsMet (O.seen objects.now)) receivers.old.items
+        → AllHeld (IsMet (O.seen objects.now)) receivers.new.items }
 {
     if let Some(object) = objects.object(name) {
         let start = start_by(name, object.class, &object.body);
-        let _ = remember_object(receivers, name, &start);
+        let _ = remember_object(receivers, name, &start, false);
     }
 }
 

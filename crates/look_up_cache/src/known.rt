@@ -16,6 +16,7 @@ use running_objects::{Objects, Stop};
 use st_locals::Frame;
 use std::alloc::Global;
 use std::marker::Model;
+use std::mem;
 
 /// Objects of a running transaction that remember look-ups. Contracts see the objects, and what was
 /// found, by places.
@@ -57,6 +58,16 @@ impl<O: Objects, T: MethodCodeKept> KnownObjects<O, T> {
         ensures { result.now ≡ self.now.0 }
     {
         &self.objects
+    }
+
+    /// Goes on with these objects in place of those before, which it gives back, and of which nothing
+    /// is remembered any more. The room for what is remembered stays. It takes no memory.
+    pub fn go_on(&mut self, objects: O) -> O
+        ensures objects { self.new.0 ≡ objects }
+        ensures before { result ≡ self.old.0 }
+    {
+        self.holds = false;
+        mem::replace(&mut self.objects, objects)
     }
 
     /// The objects, without what was remembered.

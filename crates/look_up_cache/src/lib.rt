@@ -10,6 +10,7 @@ pub mod laws;
 mod memory;
 mod objects;
 mod table;
+mod writes;
 
 pub use kept::MethodCodeKept;
 pub use known::KnownObjects;

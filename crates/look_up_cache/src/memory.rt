@@ -24,11 +24,12 @@ impl Beginning {
     }
 }
 
-/// An object that was read, and where look-ups for it begin.
+/// An object that was read, and where look-ups for it begin; and whether it was written, too.
 #[derive(Drop)]
 pub(crate) struct Receiver {
     pub(crate) name: Oid,
     pub(crate) start: Beginning,
+    pub(crate) written: bool,
 }
 
 /// A look-up, and what it found; and what is kept beside that.

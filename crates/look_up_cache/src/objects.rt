@@ -1,6 +1,6 @@
 //! What programs do on objects that remember look-ups. Each call is that of the objects, but for a
-//! read of one that is known to be read without a change. After an error, and where a class, a
-//! segment or a user changes, all is forgotten.
+//! read or a write of one that is known to be read or written without a change. After an error, and
+//! where a class, a segment or a user changes or an object moves, all is forgotten.
 ghost use Rattle.std.specs.Prelude.{◌≡◌, true, ◌&&◌, None, is_some, is_ok};
 ghost use Rattle.running_objects.specs.Seen.{object_at};
 ghost use Rattle.look_up_cache.specs.Lasting.{lasting_body};
@@ -8,6 +8,7 @@ ghost use Rattle.look_up_cache.specs.Lasting.{lasting_body};
 use crate::finding::{is_calm, remember_read};
 use crate::kept::MethodCodeKept;
 use crate::known::KnownObjects;
+use crate::writes::{is_written, remember_write};
 use gem_object::{Body, Object, Oid, Value};
 use gem_update::Update;
 use running_objects::{Objects, RunsChunks, Stop};
@@ -74,8 +75,12 @@ impl<O: Objects, T: MethodCodeKept> Objects for KnownObjects<O, T> {
     }
 
     fn write(&mut self, oid: Oid) -> Result<(), Stop> {
+        if self.holds && is_written(&self.memory.receivers, oid) {
+            return Ok(());
+        }
         let result = self.objects.write(oid);
         self.holds = still(self.holds, &result);
+        remember_write(&mut self.memory, &self.objects, self.holds, oid);
         result
     }
 

@@ -1,6 +1,6 @@
 //! Tables of places, at each of which something may stand.
 ghost use Rattle.std.specs.Prelude.{◌≡◌, ◌<◌, ◌⊎◌, ℕ, length, Some, IfOk, option_copied};
-ghost use Rattle.look_up_cache.specs.Table.{held_at};
+ghost use Rattle.look_up_cache.specs.Table.{held_at, NoneHeld};
 
 use std::alloc::AllocError;
 
@@ -39,4 +39,15 @@ pub(crate) fn put_at<X: Drop>(
     widen(places, at)?;
     places[at] = Some(x);
     Ok(())
+}
+
+/// Takes away all that stands in a table, and leaves its places. It takes no memory.
+pub(crate) fn empty_all<X: Drop>(places: &mut Vec<Option<X>>)
+    ensures { NoneHeld places.new.items }
+{
+    let mut at = 0;
+    'places: while at < places.len() {
+        places[at] = None;
+        at += 1;
+    }
 }
