@@ -2,9 +2,10 @@
 //! and of other sessions. Its tests stand in `running_tests`.
 #![tactic(auto)]
 
-ghost use Rattle.std.specs.Prelude.{◌≡◌, ◌||◌};
+ghost use Rattle.std.specs.Prelude.{◌≡◌, ◌||◌, Ok, IfSome};
 ghost use Rattle.prim_rules.specs.Rules.{rule_of};
-ghost use Rattle.prim_parts.specs.Does.{Does};
+ghost use Rattle.prim_rules.specs.declared.answer.PrimitiveAnswer.TheVariants.{Gives};
+ghost use Rattle.prim_parts.specs.Does.{Does, Computes};
 ghost use Rattle.prim_classes.specs.Numbers.{is_between, is_own};
 
 use gem_object::Value;
@@ -44,6 +45,16 @@ pub fn call<O: Objects>(
         return prim_shared::call(alloc, objects, number, receiver, arguments);
     }
     Err(Stop::Fails(Fault::ArgumentKind))
+}
+
+/// The answer of the primitive of this number, where it is known from the receiver and the arguments
+/// alone: where both are integers, and it is one of `==`, `=`, `+`, `-`, `*`, `//`, `\\`, `<`, `>`,
+/// `<=`, `>=` and `bitAnd:` and ends without an error. It takes no memory. None anywhere else.
+pub fn ready(number: u8, receiver: &Value, arguments: &[Value]) -> Option<Value>
+    ensures { IfSome result (λ value.
+        Computes (rule_of number receiver.now arguments.now) (Ok (Gives value))) }
+{
+    prim_numbers::ready(number, receiver, arguments)
 }
 
 // Whether the primitive of this number is one of integers and characters.

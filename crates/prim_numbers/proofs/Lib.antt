@@ -1,3 +1,4 @@
 mod Computing
 mod Remainders
 mod Digits
+mod AtOnce

@@ -3,9 +3,11 @@
 #![tactic(auto)]
 
 mod arithmetic;
+mod at_once;
 mod bits;
 mod operation;
 mod radix;
 mod rows;
 
+pub use at_once::ready;
 pub use rows::call;
