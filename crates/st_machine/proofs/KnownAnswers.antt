@@ -1,7 +1,7 @@
 -- What is known to be answered by one push is answered as the look-up and the activation do.
-use Rattle.std.proofs.Common.{◌≡◌, ◌∙◌, refl, sym, ap, ap₂, subst, ℕ, zero, suc, ◌<◌, ◌-◌, false, List, reverse, length, take, drop, get_or, slice_get, Option, None, Some, Result, Ok, Err, IfSome}
+use Rattle.std.proofs.Common.{◌≡◌, ◌∙◌, refl, sym, ap, ap₂, subst, ℕ, zero, suc, ◌<◌, ◌-◌, false, List, reverse, length, take, drop, get_or, Option, None, Some, Result, Ok, Err, IfSome}
 use Rattle.std.specs.declared.alloc.AllocError.{AllocError}
-use Rattle.std.proofs.lemmas.Option.{same_Some, none-some, slice_get-get_or}
+use Rattle.std.proofs.lemmas.Option.{same_Some, none-some}
 use Rattle.gem_object.specs.texts.Bytes.{Bytes as Text}
 use Rattle.st_tree.specs.Trees.{Program}
 use Rattle.gem_sound.specs.st_grammar.Grammar.{method}
@@ -62,7 +62,7 @@ module _ (callee : Callee) (selector : Text) (receiver : Value) (arguments : Lis
   by_code found (Primitive number) = refl
   by_code found (Source source) = by_tree found (tree_of method source)
 
-  by_found : (found : Option Found) → call_of callee selector (target_for found) receiver arguments
+  pub by_found : (found : Option Found) → call_of callee selector (target_for found) receiver arguments
       ≡ call_found callee selector found receiver arguments
   by_found None = refl
   by_found (Some found) = by_code found found.code
@@ -117,12 +117,9 @@ module _ (depth : ℕ) (some : 0 < depth) (selector : Text) (frame : Frame) (rec
 
 -- The message is answered, where the receiver stands below its arguments.
 module _ (depth : ℕ) (some : 0 < depth) (selector : Text) (frame : Frame) (own : List Value) (count : ℕ)
-    (within : count < length own) (receiver : Value) (there : Some receiver ≡ slice_get own count) (found : Option Found)
-    (one : Instruction) (quick : AnswersQuickly found one) (left : List Value) {seen : Seen} {local : Local MadeBlock}
-    (finds : Ran (find_method false frame receiver selector) seen local (Ok found) seen local) where
-  receiver_there : receiver ≡ get_or own count value.Nil
-  receiver_there = same_Some receiver (get_or own count value.Nil) (there ∙ slice_get-get_or own count value.Nil within)
-
+    (found : Option Found) (one : Instruction) (quick : AnswersQuickly found one) (left : List Value) {seen : Seen}
+    {local : Local MadeBlock}
+    (finds : Ran (find_method false frame (get_or own count value.Nil) selector) seen local (Ok found) seen local) where
   by_put : (put : Option Value) → constant_put one (get_or own count value.Nil) ≡ put
       → Replaced put (drop (suc count) own) left
       → Answered (found_by (callee depth) selector frame (get_or own count value.Nil) (take count own)) seen local
@@ -131,9 +128,7 @@ module _ (depth : ℕ) (some : 0 < depth) (selector : Text) (frame : Frame) (own
   by_put (Some answer) is stands = record {
     answer = answer;
     ran = ran_then (λ held. call_found (callee depth) selector held (get_or own count value.Nil)
-        (reverse (take count own)))
-        (subst (λ (at : Value). Ran (find_method false frame at selector) seen local (Ok found) seen local)
-        receiver_there finds)
+        (reverse (take count own))) finds
         (called depth some selector frame (get_or own count value.Nil) (reverse (take count own)) found one quick seen local
         answer is);
     stands = stands;

@@ -9,5 +9,7 @@ pub mod Outlines
 pub mod Kept
 pub mod QuickRuns
 pub mod KnownAnswers
+mod Placed
+pub mod ReadyAnswers
 pub mod PutItem
 pub mod MoreNils

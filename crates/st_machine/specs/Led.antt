@@ -1,5 +1,5 @@
 -- What one instruction led to.
-use Rattle.std.specs.Prelude.{◌≡◌, ℕ, suc, ◌<◌, List, Some, Result, Ok, Err}
+use Rattle.std.specs.Prelude.{◌≡◌, ℕ, suc, ◌<◌, List, Option, Some, Result, Ok, Err}
 use Rattle.std.specs.declared.alloc.AllocError.{AllocError}
 use Rattle.gem_object.specs.declared.value.Value.{Value}
 use Rattle.tree_meaning.specs.object_programs.Atom.{Tick}
@@ -21,6 +21,8 @@ use Rattle.st_machine.specs.declared.flow.Flow.{Flow}
 use Rattle.st_machine.specs.declared.flow.Flow.TheVariants.{Goes, Leaves, Stuck}
 use Rattle.st_machine.specs.declared.flow.Turn.{Turn}
 use Rattle.st_machine.specs.declared.flow.Turn.TheVariants as turn
+use Rattle.st_machine.specs.declared.flow.Turned.{Turned}
+use Rattle.st_machine.specs.declared.flow.Turned.TheVariants.{Done, Left}
 
 -- Code goes on or ends so: `end` is what the instruction gives, whatever is done from
 -- the next place on and after a jump back. Where memory ran out nothing is said.
@@ -78,6 +80,15 @@ TurnedBy outside table one place stack scopes frame before local result left inn
     TurnedTo (λ next back. act outside before.setting table (Some one) next back place stack
     (framed scopes frame) (with_local before local)) result left (framed inner frame)
     (with_local after later)
+
+-- This holds of how it was carried out, or of the place that is known where it was left.
+abbrev pub IfDone : Turned → (Result Turn AllocError → Type 0) → Type 0
+IfDone (Done turned) P = P turned
+IfDone (Left place) P = Unit {0}
+
+abbrev pub IfLeft : Turned → (Option ℕ → Type 0) → Type 0
+IfLeft (Done turned) P = Unit {0}
+IfLeft (Left place) P = P place
 
 abbrev pub TurnsForward : (place : ℕ) → Turn → Type 0
 TurnsForward place (turn.Goes next) = place < next

@@ -3,5 +3,7 @@ pub mod Parts
 pub mod Led
 pub mod Methods
 pub mod Targets
+pub mod Known
+pub mod Ready
 pub mod Quick
 pub mod Variables

@@ -1,5 +1,5 @@
 -- What answers a message, and what it comes to.
-use Rattle.std.specs.Prelude.{◌≡◌, ◌∷◌, false, reverse, Option, None, Some, List, Result, Ok, Err}
+use Rattle.std.specs.Prelude.{◌≡◌, ◌∷◌, ℕ, false, reverse, get_or, Option, None, Some, List, Result, Ok, Err}
 use Rattle.gem_object.specs.texts.Bytes.{Bytes as Text}
 use Rattle.st_tree.specs.Trees.{Program}
 use Rattle.gem_sound.specs.st_grammar.Grammar.{method}
@@ -7,6 +7,9 @@ use Rattle.gem_sound.specs.st_grammar_laws.TreeOf.{TextFault, tree_of}
 use Rattle.gem_object.specs.declared.value.Value.{Value}
 use Rattle.gem_object.specs.declared.body.MethodCode.{MethodCode}
 use Rattle.gem_object.specs.declared.body.MethodCode.TheVariants.{Source, Primitive as by_primitive}
+use Rattle.gem_object.specs.declared.value.Value.TheVariants.{Nil}
+use Rattle.tree_meaning.specs.object_programs.Atom.{Tick}
+use Rattle.tree_meaning.specs.object_programs.Budget.{Budget}
 use Rattle.tree_meaning.specs.object_programs.Local.{Local}
 use Rattle.tree_meaning.specs.object_programs.Run.{Run, fail, and_then}
 use Rattle.tree_meaning.specs.object_programs.declared.fault.Fault.TheVariants as fault
@@ -17,9 +20,13 @@ use Rattle.gem_language.specs.declared.found.Found.{Found}
 use Rattle.gem_language.specs.Commands.{selector_of}
 use Rattle.gem_language.specs.LookUp.{find_method}
 use Rattle.gem_language.specs.Sends.{Callee, primitive_value, call_found}
+use Rattle.running_objects.specs.Acted.{Acted}
 use Rattle.running_objects.specs.Seen.{Seen}
 use Rattle.running_objects.specs.Ran.{Ran}
 use Rattle.running_objects.specs.declared.stop.Stop.{Stop}
+use Rattle.look_up_cache.specs.Memory.{with_budget}
+use Rattle.look_up_cache.specs.Table.{held_at}
+use Rattle.st_compiler.specs.Instruction.{Instruction, Send}
 use Rattle.st_machine.specs.declared.target.Target.{Target}
 use Rattle.st_machine.specs.declared.target.Target.TheVariants.{Nothing, Primitive, Method}
 
@@ -64,6 +71,27 @@ abbrev pub found_by : Callee → (selector : Text) → Frame → (receiver : Val
 found_by callee selector frame receiver arguments =
     and_then (find_method false frame receiver selector) (λ found.
     call_found callee selector found receiver (reverse arguments))
+
+-- What answers the message of this instruction stands at this place: whatever the budget is, the
+-- look-up finds what stands there, and changes nothing.
+abbrev pub StandsAt : Instruction → (stack : List Value) → Frame → Seen → Local MadeBlock
+    → (founds : List (Option Found)) → (place : ℕ) → Type 0
+StandsAt (Send selector count) stack frame seen local founds place = (budget : Budget) → Ran
+    (find_method false frame (get_or stack count Nil) selector) (with_budget budget seen) local
+    (Ok (held_at founds place)) (with_budget budget seen) local
+StandsAt other stack frame seen local founds place = ⊥
+
+-- the same of a place that may be known
+abbrev pub AnswersAt : Instruction → (stack : List Value) → Frame → Seen → Local MadeBlock
+    → (founds : List (Option Found)) → (place : Option ℕ) → Type 0
+AnswersAt one stack frame seen local founds None = Unit {0}
+AnswersAt one stack frame seen local founds (Some place) =
+    StandsAt one stack frame seen local founds place
+
+-- A unit was taken, and this is what answers; or none was.
+abbrev pub UnitThen : (answers : Target) → Seen → Result Target Stop → Seen → Type 0
+UnitThen answers before (Ok target) after = Acted Tick before (Ok tt) after × (target ≡ answers)
+UnitThen answers before (Err ended) after = Acted Tick before (Err ended) after
 
 -- A program gives an answer and changes nothing; the answer stands above these values.
 pub record Answered (program : ValueRun) (seen : Seen) (local : Local MadeBlock)

@@ -1,6 +1,7 @@
 //! What an instruction leads to.
 
 use gem_object::Value;
+use std::alloc::AllocError;
 
 /// What an instruction leads to that sends, makes an object or a block, asks for a name or ends,
 /// where it doesn't stop the run.
@@ -31,4 +32,14 @@ pub(crate) enum Turn {
     NoUnit,
     /// It couldn't be carried out. No code that was compiled comes to this.
     Stuck,
+}
+
+/// What came of an instruction that was tried.
+#[derive(Debug)]
+pub(crate) enum Turned {
+    /// It was carried out, or no memory was found for it.
+    Done(Result<Turn, AllocError>),
+    /// It wasn't, and all is as before. Of a message there is the place at which what answers it
+    /// stands, where that is known.
+    Left(Option<usize>),
 }

@@ -1,6 +1,6 @@
-//! Messages whose answers are known: the method that answers is remembered with its code, and it
-//! answers by one push that asks no objects.
-ghost use Rattle.std.specs.Prelude.{◌≡◌, ◌<◌, ◌∷◌, true, false, suc, length, get_or, take, drop, IfOk, IfSome, IfNone};
+//! Messages whose answers are known: the method that answers is remembered, and it is a primitive
+//! that is ready, or its code is remembered too and answers by one push that asks no objects.
+ghost use Rattle.std.specs.Prelude.{◌≡◌, ◌<◌, ◌∷◌, true, false, suc, length, get_or, take, drop, reverse, IfOk, IfSome};
 ghost use Rattle.gem_object.specs.declared.value.Value.TheVariants.{Nil};
 ghost use Rattle.tree_meaning.specs.object_programs.Budget.{Budget};
 ghost use Rattle.gem_language.specs.Sends.{outside, callee};
@@ -9,14 +9,16 @@ ghost use Rattle.look_up_cache.specs.Memory.{with_budget};
 ghost use Rattle.look_up_cache.specs.Table.{held_at};
 ghost use Rattle.st_compiler.specs.Emitted.{instruction_of};
 ghost use Rattle.st_compiler.specs.Instruction.{Send};
-ghost use Rattle.st_machine.specs.Led.{TurnedBy, TurnsForward};
+ghost use Rattle.st_machine.specs.Led.{TurnedBy, TurnsForward, IfDone, IfLeft};
+ghost use Rattle.st_machine.specs.Known.{IfAnswered, IfUnanswered};
 ghost use Rattle.st_machine.specs.Parts.{framed, table_of};
 ghost use Rattle.st_machine.specs.Quick.{constant_put, Replaced, AnswersQuickly};
-ghost use Rattle.st_machine.specs.Targets.{found_by, Answered};
+ghost use Rattle.st_machine.specs.Ready.{PutBy, ReadyPut};
+ghost use Rattle.st_machine.specs.Targets.{found_by, Answered, AnswersAt};
 
 use crate::border::known_place;
 use crate::finds::FindsMethods;
-use crate::flow::Turn;
+use crate::flow::Turned;
 use crate::layers::Layers;
 use crate::locals::Locals;
 use crate::outline::Outline;
@@ -25,11 +27,10 @@ use crate::shared_code::SharedCode;
 use crate::units::spend_unit;
 use gem_object::{MethodCode, Text, Value};
 use st_compiler::Instr;
-use std::alloc::AllocError;
 use tree_meaning::Mark;
 
-/// Sends a message with so many arguments, where its answer is known. None where it isn't: then all
-/// is as before. It takes no memory, but for the copy of a symbol.
+/// Sends a message with so many arguments, where its answer is known. Else it is left, with the
+/// place of what answers it, where that is known. It takes no memory, but for the copy of a symbol.
 pub(crate) fn send_known<O: FindsMethods>(
     objects: &mut O,
     locals: &Locals,
@@ -41,28 +42,39 @@ pub(crate) fn send_known<O: FindsMethods>(
     count: usize,
     place: usize,
     depth: u32,
-) -> Option<Result<Turn, AllocError>>
+) -> Turned
     ensures keeps { Keeps (O.seen objects.old) (O.seen objects.new) }
-    ensures led { IfSome result (λ turned. TurnedBy (outside depth) (table_of code.now)
+    ensures led { IfDone result (λ turned. TurnedBy (outside depth) (table_of code.now)
         (Send selector.now count) place stack.old.own chain.now.own frame.now (O.seen objects.old)
         locals.now turned stack.new.own chain.now.own (O.seen objects.new) locals.now) }
-    ensures forward { IfSome result (λ turned. IfOk turned (TurnsForward place)) }
-    ensures seen { IfNone result (O.seen objects.new ≡ O.seen objects.old) }
-    ensures own { IfNone result (stack.new.own ≡ stack.old.own) }
+    ensures forward { IfDone result (λ turned. IfOk turned (TurnsForward place)) }
+    ensures place { IfLeft result (λ at. AnswersAt (Send selector.now count) stack.old.own
+        (framed chain.now.own frame.now) (O.seen objects.new) locals.now (O.founds objects.new)
+        at) }
+    ensures seen { IfLeft result (λ _. O.seen objects.new ≡ O.seen objects.old) }
+    ensures own { IfLeft result (λ _. stack.new.own ≡ stack.old.own) }
     ensures below { stack.new.below ≡ stack.old.below }
 {
     if stack.height() <= count {
-        return None;
+        return Turned::Left(None);
     }
-    if !answer_known(objects, locals, stack, chain, frame, selector, count, depth) {
-        return None;
+    match answer_known(objects, locals, stack, chain, frame, selector, count, depth) {
+        Known::Answered => Turned::Done(spend_unit(objects, place)),
+        Known::Unanswered(at) => Turned::Left(at),
     }
-    Some(spend_unit(objects, place))
+}
+
+/// What is known of a message.
+#[derive(Debug)]
+enum Known {
+    /// Its answer: it stands in place of the receiver and the arguments.
+    Answered,
+    /// No answer, but the place at which what answers it stands, where that is known.
+    Unanswered(Option<usize>),
 }
 
 /// Puts the answer to a message in place of its receiver and of so many arguments, which stand on
-/// the stack above it, where the answer is known. Its unit isn't taken yet. Else false, and all is
-/// as before.
+/// the stack above it, where the answer is known. Its unit isn't taken yet. Else all is as before.
 fn answer_known<O: FindsMethods>(
     objects: &O,
     locals: &Locals,
@@ -72,29 +84,92 @@ fn answer_known<O: FindsMethods>(
     selector: &Text,
     count: usize,
     depth: u32,
-) -> bool
+) -> Known
     requires { count < length stack.old.own }
-    ensures answered { result ≡ true → (budget : Budget) → Answered
+    ensures answered { IfAnswered result ((budget : Budget) → Answered
         (found_by (callee depth) selector.now (framed chain.now.own frame.now)
         (get_or stack.old.own count Nil) (take count stack.old.own))
         (with_budget budget (O.seen objects.now)) locals.now (drop (suc count) stack.old.own)
-        stack.new.own }
-    ensures unknown { result ≡ false → stack.new.own ≡ stack.old.own }
+        stack.new.own) }
+    ensures place { IfUnanswered result (λ at. AnswersAt (Send selector.now count) stack.old.own
+        (framed chain.now.own frame.now) (O.seen objects.now) locals.now (O.founds objects.now)
+        at) }
+    ensures unknown { IfUnanswered result (λ _. stack.new.own ≡ stack.old.own) }
     ensures below { stack.new.below ≡ stack.old.below }
 {
+    let known = place_of_answer(objects, locals, stack, chain, frame, selector, count);
     if depth == 0 {
-        return false;
+        return Known::Unanswered(known);
     }
+    let Some(at) = known else {
+        return Known::Unanswered(None);
+    };
+    if put_at(objects, stack, at, count) {
+        Known::Answered
+    } else {
+        Known::Unanswered(known)
+    }
+}
+
+/// The place at which what answers a message with so many arguments stands, where that is known.
+fn place_of_answer<O: FindsMethods>(
+    objects: &O,
+    locals: &Locals,
+    stack: &Layers<Value>,
+    chain: &Layers<Mark>,
+    frame: &Outline,
+    selector: &Text,
+    count: usize,
+) -> Option<usize>
+    requires { count < length stack.now.own }
+    ensures { AnswersAt (Send selector.now count) stack.now.own (framed chain.now.own frame.now)
+        (O.seen objects.now) locals.now (O.founds objects.now) result }
+{
     let Some(receiver) = stack.item(count) else {
         unreachable!()
     };
-    let Some(at) = known_place(objects, locals, chain, frame, receiver, selector) else {
+    known_place(objects, locals, chain, frame, receiver, selector)
+}
+
+/// Puts the answer of the method that stands at a place in place of the receiver and of so many
+/// arguments above it, where it answers by one push or is a primitive that is ready. Else false,
+/// and all is as before.
+fn put_at<O: FindsMethods>(objects: &O, stack: &mut Layers<Value>, at: usize, count: usize) -> bool
+    requires { count < length stack.old.own }
+    ensures put { result ≡ true → PutBy (held_at (O.founds objects.now) at)
+        (get_or stack.old.own count Nil) (reverse (take count stack.old.own))
+        (drop (suc count) stack.old.own) stack.new.own }
+    ensures unchanged { result ≡ false → stack.new.own ≡ stack.old.own }
+    ensures below { stack.new.below ≡ stack.old.below }
+{
+    let Some(found) = objects.found(at) else {
         return false;
     };
-    let Some(instr) = quick_at(objects, at) else {
-        return false;
+    match &found.code {
+        MethodCode::Primitive(number) => put_ready(stack, *number, count),
+        MethodCode::Source(_) => match quick_at(objects, at) {
+            Some(instr) => put_constant(stack, instr, count),
+            None => false,
+        },
+    }
+}
+
+/// Puts the answer of a primitive in place of the receiver and of so many arguments above it, where
+/// it is ready. Else false, and all is as before.
+fn put_ready(stack: &mut Layers<Value>, number: u8, count: usize) -> bool
+    requires { count < length stack.old.own }
+    ensures put { result ≡ true → ReadyPut number (get_or stack.old.own count Nil)
+        (reverse (take count stack.old.own)) (drop (suc count) stack.old.own) stack.new.own }
+    ensures unchanged { result ≡ false → stack.new.own ≡ stack.old.own }
+    ensures below { stack.new.below ≡ stack.old.below }
+{
+    let Some(receiver) = stack.item(count) else {
+        unreachable!()
     };
-    put_constant(stack, instr, count)
+    match prim_calls::ready(number, receiver, stack.upper(count)) {
+        Some(value) => put_over(stack, count, value),
+        None => false,
+    }
 }
 
 /// What puts the answer of the method that stands at a place, where its code is kept and it answers

@@ -5,7 +5,7 @@
 //! the last one on top, with the receiver below them.
 #![tactic(auto, using(crate::proofs::Runs::runs))]
 
-ghost use Rattle.std.specs.Prelude.{◌≡◌, ◌<◌, [], ◌∷◌, suc, length, get_or, take, drop, reverse, slice_get, option_map, option_copied, nat_eq, IfOk, IfSome, Some};
+ghost use Rattle.std.specs.Prelude.{◌≡◌, ◌<◌, [], ◌∷◌, false, suc, length, get_or, take, drop, reverse, slice_get, option_map, option_copied, nat_eq, IfOk, IfSome, Some};
 ghost use Rattle.gem_object.specs.declared.value.Value.TheVariants.{Nil};
 ghost use Rattle.tree_meaning.specs.Bodies.{params_count, temps_count, method_body, block_body};
 ghost use Rattle.tree_meaning.specs.Calls.{activation, evaluation, call_block_at};
@@ -19,13 +19,13 @@ ghost use Rattle.st_compiler.specs.TreeCode.{send_op};
 ghost use Rattle.st_compiler.specs.Emitted.{instruction_of, instructions};
 ghost use Rattle.st_machine.specs.Led.{LedBy, IsForward, IsAsked};
 ghost use Rattle.st_machine.specs.Parts.{table_of, HasPart, part_run, framed};
-ghost use Rattle.st_machine.specs.Targets.{IsCallable, call_of};
+ghost use Rattle.st_machine.specs.Targets.{IsCallable, call_of, AnswersAt, StandsAt};
 
 use crate::border::primitive;
 use crate::cache::CodeCache;
 use crate::code_block::CodeBlock;
 use crate::finds::FindsMethods;
-use crate::flow::{Flow, Turn};
+use crate::flow::{Flow, Turn, Turned};
 use crate::layers::Layers;
 use crate::locals::Locals;
 use crate::names::{push_block, push_name, store_name};
@@ -36,7 +36,7 @@ use crate::quick::{answer_quickly, quick_instr};
 use crate::returns::{return_block, return_home, return_method};
 use crate::scopes::put_scopes;
 use crate::shared_code::{Part, SharedCode};
-use crate::target::{Target, target_of};
+use crate::target::{Target, target_of, target_with_unit};
 use crate::turns::turn;
 use gem_object::{Oid, Text, Value};
 use prim_parts::PrimitiveAnswer;
@@ -79,9 +79,10 @@ pub(crate) fn execute<O: FindsMethods>(
             alloc, objects, locals, stack, chain, frame, code, instr, at, depth,
         );
         match turned {
-            None => {
+            Turned::Left(found) => {
                 let led = step(
-                    alloc, objects, locals, stack, chain, cache, frame, code, instr, at, depth,
+                    alloc, objects, locals, stack, chain, cache, frame, code, instr, found, at,
+                    depth,
                 );
                 let flow = match led {
                     Ok(flow) => flow,
@@ -93,7 +94,7 @@ pub(crate) fn execute<O: FindsMethods>(
                     Flow::Stuck => unreachable!(),
                 }
             }
-            Some(done) => {
+            Turned::Done(done) => {
                 let turn = match done {
                     Ok(turn) => turn,
                     Err(_) => return Err(Stop::NoMemory),
@@ -126,7 +127,8 @@ fn instr_at(instrs: &[Instr], at: usize) -> Option<&Instr>
     instrs.get(at)
 }
 
-/// Carries out an instruction that `turn` leaves.
+/// Carries out an instruction that `turn` leaves. What answers a message stands at a place that may
+/// be known.
 #[cycle(machine)]
 #[inline(never)]
 fn step<O: FindsMethods>(
@@ -139,10 +141,14 @@ fn step<O: FindsMethods>(
     frame: &Outline,
     code: &SharedCode,
     instr: &Instr,
+    found: Option<usize>,
     at: usize,
     depth: u32,
 ) -> Result<Flow, Stop>
-    requires { IsAsked (instruction_of instr.now) }
+    requires asked { IsAsked (instruction_of instr.now) }
+    requires found { AnswersAt (instruction_of instr.now) stack.old.own
+        (framed chain.old.own frame.now) (O.seen objects.old) locals.old (O.founds objects.old)
+        found }
     ensures keeps { Keeps (O.seen objects.old) (O.seen objects.new) }
     ensures led { LedBy (outside depth) (table_of code.now) (instruction_of instr.now) at
         stack.old.own chain.old.own frame.now (O.seen objects.old) locals.old result stack.new.own
@@ -161,10 +167,16 @@ fn step<O: FindsMethods>(
         Instr::StoreName(name) => {
             store_name(objects, locals, stack, chain, frame, code, name, at, depth)
         }
-        Instr::Send(selector, count) => send(
-            alloc, objects, locals, stack, chain, cache, frame, code, false, selector, *count, at,
-            depth,
-        ),
+        Instr::Send(selector, count) => match found {
+            Some(found) => send_found(
+                alloc, objects, locals, stack, chain, cache, frame, code, selector, *count, found,
+                at, depth,
+            ),
+            None => send(
+                alloc, objects, locals, stack, chain, cache, frame, code, false, selector, *count,
+                at, depth,
+            ),
+        },
         Instr::SuperSend(selector, count) => send(
             alloc, objects, locals, stack, chain, cache, frame, code, true, selector, *count, at,
             depth,
@@ -214,6 +226,44 @@ fn send<O: FindsMethods>(
     Ok(Flow::Goes(next_of(at)?))
 }
 
+/// The same of a message where the place of what answers it is known.
+#[cycle(machine)]
+fn send_found<O: FindsMethods>(
+    alloc: Global,
+    objects: &mut O,
+    locals: &mut Locals,
+    stack: &mut Layers<Value>,
+    chain: &mut Layers<Mark>,
+    cache: &mut CodeCache,
+    frame: &Outline,
+    code: &SharedCode,
+    selector: &Text,
+    count: usize,
+    found: usize,
+    at: usize,
+    depth: u32,
+) -> Result<Flow, Stop>
+    requires { StandsAt (send_op false selector.now count) stack.old.own
+        (framed chain.old.own frame.now) (O.seen objects.old) locals.old (O.founds objects.old)
+        found }
+    ensures keeps { Keeps (O.seen objects.old) (O.seen objects.new) }
+    ensures led { LedBy (outside depth) (table_of code.now) (send_op false selector.now count) at
+        stack.old.own chain.old.own frame.now (O.seen objects.old) locals.old result stack.new.own
+        chain.new.own (O.seen objects.new) locals.new }
+    ensures forward { IfOk result (IsForward at) }
+    ensures stack { stack.new.below ≡ stack.old.below }
+    ensures chain { chain.new.below ≡ chain.old.below }
+{
+    if stack.height() <= count {
+        return Ok(Flow::Stuck);
+    }
+    let answer = answer_found(
+        alloc, objects, locals, stack, chain, cache, frame, selector, count, found, depth,
+    )?;
+    stack.push(answer)?;
+    Ok(Flow::Goes(next_of(at)?))
+}
+
 /// The answer to a message: a unit, the look-up, and the method.
 #[cycle(machine)]
 #[tactic(auto, using(crate::proofs::Runs::runs), unfolding(gem_language::specs::Sends::send_by))]
@@ -245,6 +295,38 @@ fn answer_of<O: FindsMethods>(
     let target = target_of(
         alloc, objects, locals, chain, cache, to_super, frame, receiver, selector,
     )?;
+    call_target(
+        alloc, objects, locals, stack, chain, cache, selector, target, count, depth,
+    )
+}
+
+/// The same where the place of what answers it is known.
+#[cycle(machine)]
+fn answer_found<O: FindsMethods>(
+    alloc: Global,
+    objects: &mut O,
+    locals: &mut Locals,
+    stack: &mut Layers<Value>,
+    chain: &mut Layers<Mark>,
+    cache: &mut CodeCache,
+    frame: &Outline,
+    selector: &Text,
+    count: usize,
+    found: usize,
+    depth: u32,
+) -> Result<Value, Stop>
+    requires height { count < length stack.old.own }
+    requires found { StandsAt (send_op false selector.now count) stack.old.own
+        (framed chain.old.own frame.now) (O.seen objects.old) locals.old (O.founds objects.old)
+        found }
+    ensures ran { Ran (send_by (callee depth) false selector.now (framed chain.old.own frame.now)
+        (get_or stack.old.own count Nil) (take count stack.old.own))
+        (O.seen objects.old) locals.old result (O.seen objects.new) locals.new }
+    ensures own { IfOk result (λ _. stack.new.own ≡ drop (suc count) stack.old.own) }
+    ensures stack { stack.new.below ≡ stack.old.below }
+    ensures chain { chain.new ≡ chain.old }
+{
+    let target = target_with_unit(alloc, objects, cache, found)?;
     call_target(
         alloc, objects, locals, stack, chain, cache, selector, target, count, depth,
     )

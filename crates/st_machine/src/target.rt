@@ -3,7 +3,7 @@ ghost use Rattle.std.specs.Prelude.{◌≡◌, true, false, IfOk, IfSome, option
 ghost use Rattle.gem_language.specs.LookUp.{find_method};
 ghost use Rattle.look_up_cache.specs.Table.{held_at};
 ghost use Rattle.st_machine.specs.Parts.{framed};
-ghost use Rattle.st_machine.specs.Targets.{target_for, IsCallable, LeadsTo};
+ghost use Rattle.st_machine.specs.Targets.{target_for, IsCallable, LeadsTo, UnitThen};
 
 use crate::border::{find_above, place_of_method};
 use crate::cache::CodeCache;
@@ -93,6 +93,23 @@ fn target_known<O: FindsMethods>(
 {
     let at = place_of_method(objects, locals, chain, frame, receiver, selector)?;
     Ok(target_at(alloc, objects, cache, at)?)
+}
+
+/// What answers by the method that stands at a place, and then the unit of the message.
+#[tactic(auto, using(running_objects::proofs::Running::acted_nothing))]
+pub(crate) fn target_with_unit<O: FindsMethods>(
+    alloc: Global,
+    objects: &mut O,
+    cache: &mut CodeCache,
+    at: usize,
+) -> Result<Target, Stop>
+    ensures target { UnitThen (target_for (held_at (O.founds objects.old) at)) (O.seen objects.old)
+        result (O.seen objects.new) }
+    ensures callable { IfOk result IsCallable }
+{
+    let target = target_at(alloc, objects, cache, at)?;
+    objects.tick()?;
+    Ok(target)
 }
 
 /// What answers by the method that was found.

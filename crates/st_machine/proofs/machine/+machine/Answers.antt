@@ -1,4 +1,4 @@
-use Rattle.std.proofs.Common.{◌∙◌, refl, sym, ap, ◌<◌, ◌++◌, ◌∷◌, List, [], length, get_or, take, reverse, replicate, slice_get, arith}
+use Rattle.std.proofs.Common.{◌∙◌, false, refl, sym, ap, ◌<◌, ◌++◌, ◌∷◌, List, [], length, get_or, take, reverse, replicate, slice_get, arith}
 use Rattle.std.proofs.lemmas.Grind.{common_steps}
 use Rattle.std.proofs.lemmas.Result.{err_from_is_err_and}
 use Rattle.gem_object.specs.declared.value.Value.TheVariants.{Nil}
@@ -8,6 +8,7 @@ use Rattle.gem_language.specs.Commands.{selector_of}
 use Rattle.gem_language.specs.Sends.{outside}
 use Rattle.tree_meaning.specs.object_programs.declared.fault.Fault.TheVariants as fault
 use Rattle.running_objects.specs.declared.stop.Stop.TheVariants as stop
+use Rattle.look_up_cache.specs.Table.{held_at}
 use Rattle.st_compiler.specs.Instruction.{Instruction}
 use Rattle.st_compiler.specs.Emitted.{instruction_of}
 use Rattle.st_commands.proofs.Activations.{activation_ran, evaluation_ran, method_ran, made_ran}
@@ -18,6 +19,7 @@ use Rattle.st_machine.proofs.Outlines.{method_framed, block_framed, method_ran_b
 use Rattle.st_machine.proofs.PartRuns.{part_runs}
 use Rattle.st_machine.proofs.Standing.{stands_empty, stands_left, stands_next, stands_back, stands_leaves, stands_stop, never_stuck, never_past}
 use Rattle.st_machine.proofs.Sent.{sent_answers, sent_stops}
+use Rattle.st_machine.proofs.Placed.{placed_ran, placed_stops}
 use Rattle.st_machine.proofs.machine.+machine.Goals as goal
 
 pub send-returns-in_err-answer-clause-led : goal.send-returns-in_err-answer-clause-led
@@ -39,6 +41,40 @@ send-returns-clause-led g t c =
     (ap (λ (one : Layers Mark). one.own) c.in_ok-answer.ensures.chain)
     (c.in_ok-push.ensures.pushed ∙ ap (λ (rest : List _). c.in_ok-answer.answer ∷ rest) c.in_ok-answer.ensures.own)
     c.in_ok-answer.ensures.ran
+
+pub send_found-returns-in_err-answer-clause-led : goal.send_found-returns-in_err-answer-clause-led
+send_found-returns-in_err-answer-clause-led g t c =
+    let within : c.args.count < length c.args.stack.now.own = grind (arith, common_steps) in
+    let p = err_from_is_err_and c.from_residual.result c.from_residual.ensures.1 in
+    rw (p.1, p.2) (sent_stops c.args.depth (table_of c.args.code.now) c.args.selector.now c.args.count c.args.at
+    c.args.stack.now.own c.args.chain.now.own c.answer_found.new.chain.own c.args.frame.now
+    (g.O.Objects.seen c.args.objects.now) (g.O.Objects.seen c.answer_found.new.objects) c.args.locals.now c.answer_found.new.locals
+    false within c.in_err-answer.field-0.0 c.answer_found.new.stack.own c.in_err-answer.ensures.ran)
+
+pub send_found-returns-clause-led : goal.send_found-returns-clause-led
+send_found-returns-clause-led g t c =
+    let within : c.args.count < length c.args.stack.now.own = grind (arith, common_steps) in
+    sent_answers c.args.depth (table_of c.args.code.now) c.args.selector.now c.args.count c.args.at
+    c.args.stack.now.own c.args.chain.now.own c.answer_found.new.chain.own c.args.frame.now
+    (g.O.Objects.seen c.args.objects.now) (g.O.Objects.seen c.answer_found.new.objects) c.args.locals.now c.answer_found.new.locals
+    false within c.in_ok-answer.answer c.push.new.self.own c.in_ok-next_of.field-0 c.in_ok-next_of.ensures.place
+    (ap (λ (one : Layers Mark). one.own) c.in_ok-answer.ensures.chain)
+    (c.in_ok-push.ensures.pushed ∙ ap (λ (rest : List _). c.in_ok-answer.answer ∷ rest) c.in_ok-answer.ensures.own)
+    c.in_ok-answer.ensures.ran
+
+pub answer_found-returns-in_err-target-clause-ran : goal.answer_found-returns-in_err-target-clause-ran
+answer_found-returns-in_err-target-clause-ran g t c =
+    let p = err_from_is_err_and c.from_residual.result c.from_residual.ensures.1 in
+    rw (p.1, p.2) (placed_stops c.args.depth c.args.selector.now (framed c.args.chain.now.own c.args.frame.now)
+    (get_or c.args.stack.now.own c.args.count Nil) (take c.args.count c.args.stack.now.own) c.args.locals.now
+    c.in_err-target.ensures.target)
+
+pub answer_found-returns-clause-ran : goal.answer_found-returns-clause-ran
+answer_found-returns-clause-ran g t c =
+    placed_ran c.args.depth c.args.selector.now (framed c.args.chain.now.own c.args.frame.now)
+    (get_or c.args.stack.now.own c.args.count Nil) (take c.args.count c.args.stack.now.own) c.args.locals.now
+    (held_at (g.O.FindsMethods.founds c.args.objects.now) c.args.found) c.in_ok-target.target c.in_ok-target.ensures.target.0
+    c.in_ok-target.ensures.target.1 c.requires.found c.call_target.ensures.ran
 
 pub call_method-returns-in-Some-clause-ran : goal.call_method-returns-in-Some-clause-ran
 call_method-returns-in-Some-clause-ran g t c =
@@ -119,7 +155,7 @@ execute-run-preserved-in-Goes-turn g t c = record {
       c.run.chain.own c.turn-turned.new.chain.own c.args.frame.now c.run.invariant.standing
       (instruction_of c.in-Some.instr.now)
       (ap (λ (code : List Instruction). slice_get code c.run.at) (sym c.code_of-instrs.ensures) ∙ sym c.in-Some.ensures.is)
-      c.turn-turned.ensures.keeps c.in-Goes-turn.place (rw c.in-Goes-turn.is at (rw c.in-Ok-done.is at c.in-Some-turned.ensures.led));
+      c.turn-turned.ensures.keeps c.in-Goes-turn.place (rw c.in-Goes-turn.is at (rw c.in-Ok-done.is at c.in-Done.ensures.led));
   below = c.turn-turned.ensures.stack ∙ c.run.invariant.below;
   outer = c.turn-turned.ensures.chain ∙ c.run.invariant.outer;
 }
@@ -133,7 +169,7 @@ execute-run-preserved g t c = record {
       c.run.chain.own c.turn-turned.new.chain.own c.args.frame.now c.run.invariant.standing
       (instruction_of c.in-Some.instr.now)
       (ap (λ (code : List Instruction). slice_get code c.run.at) (sym c.code_of-instrs.ensures) ∙ sym c.in-Some.ensures.is)
-      c.turn-turned.ensures.keeps c.in-Jumps.place (rw c.in-Jumps.is at (rw c.in-Ok-done.is at c.in-Some-turned.ensures.led));
+      c.turn-turned.ensures.keeps c.in-Jumps.place (rw c.in-Jumps.is at (rw c.in-Ok-done.is at c.in-Done.ensures.led));
   below = c.turn-turned.ensures.stack ∙ c.run.invariant.below;
   outer = c.turn-turned.ensures.chain ∙ c.run.invariant.outer;
 }
@@ -147,7 +183,7 @@ execute-returns-in-NotBoolean-clause-ran g t c =
     c.run.chain.own c.turn-turned.new.chain.own c.args.frame.now c.run.invariant.standing
     (instruction_of c.in-Some.instr.now)
     (ap (λ (code : List Instruction). slice_get code c.run.at) (sym c.code_of-instrs.ensures) ∙ sym c.in-Some.ensures.is)
-    c.turn-turned.ensures.keeps (stop.Fails fault.NotBoolean) (rw c.in-NotBoolean.is at (rw c.in-Ok-done.is at c.in-Some-turned.ensures.led))
+    c.turn-turned.ensures.keeps (stop.Fails fault.NotBoolean) (rw c.in-NotBoolean.is at (rw c.in-Ok-done.is at c.in-Done.ensures.led))
 
 pub execute-returns-in-ArgumentKind-clause-ran : goal.execute-returns-in-ArgumentKind-clause-ran
 execute-returns-in-ArgumentKind-clause-ran g t c =
@@ -158,7 +194,7 @@ execute-returns-in-ArgumentKind-clause-ran g t c =
     c.run.chain.own c.turn-turned.new.chain.own c.args.frame.now c.run.invariant.standing
     (instruction_of c.in-Some.instr.now)
     (ap (λ (code : List Instruction). slice_get code c.run.at) (sym c.code_of-instrs.ensures) ∙ sym c.in-Some.ensures.is)
-    c.turn-turned.ensures.keeps (stop.Fails fault.ArgumentKind) (rw c.in-ArgumentKind.is at (rw c.in-Ok-done.is at c.in-Some-turned.ensures.led))
+    c.turn-turned.ensures.keeps (stop.Fails fault.ArgumentKind) (rw c.in-ArgumentKind.is at (rw c.in-Ok-done.is at c.in-Done.ensures.led))
 
 pub execute-returns-in-NoUnit-clause-ran : goal.execute-returns-in-NoUnit-clause-ran
 execute-returns-in-NoUnit-clause-ran g t c =
@@ -169,7 +205,7 @@ execute-returns-in-NoUnit-clause-ran g t c =
     c.run.chain.own c.turn-turned.new.chain.own c.args.frame.now c.run.invariant.standing
     (instruction_of c.in-Some.instr.now)
     (ap (λ (code : List Instruction). slice_get code c.run.at) (sym c.code_of-instrs.ensures) ∙ sym c.in-Some.ensures.is)
-    c.turn-turned.ensures.keeps (stop.Fails fault.SendBudget) (rw c.in-NoUnit.is at (rw c.in-Ok-done.is at c.in-Some-turned.ensures.led))
+    c.turn-turned.ensures.keeps (stop.Fails fault.SendBudget) (rw c.in-NoUnit.is at (rw c.in-Ok-done.is at c.in-Done.ensures.led))
 
 pub execute-unreachable-requires-in-Stuck-turn : goal.execute-unreachable-requires-in-Stuck-turn
 execute-unreachable-requires-in-Stuck-turn g t c =
@@ -180,7 +216,7 @@ execute-unreachable-requires-in-Stuck-turn g t c =
     c.run.chain.own c.turn-turned.new.chain.own c.args.frame.now c.run.invariant.standing
     (instruction_of c.in-Some.instr.now)
     (ap (λ (code : List Instruction). slice_get code c.run.at) (sym c.code_of-instrs.ensures) ∙ sym c.in-Some.ensures.is)
-    c.turn-turned.ensures.keeps (rw c.in-Stuck-turn.is at (rw c.in-Ok-done.is at c.in-Some-turned.ensures.led))
+    c.turn-turned.ensures.keeps (rw c.in-Stuck-turn.is at (rw c.in-Ok-done.is at c.in-Done.ensures.led))
 
 pub execute-run-preserved-in-Goes : goal.execute-run-preserved-in-Goes
 execute-run-preserved-in-Goes g t c = record {
@@ -191,13 +227,13 @@ execute-run-preserved-in-Goes g t c = record {
       c.step-led.new.stack.own c.turn-turned.new.chain.own c.step-led.new.chain.own c.args.frame.now
       (stands_left (outside c.args.depth) (table_of c.args.code.now) (part_code c.args.code.now c.args.part)
       (part_run (outside c.args.depth) c.args.code.now c.args.part (framed c.args.chain.now.own c.args.frame.now))
-      (g.O.Objects.seen c.args.objects.now) c.args.locals.now c.run.at c.args.frame.now c.in-None.ensures.seen
-      c.in-None.ensures.own c.in-None.ensures.scopes c.in-None.ensures.locals c.run.invariant.standing)
+      (g.O.Objects.seen c.args.objects.now) c.args.locals.now c.run.at c.args.frame.now c.in-Left.ensures.seen
+      c.in-Left.ensures.own c.in-Left.ensures.scopes c.in-Left.ensures.locals c.run.invariant.standing)
       (instruction_of c.in-Some.instr.now)
       (ap (λ (code : List Instruction). slice_get code c.run.at) (sym c.code_of-instrs.ensures) ∙ sym c.in-Some.ensures.is)
       c.in-Ok.ensures.keeps c.in-Goes.place (rw c.in-Goes.is at c.in-Ok.ensures.led);
-  below = c.in-Ok.ensures.stack ∙ (c.in-None.ensures.stack ∙ c.run.invariant.below);
-  outer = c.in-Ok.ensures.chain ∙ (c.in-None.ensures.chain ∙ c.run.invariant.outer);
+  below = c.in-Ok.ensures.stack ∙ (c.in-Left.ensures.stack ∙ c.run.invariant.below);
+  outer = c.in-Ok.ensures.chain ∙ (c.in-Left.ensures.chain ∙ c.run.invariant.outer);
 }
 
 pub execute-returns-in-Err-clause-ran : goal.execute-returns-in-Err-clause-ran
@@ -209,8 +245,8 @@ execute-returns-in-Err-clause-ran g t c =
     c.step-led.new.stack.own c.turn-turned.new.chain.own c.step-led.new.chain.own c.args.frame.now
     (stands_left (outside c.args.depth) (table_of c.args.code.now) (part_code c.args.code.now c.args.part)
     (part_run (outside c.args.depth) c.args.code.now c.args.part (framed c.args.chain.now.own c.args.frame.now))
-    (g.O.Objects.seen c.args.objects.now) c.args.locals.now c.run.at c.args.frame.now c.in-None.ensures.seen
-    c.in-None.ensures.own c.in-None.ensures.scopes c.in-None.ensures.locals c.run.invariant.standing)
+    (g.O.Objects.seen c.args.objects.now) c.args.locals.now c.run.at c.args.frame.now c.in-Left.ensures.seen
+    c.in-Left.ensures.own c.in-Left.ensures.scopes c.in-Left.ensures.locals c.run.invariant.standing)
     (instruction_of c.in-Some.instr.now)
     (ap (λ (code : List Instruction). slice_get code c.run.at) (sym c.code_of-instrs.ensures) ∙ sym c.in-Some.ensures.is)
     c.in-Err.ensures.keeps c.in-Err.stop c.in-Err.ensures.led
@@ -224,8 +260,8 @@ execute-returns-in-Leaves-clause-ran g t c =
     c.step-led.new.stack.own c.turn-turned.new.chain.own c.step-led.new.chain.own c.args.frame.now
     (stands_left (outside c.args.depth) (table_of c.args.code.now) (part_code c.args.code.now c.args.part)
     (part_run (outside c.args.depth) c.args.code.now c.args.part (framed c.args.chain.now.own c.args.frame.now))
-    (g.O.Objects.seen c.args.objects.now) c.args.locals.now c.run.at c.args.frame.now c.in-None.ensures.seen
-    c.in-None.ensures.own c.in-None.ensures.scopes c.in-None.ensures.locals c.run.invariant.standing)
+    (g.O.Objects.seen c.args.objects.now) c.args.locals.now c.run.at c.args.frame.now c.in-Left.ensures.seen
+    c.in-Left.ensures.own c.in-Left.ensures.scopes c.in-Left.ensures.locals c.run.invariant.standing)
     (instruction_of c.in-Some.instr.now)
     (ap (λ (code : List Instruction). slice_get code c.run.at) (sym c.code_of-instrs.ensures) ∙ sym c.in-Some.ensures.is)
     c.in-Ok.ensures.keeps c.in-Leaves.answer (rw c.in-Leaves.is at c.in-Ok.ensures.led)
@@ -239,8 +275,8 @@ execute-unreachable-requires-in-Stuck g t c =
     c.step-led.new.stack.own c.turn-turned.new.chain.own c.step-led.new.chain.own c.args.frame.now
     (stands_left (outside c.args.depth) (table_of c.args.code.now) (part_code c.args.code.now c.args.part)
     (part_run (outside c.args.depth) c.args.code.now c.args.part (framed c.args.chain.now.own c.args.frame.now))
-    (g.O.Objects.seen c.args.objects.now) c.args.locals.now c.run.at c.args.frame.now c.in-None.ensures.seen
-    c.in-None.ensures.own c.in-None.ensures.scopes c.in-None.ensures.locals c.run.invariant.standing)
+    (g.O.Objects.seen c.args.objects.now) c.args.locals.now c.run.at c.args.frame.now c.in-Left.ensures.seen
+    c.in-Left.ensures.own c.in-Left.ensures.scopes c.in-Left.ensures.locals c.run.invariant.standing)
     (instruction_of c.in-Some.instr.now)
     (ap (λ (code : List Instruction). slice_get code c.run.at) (sym c.code_of-instrs.ensures) ∙ sym c.in-Some.ensures.is)
     c.in-Ok.ensures.keeps (rw c.in-Stuck.is at c.in-Ok.ensures.led)

@@ -13,6 +13,12 @@ decreases-step g l = 16 * l.depth + 11
 abbrev pub decreases-send : goal.decreases-send
 decreases-send g l = 16 * l.depth + 10
 
+abbrev pub decreases-send_found : goal.decreases-send_found
+decreases-send_found g l = 16 * l.depth + 10
+
+abbrev pub decreases-answer_found : goal.decreases-answer_found
+decreases-answer_found g l = 16 * l.depth + 9
+
 abbrev pub decreases-answer_of : goal.decreases-answer_of
 decreases-answer_of g l = 16 * l.depth + 9
 
