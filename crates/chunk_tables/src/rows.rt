@@ -219,6 +219,27 @@ $5 isLetter => false
 (0 - 1152921504606846975 - 1) rem: -1 => 0
 -5 bitShift: 0 - 1152921504606846975 - 1 => -1
 0 bitShift: 1152921504606846975 => 0
+3 + 4. 1152921504606846974 + 1 => 1152921504606846975
+3 + 4. 1152921504606846975 + 1 => error E6 integer range
+3 + 4. 3 + 'a' => error E5 argument kind
+3 - 4. -1152921504606846975 - 1 => -1152921504606846976
+3 - 4. -1152921504606846975 - 2 => error E6 integer range
+6 * 7. 1073741824 * 1073741824 => error E6 integer range
+6 * 7. 3 * #a => error E5 argument kind
+7 // 2. -7 // -2 => 3
+7 // 2. 7 // 0 => error E7 zero divisor
+7 \\\\ 2. 7 \\\\ -2 => -1
+7 \\\\ 2. 7 \\\\ 0 => error E7 zero divisor
+3 < 4. 4 < 3 => false
+3 < 4. 3 < nil => error E5 argument kind
+3 > 2. 3 > 'a' => error E5 argument kind
+3 <= 3. 4 <= 3 => false
+3 >= 3. 3 >= [3] => error E5 argument kind
+3 = 3. 3 = 4 => false
+3 = 3. 3 = [3] => error E5 argument kind
+3 == 3. 3 == $a => false
+12 bitAnd: 10. -4 bitAnd: -6 => -8
+12 bitAnd: 10. 3 bitAnd: nil => error E5 argument kind
 ";
 
 /// Blocks.

@@ -6,6 +6,7 @@ use crate::machine_tests::{Known, install_many, known, reply_to, send_many};
 use chunk_tables::{note, told};
 use gem_object::{Oid, Text, Value};
 use gem_sound::names::UNDEFINED_OBJECT_CLASS;
+use look_up_cache::KnownObjects;
 use plain_state::PlainState;
 use radix_pages::Steps;
 use running_objects::RunsChunks;
@@ -253,6 +254,93 @@ fn check_kept(
     )
 }
 
+/// Gives the class Foo this method, and the name One to a Foo.
+fn prepare_foo(
+    alloc: Global,
+    state: &mut Known<PlainState>,
+    cache: &mut CodeCache,
+    method: &str,
+    wrong: &mut String,
+) -> Result<(), AllocError> {
+    let class = "Object subclass: #Foo instVarNames: #() inDictionary: UserGlobals";
+    let right = chunk_replies(alloc, state, cache, false, class, "ok")?;
+    note_unless(wrong, class, right)?;
+    let right = method_replies(alloc, state, cache, method, "method bar")?;
+    note_unless(wrong, method, right)?;
+    let one = "UserGlobals at: #One put: Foo new";
+    let right = chunk_replies(alloc, state, cache, false, one, "ok")?;
+    note_unless(wrong, one, right)
+}
+
+/// Sends bar to One, of which nothing is known yet: it is answered so, and known from then on.
+fn check_bar(
+    alloc: Global,
+    state: &mut Known<PlainState>,
+    cache: &mut CodeCache,
+    one: &Value,
+    wanted: &str,
+    wrong: &mut String,
+) -> Result<(), AllocError> {
+    let known = is_kept(alloc, state, one, "bar")?;
+    note_unless(wrong, "nothing is known yet", !known)?;
+    let right = chunk_replies(alloc, state, cache, true, "One bar", wanted)?;
+    note_unless(wrong, wanted, right)?;
+    let known = is_kept(alloc, state, one, "bar")?;
+    note_unless(wrong, "bar is known", known)
+}
+
+/// Goes on with other objects: nothing is known any more, and the method of these answers.
+fn check_other(
+    alloc: Global,
+    state: &mut Known<PlainState>,
+    cache: &mut CodeCache,
+    other: PlainState,
+    one: &Value,
+    wrong: &mut String,
+) -> Result<(), AllocError> {
+    let _before = state.go_on(other);
+    check_bar(alloc, state, cache, one, "4", wrong)
+}
+
+/// Sends bar to One, and again after other objects have come, in which Foo has another method.
+fn check_both(
+    alloc: Global,
+    state: &mut Known<PlainState>,
+    cache: &mut CodeCache,
+    other: PlainState,
+    wrong: &mut String,
+) -> Result<(), AllocError> {
+    let one = value_of_one(alloc, state, cache)?;
+    check_bar(alloc, state, cache, &one, "3", wrong)?;
+    check_other(alloc, state, cache, other, &one, wrong)
+}
+
+/// The objects of a transaction in which Foo has this method.
+fn objects_with<L: Ledger>(
+    alloc: Global,
+    cache: &mut CodeCache,
+    method: &str,
+    steps: &mut Steps<L>,
+    wrong: &mut String,
+) -> Result<PlainState, AllocError> {
+    let mut state = known::<PlainState, L>(alloc, steps)?;
+    prepare_foo(alloc, &mut state, cache, method, wrong)?;
+    Ok(state.into_objects())
+}
+
+/// Goes on with the objects of another transaction.
+fn check_going_on<L: Ledger>(
+    alloc: Global,
+    cache: &mut CodeCache,
+    steps: &mut Steps<L>,
+    wrong: &mut String,
+) -> Result<(), AllocError> {
+    let other = objects_with::<L>(alloc, cache, "bar ^4", steps, wrong)?;
+    let first = objects_with::<L>(alloc, cache, "bar ^3", steps, wrong)?;
+    let mut state = KnownObjects::new(alloc, first);
+    check_both(alloc, &mut state, cache, other, wrong)
+}
+
 fn check_calls(
     alloc: Global,
     state: &mut Known<PlainState>,
@@ -285,14 +373,39 @@ fn wrong_calls<L: Ledger>(alloc: Global, blank: Blank) -> Result<String, AllocEr
     called(alloc, &mut state)
 }
 
+/// The answers of One that aren't those of the objects at hand.
+fn wrong_objects<L: Ledger>(alloc: Global, blank: Blank) -> Result<String, AllocError>
+    requires name { blank.name ≡ L.name }
+    requires parts { blank.parts ≡ L.parts }
+    requires some_parts { 0 < L.parts }
+{
+    let mut steps = Steps::<L>::start(blank);
+    let mut wrong = String::new(alloc);
+    let mut cache = CodeCache::new(alloc)?;
+    check_going_on::<L>(alloc, &mut cache, &mut steps, &mut wrong)?;
+    Ok(wrong)
+}
+
 /// `wrong_calls` with steps that no other call counts.
 fn calls_by_brand(alloc: Global) -> Result<String, AllocError> {
     wrong_calls::<Brand>(alloc, Blank::new(1))
 }
 
+/// `wrong_objects` in the same way.
+fn objects_by_brand(alloc: Global) -> Result<String, AllocError> {
+    wrong_objects::<Brand>(alloc, Blank::new(1))
+}
+
 #[test]
 fn machine_calls(rt: HostRuntime) -> Result<(), Fail> {
     let wrong = calls_by_brand(rt.alloc())?;
+    assert_eq!(rt; wrong.as_str(), "");
+    Ok(())
+}
+
+#[test]
+fn other_objects(rt: HostRuntime) -> Result<(), Fail> {
+    let wrong = objects_by_brand(rt.alloc())?;
     assert_eq!(rt; wrong.as_str(), "");
     Ok(())
 }

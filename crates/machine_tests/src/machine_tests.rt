@@ -91,6 +91,38 @@ run UserGlobals at: #D put: Animal new => ok
 print D sound => 4
 print D loud => error E1 not understood: loud";
 
+/// A script in which objects are written again, with their segment, its rights and the user's groups
+/// as they were, and after a change of one of these.
+const WRITES: &str = "\
+run Object subclass: #Pot instVarNames: #(fill) inDictionary: UserGlobals => ok
+run UserGlobals at: #S put: Segment new. UserGlobals at: #R put: Segment new => ok
+run UserGlobals at: #P put: Pot new. UserGlobals at: #A put: (Array new: 1) => ok
+method Pot fill ^fill => method fill
+method Pot fill: n fill := n => method fill:
+run P assignToSegment: S. A assignToSegment: S => ok
+print A at: 1 put: 3. A at: 1 put: 4. A at: 1 => 4
+print P fill: 3. P fill: 4. P fill => 4
+print A at: 1 put: 5. S ownerAuthorization: #read. A at: 1 put: 6 => error E11 no write right: 1:6
+print A at: 1 => 5
+print P fill: 5 => error E11 no write right: 1:5
+run S ownerAuthorization: #write => ok
+print P fill: 6. S ownerAuthorization: #read. P fill: 7 => error E11 no write right: 1:5
+print P fill => 6
+print A at: 1 put: 6 => error E11 no write right: 1:6
+run S group: #g authorization: #write => ok
+print System myUserProfile addGroup: #g. P fill: 8. P fill: 9. P fill => 9
+print P fill: 10. System myUserProfile removeGroup: #g. P fill: 11 => error E11 no write \
+    right: 1:5
+print P fill => 10
+run S ownerAuthorization: #write => ok
+print A at: 1 put: 7. A assignToSegment: R. A at: 1 put: 8. A at: 1 => 8
+print S ownerAuthorization: #none. A at: 1 put: 9. A at: 1 put: 10. A at: 1 => 10
+print A at: 1 put: 11. R ownerAuthorization: #read. A at: 1 put: 12 => error E11 no write right: 1:6
+print A at: 1 => 11
+run R ownerAuthorization: #write => ok
+print A at: 1 put: 13. A at: 2 put: 14 => error E4 index
+print A at: 1 put: 15. A at: 1 => 15";
+
 /// Objects on which the machine runs.
 pub(crate) type Known<S> = KnownObjects<S, SharedCode>;
 
@@ -328,6 +360,7 @@ fn wrong_lines<S: Begins, L: Ledger>(alloc: Global, blank: Blank) -> Result<Stri
     check_kept_transcript::<S, L>(alloc, &mut cache, &mut steps, &mut wrong)?;
     check_names::<S, L>(alloc, &mut cache, &mut steps, &mut wrong)?;
     check_remembered::<S, L>(alloc, &mut cache, CHANGES, &mut steps, &mut wrong)?;
+    check_remembered::<S, L>(alloc, &mut cache, WRITES, &mut steps, &mut wrong)?;
     Ok(wrong)
 }
 

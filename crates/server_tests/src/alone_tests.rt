@@ -1,11 +1,12 @@
 // The server, from a script to its report, in threads as the program runs them. Sessions run one
 // after another.
-ghost use Rattle.std.specs.Prelude.{◌<◌, None};
+ghost use Rattle.std.specs.Prelude.{◌<◌};
 
 use crate::reports::{LONG_REPORTS, REPORTS};
+use crate::short_sink::ShortSink;
 use crate::turns::TurnGate;
 use gem_disk::MemDisk;
-use gem_io::{Failed, MemSink, MemSource, Sink, Source};
+use gem_io::{MemSink, MemSource, Sink, Source};
 use gem_server::{Ended, Status, gemstone};
 use std::alloc::{AllocError, Global};
 use std::sync::Wait;
@@ -274,30 +275,6 @@ fn other_words(rt: HostRuntime) -> Result<(), Fail> {
     Ok(())
 }
 
-// A sink that takes so many bytes more, and then fails.
-#[derive(Drop)]
-struct ShortSink {
-    room: usize,
-    taken: Vec<u8>,
-    faults: u64,
-}
-
-impl Sink for ShortSink {
-    ghost written = { λ _. None };
-
-    ghost faults = { λ s. s.faults };
-
-    fn put(&mut self, piece: &[u8]) -> Result<usize, Failed> {
-        let count = piece.len().min(self.room);
-        if count == 0 || self.taken.extend_from_slice(&piece[..count]).is_err() {
-            self.faults = self.faults.saturating_add(1);
-            return Err(Failed);
-        }
-        self.room -= count;
-        Ok(count)
-    }
-}
-
 const ONE_SUM: &[u8] = b"session DataCurator\nprintit\n3 + 4 * 2\n%\n";
 
 #[test]
@@ -315,13 +292,9 @@ fn fault_of_a_source(rt: HostRuntime) -> Result<(), Fail> {
 fn fault_of_a_sink(rt: HostRuntime) -> Result<(), Fail> {
     let alloc = rt.alloc();
     let mut source = MemSource::new(ONE_SUM.to_vec(alloc)?, Vec::new(alloc));
-    let mut short = ShortSink {
-        room: 10,
-        taken: Vec::new(alloc),
-        faults: 0,
-    };
+    let mut short = ShortSink::new(10, Vec::new(alloc));
     let ended = run(&rt, alloc, "serve", &mut source, &mut short)?;
     assert_eq!(rt; ended.status, Status::WriteFault);
-    assert!(rt; short.taken.as_slice() == b"session 1 ".as_slice());
+    assert!(rt; short.taken() == b"session 1 ".as_slice());
     Ok(())
 }

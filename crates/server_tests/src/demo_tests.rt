@@ -1,10 +1,10 @@
 // The generated load. Expected values are worked by hand, from the numbers of the seed.
 use crate::short_sink::ShortSink;
 use gem_disk::{Images, MemDisk, Pick};
-use gem_io::{MemSink, MemSource, OpenGate, Sink};
+use gem_io::{Gate, MemSink, MemSource, OpenGate, Sink};
 use gem_server::{Ended, Status, gemstone};
 use std::alloc::{AllocError, Global};
-use std::sync::Wait;
+use std::sync::{Mutex, Wait};
 use std::test::Fail;
 use std::thread::Threads;
 
@@ -24,18 +24,29 @@ fn words(alloc: Global, line: &str) -> Result<Vec<String>, AllocError> {
     Ok(words)
 }
 
-// How the program ends on a command line, over this sink. From this call a caller's proof learns
-// nothing of the run, so it stays short.
+// How the program ends on a command line, over this sink, with sessions that pass this gate. From
+// this call a caller's proof learns nothing of the run, so it stays short.
+fn run_past<R: Threads + Wait + Sync, K: Sink, G: Gate + Sync>(
+    rt: &R,
+    alloc: Global,
+    line: &str,
+    gate: &G,
+    sink: &mut K,
+) -> Result<Ended<MemDisk>, Fail> {
+    let words = words(alloc, line)?;
+    let disk = MemDisk::new(EXTENT.to_vec(alloc)?, LOG.to_vec(alloc)?);
+    let mut source = MemSource::new(SCRIPT.to_vec(alloc)?, Vec::new(alloc));
+    Ok(gemstone(rt, alloc, &words, &mut source, disk, gate, sink))
+}
+
+// The same with an open gate.
 fn run<R: Threads + Wait + Sync, K: Sink>(
     rt: &R,
     alloc: Global,
     line: &str,
     sink: &mut K,
 ) -> Result<Ended<MemDisk>, Fail> {
-    let words = words(alloc, line)?;
-    let disk = MemDisk::new(EXTENT.to_vec(alloc)?, LOG.to_vec(alloc)?);
-    let mut source = MemSource::new(SCRIPT.to_vec(alloc)?, Vec::new(alloc));
-    Ok(gemstone(rt, alloc, &words, &mut source, disk, &OpenGate, sink))
+    run_past(rt, alloc, line, &OpenGate, sink)
 }
 
 // How a command line ends, and what is written.
@@ -67,6 +78,35 @@ fn book_of_a_load(rt: HostRuntime) -> Result<(), Fail> {
     assert_eq!(rt; ended.book.transcripts.len(), 2);
     assert_eq!(rt; ended.book.history.len(), 8);
     assert_eq!(rt; ended.events.len(), 8);
+    Ok(())
+}
+
+/// Counts how often it is passed.
+#[derive(Drop)]
+struct CountingGate {
+    passed: Mutex<u32>,
+}
+
+impl Gate for CountingGate {
+    fn pass<R: Wait>(&self, rt: &R, _session: u32, _command: u32) {
+        let mut passed = self.passed.lock(rt);
+        *passed = passed.saturating_add(1);
+    }
+
+    fn left<R: Wait>(&self, _rt: &R, _session: u32) {}
+}
+
+// Two sessions of eight commands each pass it, which log in and out besides.
+#[test]
+fn sessions_of_a_load_pass_the_gate(rt: HostRuntime) -> Result<(), Fail> {
+    let alloc = rt.alloc();
+    let gate = CountingGate {
+        passed: Mutex::new(0),
+    };
+    let mut sink = MemSink::new(Vec::new(alloc));
+    let ended = run_past(&rt, alloc, "demo --seed 1 --sessions 2", &gate, &mut sink)?;
+    assert_eq!(rt; ended.status, Status::Done);
+    assert_eq!(rt; *gate.passed.lock(&rt), 20);
     Ok(())
 }
 

@@ -38,6 +38,38 @@ fn makes_the_whole_scripts(rt: HostRuntime) -> Result<(), Fail> {
     Ok(())
 }
 
+// The numbers of seed 1, of two sessions of four rounds each. They were computed outside, from the
+// generator's rule.
+const NUMBERS: [[u8; 4]; 2] = [*b"9872", *b"2374"];
+
+fn push_round(text: &mut Vec<u8>, digit: u8) -> Result<(), AllocError> {
+    text.extend_from_slice(b"run\nHits incrementBy: ")?;
+    text.push(digit)?;
+    text.extend_from_slice(b". Names add: #n")?;
+    text.push(digit)?;
+    text.extend_from_slice(b"\n%\ncommit\n")
+}
+
+fn script_of_numbers(alloc: Global) -> Result<Vec<u8>, AllocError> {
+    let mut text = Vec::new(alloc);
+    for session in &NUMBERS {
+        text.extend_from_slice(b"session DataCurator\n")?;
+        for digit in session {
+            push_round(&mut text, *digit)?;
+        }
+    }
+    Ok(text)
+}
+
+#[test]
+fn numbers_in_their_order(rt: HostRuntime) -> Result<(), Fail> {
+    let alloc = rt.alloc();
+    let load = load_script(alloc, 1, 2, 4)?;
+    let expected = script_of_numbers(alloc)?;
+    assert!(rt; load.as_slice() == expected.as_slice());
+    Ok(())
+}
+
 // The numbers were computed outside, from the generator's rule.
 #[test]
 fn sums_of_loads(rt: HostRuntime) -> Result<(), Fail> {
