@@ -49,7 +49,8 @@ pub fn call<O: Objects>(
 
 /// The answer of the primitive of this number, where it is known from the receiver and the arguments
 /// alone: where both are integers, and it is one of `==`, `=`, `+`, `-`, `*`, `//`, `\\`, `<`, `>`,
-/// `<=`, `>=` and `bitAnd:` and ends without an error. It takes no memory. None anywhere else.
+/// `<=`, `>=` and `bitAnd:` and ends without an error. It takes no memory. None anywhere else; of
+/// None the contract says nothing.
 pub fn ready(number: u8, receiver: &Value, arguments: &[Value]) -> Option<Value>
     ensures { IfSome result (λ value.
         Computes (rule_of number receiver.now arguments.now) (Ok (Gives value))) }

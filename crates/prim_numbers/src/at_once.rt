@@ -14,7 +14,7 @@ use prim_parts::truth;
 
 /// The answer of the primitive of this number, where it is one of `==`, `=`, `+`, `-`, `*`, `//`,
 /// `\\`, `<`, `>`, `<=`, `>=` and `bitAnd:` of two integers, and ends without an error. It looks at
-/// nothing else, and takes no memory. None anywhere else.
+/// nothing else, and takes no memory. None anywhere else; of None the contract says nothing.
 pub fn ready(number: u8, receiver: &Value, arguments: &[Value]) -> Option<Value>
     ensures { IfSome result (λ value.
         Computes (rule_of number receiver.now arguments.now) (Ok (Gives value))) }
