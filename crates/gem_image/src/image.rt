@@ -1,5 +1,6 @@
 //! Images.
-ghost use Rattle.std.specs.Prelude.{◌≡◌, ◌+◌, ◌*◌, ◌^◌, ◌≤◌, All, length, option_copied, IfSome, IfOk, OnOk, OnErr};
+ghost use Rattle.std.specs.Prelude.{◌≡◌, ◌+◌, ◌*◌, ◌^◌, ◌≤◌, All, length, option_map, option_copied, IfSome, IfOk, OnOk, OnErr};
+ghost use Rattle.std.specs.Arc.{arc_value};
 ghost use Rattle.std.specs.FinMap as map;
 ghost use Rattle.radix_pages.specs.Next.{IsNext, entry_copied};
 ghost use Rattle.gem_object.specs.Spelling.{IsSpelled};
@@ -9,6 +10,7 @@ use gem_object::{Object, Oid};
 use radix_pages::{Pages, Steps};
 use std::alloc::{AllocError, Global};
 use std::marker::Model;
+use std::sync::Arc;
 use std::sync::ledger::Ledger;
 
 /// Objects by their names. Contracts see the finite map from the numbers of the names to the
@@ -53,6 +55,15 @@ impl Image {
         ensures spelled { IfSome (option_copied result) IsSpelled }
     {
         self.pages.get(oid.number())
+    }
+
+    /// What `look` finds, with its owners counted: whoever clones it keeps the object, whatever
+    /// becomes of the image.
+    pub fn leaf(&self, oid: Oid) -> Option<&Arc<Object>>
+        ensures object { option_map arc_value (option_copied result) ≡ map.get self.now oid }
+        ensures spelled { IfSome (option_map arc_value (option_copied result)) IsSpelled }
+    {
+        self.pages.leaf(oid.number())
     }
 
     /// How many objects there are.

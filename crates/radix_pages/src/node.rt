@@ -1,5 +1,6 @@
 //! A node of the tree, to contracts a map of its own, and the look-up of a key in it.
-ghost use Rattle.std.specs.Prelude.{◌≡◌, ◌+◌, ◌*◌, ◌^◌, ◌<◌, ◌≤◌, IfOk, OnOk, OnErr, option_copied};
+ghost use Rattle.std.specs.Prelude.{◌≡◌, ◌+◌, ◌*◌, ◌^◌, ◌<◌, ◌≤◌, IfOk, OnOk, OnErr, option_map, option_copied};
+ghost use Rattle.std.specs.Arc.{arc_value};
 ghost use Rattle.std.specs.FinMap as map;
 ghost use Rattle.radix_pages.specs.Level.{level};
 
@@ -91,9 +92,9 @@ impl<T> Node<T> {
     }
 
     /// What stands at the key in this node and those below it.
-    pub(crate) fn get(&self, key: u64) -> Option<&T>
+    pub(crate) fn leaf(&self, key: u64) -> Option<&Arc<T>>
         requires { key < 2 ^ (self.now.bits * (self.now.height + 1)) }
-        ensures { option_copied result ≡ map.get self.now.map key }
+        ensures { option_map arc_value (option_copied result) ≡ map.get self.now.map key }
     {
         let mut node = self;
         let mut rest = key;
@@ -105,7 +106,7 @@ impl<T> Node<T> {
             }
             match &node.slots[at] {
                 Slot::Empty => return None,
-                Slot::Value(value) => return Some(&**value),
+                Slot::Value(value) => return Some(value),
                 Slot::Branch(below) => {
                     node = &**below;
                     rest = rest_of(rest, shift);

@@ -1,5 +1,6 @@
 //! The map: its root, and how many keys it has.
-ghost use Rattle.std.specs.Prelude.{◌≡◌, ◌+◌, ◌*◌, ◌^◌, ◌<◌, ◌≤◌, IfOk, OnOk, OnErr, option_copied};
+ghost use Rattle.std.specs.Prelude.{◌≡◌, ◌+◌, ◌*◌, ◌^◌, ◌<◌, ◌≤◌, IfOk, OnOk, OnErr, option_map, option_copied};
+ghost use Rattle.std.specs.Arc.{arc_value};
 ghost use Rattle.std.specs.FinMap as map;
 ghost use Rattle.radix_pages.specs.Next.{IsNext, entry_copied};
 
@@ -67,8 +68,20 @@ impl<T: Drop, const BITS: usize, const LEVELS: usize> Pages<T, BITS, LEVELS> {
     }
 
     /// The value at the key, if there is one; none at a key that is too large for the map.
+    #[inline(always)]
     pub fn get(&self, key: u64) -> Option<&T>
         ensures { option_copied result ≡ map.get self.now key }
+    {
+        match self.leaf(key) {
+            Some(value) => Some(&**value),
+            None => None,
+        }
+    }
+
+    /// What `get` finds, with its owners counted: whoever clones it keeps the value, whatever
+    /// becomes of the map.
+    pub fn leaf(&self, key: u64) -> Option<&Arc<T>>
+        ensures { option_map arc_value (option_copied result) ≡ map.get self.now key }
     {
         let root = &self.root;
         if !has_bits(key, (BITS * LEVELS) as u32) {
@@ -77,7 +90,7 @@ impl<T: Drop, const BITS: usize, const LEVELS: usize> Pages<T, BITS, LEVELS> {
         match root {
             Slot::Empty => None,
             Slot::Value(_) => unreachable!(),
-            Slot::Branch(node) => node.get(key),
+            Slot::Branch(node) => node.leaf(key),
         }
     }
 

@@ -5,7 +5,7 @@ use Rattle.radix_pages.specs.Level.{Level}
 use Rattle.radix_pages.specs.Node.{SlotTakes}
 use Rattle.radix_pages.proofs.Nexts.{read_fits, takes_rest}
 use Rattle.radix_pages.proofs.Slots.{found_view, none_view, rest_below}
-use Rattle.radix_pages.proofs.node.Node.get.Goals as goal
+use Rattle.radix_pages.proofs.node.Node.leaf.Goals as goal
 
 pub returns-then-at-len : goal.returns-then-at-len
 returns-then-at-len g c =
@@ -23,10 +23,9 @@ returns-in-Empty g c =
 pub returns-in-Value : goal.returns-in-Value
 returns-in-Value g c =
     let inner = c.node.inside in
-    ap Some c.deref.ensures
-    ∙ (found_view inner.bits inner.height inner.slots.items c.down.node.now c.node.view_is c.down.rest
+    found_view inner.bits inner.height inner.slots.items c.down.node.now c.node.view_is c.down.rest
     c.index.result.now _ c.down.invariant.0 (omega (arith, c.if-at-len.false, c.len.ensures)) c.index.ensures c.in-Value.is
-    ∙ c.down.invariant.1)
+    ∙ c.down.invariant.1
 
 pub down-preserved : goal.down-preserved
 down-preserved g c =

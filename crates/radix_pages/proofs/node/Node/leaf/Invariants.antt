@@ -1,6 +1,6 @@
 use Rattle.std.proofs.Common.{◌≡◌, ◌+◌, ◌*◌, ◌^◌, ◌<◌}
 use Rattle.std.specs.FinMap.{get}
-use Rattle.radix_pages.proofs.node.Node.get.Given as goal
+use Rattle.radix_pages.proofs.node.Node.leaf.Given as goal
 
 -- what the rest of the key finds in this node is what the key finds in the first one
 abbrev pub invariant-down : goal.invariant-down
