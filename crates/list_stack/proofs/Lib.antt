@@ -1,2 +1,3 @@
 mod Cuts
+mod Moving
 pub mod Grows

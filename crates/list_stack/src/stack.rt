@@ -1,6 +1,7 @@
 //! The stack.
-ghost use Rattle.std.specs.Prelude.{◌≡◌, ◌<◌, List, [], ◌∷◌, ◌++◌, length, take, set, suc, get_or, slice_get, option_copied, OnOk, OnErr};
+ghost use Rattle.std.specs.Prelude.{◌≡◌, ◌<◌, ◌≤◌, List, [], ◌∷◌, ◌++◌, length, take, set, suc, get_or, slice_get, option_copied, OnOk, OnErr};
 ghost use Rattle.list_stack.specs.Lists.{with_last};
+ghost use Rattle.list_stack.specs.Moves.{LeftOf, PoppedBy, MovedBy, OpenedBy};
 ghost use Rattle.list_stack.specs.Places.{Ascend, IsPlace};
 
 use std::alloc::{AllocError, Global};
@@ -82,6 +83,30 @@ impl<T: Drop> ListStack<T> {
         Ok(())
     }
 
+    /// Puts a new list on top, of so many items from the end of a `Vec`, which are taken from there.
+    ///
+    /// # Errors
+    ///
+    /// `AllocError` where memory ran out. The stack is as it was; of the items some may be lost.
+    pub fn open_taking(&mut self, from: &mut Vec<T>, count: usize) -> Result<(), AllocError>
+        requires { count ≤ length from.old.items }
+        ensures opened { OnOk result
+            (OpenedBy self.old from.old.items count self.new from.new.items) }
+        ensures unchanged { OnErr result (self.new ≡ self.old) }
+        ensures left { OnErr result (LeftOf from.old.items count from.new.items) }
+    {
+        let size = self.items.len();
+        if move_last(&mut self.items, from, count).is_err() {
+            self.items.truncate(size);
+            Err(AllocError)
+        } else if self.starts.push(size).is_err() {
+            self.items.truncate(size);
+            Err(AllocError)
+        } else {
+            Ok(())
+        }
+    }
+
     /// Adds an item at the end of the uppermost list.
     ///
     /// # Errors
@@ -151,4 +176,37 @@ fn end_of(starts: &[usize], size: usize, list: usize) -> usize
     } else {
         size
     }
+}
+
+/// Moves so many items from the end of a `Vec` to the end of another, in their order. Where it
+/// finds no memory some of them are lost.
+fn move_last<T: Drop>(to: &mut Vec<T>, from: &mut Vec<T>, count: usize) -> Result<(), AllocError>
+    requires { count ≤ length from.old.items }
+    ensures moved { OnOk result
+        (MovedBy to.old.items from.old.items count to.new.items from.new.items) }
+    ensures begins { take (length to.old.items) to.new.items ≡ to.old.items }
+    ensures left { OnErr result (LeftOf from.old.items count from.new.items) }
+{
+    let size = to.len();
+    pop_onto(to, from, count)?;
+    to[size..].reverse();
+    Ok(())
+}
+
+/// The same with the last one first.
+#[tactic(auto, using(crate::proofs::Moving::none_popped, crate::proofs::Moving::popped_begins))]
+fn pop_onto<T: Drop>(to: &mut Vec<T>, from: &mut Vec<T>, count: usize) -> Result<(), AllocError>
+    requires { count ≤ length from.old.items }
+    ensures popped { OnOk result
+        (PoppedBy to.old.items from.old.items count to.new.items from.new.items) }
+    ensures begins { take (length to.old.items) to.new.items ≡ to.old.items }
+    ensures left { OnErr result (LeftOf from.old.items count from.new.items) }
+{
+    for _item in 0..count {
+        let Some(item) = from.pop() else {
+            unreachable!()
+        };
+        to.push(item)?;
+    }
+    Ok(())
 }
