@@ -3,3 +3,4 @@ pub mod Looks
 pub mod Puts
 pub mod Slots
 pub mod Texts
+pub mod TextsSeen

@@ -83,15 +83,15 @@ fn call_text<O: Objects>(
         (O.seen objects.new) }
 {
     match number {
-        42 => text_size(alloc, objects, receiver, arguments),
-        43 => character(alloc, objects, receiver, arguments),
+        42 => text_size(objects, receiver, arguments),
+        43 => character(objects, receiver, arguments),
         44 => put_character(objects, receiver, arguments),
         45 => join(alloc, objects, receiver, arguments),
         46 => copy_text(alloc, objects, receiver, arguments),
         47 => as_symbol(alloc, objects, receiver, arguments),
         48 => as_string(alloc, objects, receiver, arguments),
-        49 => equals(alloc, objects, receiver, arguments),
-        50 => is_before(alloc, objects, receiver, arguments),
+        49 => equals(objects, receiver, arguments),
+        50 => is_before(objects, receiver, arguments),
         51 => as_integer(alloc, objects, receiver, arguments),
         _ => unreachable!(),
     }

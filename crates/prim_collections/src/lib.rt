@@ -12,6 +12,7 @@ mod integers;
 mod layout;
 mod lists;
 mod pairs;
+mod seen_texts;
 mod sequences;
 mod strings;
 

@@ -1,22 +1,25 @@
 //! The primitives 42 to 51, of Strings and Symbols.
-ghost use Rattle.std.specs.Prelude.{◌≡◌, ◌++◌, bytes_eq, slice_get, IfOk};
+ghost use Rattle.std.specs.Prelude.{◌≡◌, ◌++◌, ℕ, List, bytes_eq, slice_get, Ok, IfOk};
 ghost use Rattle.gem_object.specs.declared.value.Value.TheVariants as value;
 ghost use Rattle.object_programs.specs.Run.{and_then};
 ghost use Rattle.prim_rules.specs.Parts.{truth};
-ghost use Rattle.prim_rules.specs.Texts.{text_of_argument, new_string, integer_in};
+ghost use Rattle.prim_rules.specs.Texts.{integer_in};
 ghost use Rattle.prim_rules.specs.Strings.{is_symbol, is_before, number_or_nil, character_at_rule, character_put_rule, copy_text_rule, symbol_rule, has_bytes, equal_string, equal_rule, row_42, row_43, row_44, row_45, row_46, row_47, row_48, row_49, row_50, row_51};
 ghost use Rattle.prim_parts.specs.Does.{Computes, Does};
 ghost use Rattle.prim_collections.specs.Texts.{join_rule, before_rule};
+ghost use Rattle.prim_collections.specs.TextsSeen.{text_seen, text_or_fault};
 
 use crate::bodies::bytes_at;
 use crate::indexes::{part_of, place_in, size_of};
 use crate::integers::integer_in;
+use crate::seen_texts::{
+    is_string, new_string_of, read_argument, read_receiver, string_at, text_at,
+};
 use gem_object::{Oid, SYMBOL_LIMIT, Text, Value};
-use gem_sound::names::{STRING_CLASS, kernel_name};
 use object_programs::Fault;
 use prim_parts::{
-    character_in, int_in, is_kind_of, need, new_string, no_arguments, one_of, reference_in,
-    replace_byte, string_bytes, text_of_argument, text_of_receiver, truth, two_of,
+    character_in, int_in, need, no_arguments, one_of, reference_in, replace_byte, string_bytes,
+    text_of_receiver, truth, two_of,
 };
 use prim_rules::PrimitiveAnswer;
 use running_objects::{Objects, Stop};
@@ -25,7 +28,6 @@ use std::cmp::Ordering;
 
 /// 42, `size`.
 pub fn text_size<O: Objects>(
-    alloc: Global,
     objects: &mut O,
     receiver: &Value,
     arguments: &[Value],
@@ -34,13 +36,13 @@ pub fn text_size<O: Objects>(
         (O.seen objects.new) }
 {
     no_arguments(arguments)?;
-    let text = text_of_receiver(alloc, objects, receiver)?;
-    Ok(PrimitiveAnswer::Gives(size_of(text.bytes().len())?))
+    read_receiver(objects, receiver)?;
+    let text = text_at(objects, receiver)?;
+    Ok(PrimitiveAnswer::Gives(size_of(text.len())?))
 }
 
 /// 43, `at:`: the Character at an index.
 pub fn character<O: Objects>(
-    alloc: Global,
     objects: &mut O,
     receiver: &Value,
     arguments: &[Value],
@@ -49,8 +51,9 @@ pub fn character<O: Objects>(
         (O.seen objects.new) }
 {
     let index = one_of(arguments)?;
-    let text = text_of_receiver(alloc, objects, receiver)?;
-    Ok(PrimitiveAnswer::Gives(character_at(text.bytes(), index)?))
+    read_receiver(objects, receiver)?;
+    let text = text_at(objects, receiver)?;
+    Ok(PrimitiveAnswer::Gives(character_at(text, index)?))
 }
 
 // The Character at an index of a text.
@@ -112,31 +115,37 @@ pub fn join<O: Objects>(
         (O.seen objects.new) }
 {
     let argument = one_of(arguments)?;
-    let text = text_of_receiver(alloc, objects, receiver)?;
-    Ok(PrimitiveAnswer::Gives(joined(alloc, objects, &text, argument)?))
+    read_receiver(objects, receiver)?;
+    text_at(objects, receiver)?;
+    Ok(PrimitiveAnswer::Gives(joined(alloc, objects, receiver, argument)?))
 }
 
+// A new String of the text of the receiver, which was read, and of that of the argument.
 fn joined<O: Objects>(
     alloc: Global,
     objects: &mut O,
-    text: &Text,
+    receiver: &Value,
     argument: &Value,
 ) -> Result<Value, Stop>
-    ensures { Does (join_rule text.now argument.now) (O.seen objects.old) result
-        (O.seen objects.new) }
+    ensures { (text : List ℕ)
+        → Ok text ≡ text_or_fault (text_seen receiver.now (O.seen objects.old))
+        → Does (join_rule text argument.now) (O.seen objects.old) result (O.seen objects.new) }
 {
-    let other = text_of_argument(alloc, objects, argument)?;
-    let both = both_texts(alloc, text.bytes(), other.bytes())?;
-    new_string(alloc, objects, both)
+    read_argument(objects, argument)?;
+    let first = text_at(objects, receiver)?;
+    let second = text_at(objects, argument)?;
+    let both = joined_bytes(alloc, first, second)?;
+    new_string_of(alloc, objects, both)
 }
 
-// The first text and then the second one.
-fn both_texts(alloc: Global, first: &[u8], second: &[u8]) -> Result<Text, AllocError>
-    ensures { IfOk result (λ text. text ≡ first.now ++ second.now) }
+// The first bytes and then the second ones, in a list of just their size.
+fn joined_bytes(alloc: Global, first: &[u8], second: &[u8]) -> Result<Vec<u8>, AllocError>
+    ensures { IfOk result (λ bytes. bytes.items ≡ first.now ++ second.now) }
 {
-    let mut bytes = first.to_vec(alloc)?;
+    let mut bytes = Vec::with_capacity(alloc, first.len() + second.len())?;
+    bytes.extend_from_slice(first)?;
     bytes.extend_from_slice(second)?;
-    Ok(Text::of(bytes))
+    Ok(bytes)
 }
 
 /// 46, `copyFrom:to:`: a new String of the Characters from one index to the other.
@@ -150,24 +159,36 @@ pub fn copy_text<O: Objects>(
         (O.seen objects.new) }
 {
     let (from, to) = two_of(arguments)?;
-    let text = text_of_receiver(alloc, objects, receiver)?;
-    Ok(PrimitiveAnswer::Gives(text_part(alloc, objects, text.bytes(), from, to)?))
+    read_receiver(objects, receiver)?;
+    text_at(objects, receiver)?;
+    Ok(PrimitiveAnswer::Gives(part_copied(alloc, objects, receiver, from, to)?))
 }
 
-fn text_part<O: Objects>(
+// A new String of the part of the text of the receiver, which was read.
+fn part_copied<O: Objects>(
     alloc: Global,
     objects: &mut O,
-    text: &[u8],
+    receiver: &Value,
     from: &Value,
     to: &Value,
 ) -> Result<Value, Stop>
-    ensures { Does (copy_text_rule text.now from.now to.now) (O.seen objects.old) result
+    ensures { (text : List ℕ)
+        → Ok text ≡ text_or_fault (text_seen receiver.now (O.seen objects.old))
+        → Does (copy_text_rule text from.now to.now) (O.seen objects.old) result
         (O.seen objects.new) }
 {
     let first = int_in(from)?;
     let last = int_in(to)?;
+    let text = text_at(objects, receiver)?;
     let part = part_of(text, first, last)?;
-    new_string(alloc, objects, Text::copy_of(alloc, part)?)
+    let bytes = copy_of(alloc, part)?;
+    new_string_of(alloc, objects, bytes)
+}
+
+fn copy_of(alloc: Global, text: &[u8]) -> Result<Vec<u8>, AllocError>
+    ensures { IfOk result (λ bytes. bytes.items ≡ text.now) }
+{
+    text.to_vec(alloc)
 }
 
 /// 47, `asSymbol`: E5 where the text is too long for a Symbol.
@@ -205,13 +226,13 @@ pub fn as_string<O: Objects>(
         (O.seen objects.new) }
 {
     no_arguments(arguments)?;
-    let text = text_of_receiver(alloc, objects, receiver)?;
-    Ok(PrimitiveAnswer::Gives(new_string(alloc, objects, text)?))
+    read_receiver(objects, receiver)?;
+    let bytes = copy_of(alloc, text_at(objects, receiver)?)?;
+    Ok(PrimitiveAnswer::Gives(new_string_of(alloc, objects, bytes)?))
 }
 
 /// 49, `=`: for a String a String with the same bytes, for a Symbol the same Symbol.
 pub fn equals<O: Objects>(
-    alloc: Global,
     objects: &mut O,
     receiver: &Value,
     arguments: &[Value],
@@ -220,21 +241,16 @@ pub fn equals<O: Objects>(
         (O.seen objects.new) }
 {
     let argument = one_of(arguments)?;
-    Ok(PrimitiveAnswer::Gives(is_equal(alloc, objects, receiver, argument)?))
+    Ok(PrimitiveAnswer::Gives(is_equal(objects, receiver, argument)?))
 }
 
-fn is_equal<O: Objects>(
-    alloc: Global,
-    objects: &mut O,
-    receiver: &Value,
-    argument: &Value,
-) -> Result<Value, Stop>
+fn is_equal<O: Objects>(objects: &mut O, receiver: &Value, argument: &Value) -> Result<Value, Stop>
     ensures { Does (equal_rule receiver.now argument.now) (O.seen objects.old) result
         (O.seen objects.new) }
 {
     match receiver {
         Value::Sym(name) => Ok(truth(is_symbol(name, argument))),
-        Value::Ref(name) => is_equal_string(alloc, objects, *name, argument),
+        Value::Ref(name) => is_equal_string(objects, *name, argument),
         _ => Err(Stop::Fails(Fault::ArgumentKind)),
     }
 }
@@ -249,61 +265,42 @@ fn is_symbol(name: &Text, value: &Value) -> bool
     }
 }
 
-fn is_equal_string<O: Objects>(
-    alloc: Global,
-    objects: &mut O,
-    name: Oid,
-    argument: &Value,
-) -> Result<Value, Stop>
+fn is_equal_string<O: Objects>(objects: &mut O, name: Oid, argument: &Value) -> Result<Value, Stop>
     ensures { Does (equal_rule (value.Ref name) argument.now) (O.seen objects.old) result
         (O.seen objects.new) }
 {
-    let text = string_bytes(alloc, objects, name)?;
-    equal_string(alloc, objects, &text, argument)
+    objects.read(name)?;
+    string_at(objects, name)?;
+    let Some(other) = argument.reference() else {
+        return Ok(Value::False);
+    };
+    is_string_of(objects, name, other)
 }
 
-fn equal_string<O: Objects>(
-    alloc: Global,
-    objects: &mut O,
-    text: &Text,
-    argument: &Value,
-) -> Result<Value, Stop>
-    ensures { Does (equal_string text.now argument.now) (O.seen objects.old) result
+// Whether the object of the other name is a String with the bytes of this one, which was read. Only
+// a String is read.
+fn is_string_of<O: Objects>(objects: &mut O, name: Oid, other: Oid) -> Result<Value, Stop>
+    ensures { (text : List ℕ)
+        → Ok text ≡ text_or_fault (text_seen (value.Ref name) (O.seen objects.old))
+        → Does (equal_string text (value.Ref other)) (O.seen objects.old) result
         (O.seen objects.new) }
 {
-    match argument {
-        Value::Ref(name) => is_string_of(alloc, objects, text, *name),
-        _ => Ok(Value::False),
-    }
-}
-
-// Whether the object of this name is a String with these bytes. Only a String is read.
-fn is_string_of<O: Objects>(
-    alloc: Global,
-    objects: &mut O,
-    text: &Text,
-    name: Oid,
-) -> Result<Value, Stop>
-    ensures { Does (equal_string text.now (value.Ref name)) (O.seen objects.old) result
-        (O.seen objects.new) }
-{
-    let is_string = is_kind_of(objects, &Value::Ref(name), kernel_name(STRING_CLASS))?;
-    if is_string {
-        return has_bytes(alloc, objects, text, name);
+    let is_one = is_string(objects, other)?;
+    if is_one {
+        return has_bytes(objects, name, other);
     }
     Ok(Value::False)
 }
 
-fn has_bytes<O: Objects>(
-    alloc: Global,
-    objects: &mut O,
-    text: &Text,
-    name: Oid,
-) -> Result<Value, Stop>
-    ensures { Does (has_bytes text.now name) (O.seen objects.old) result (O.seen objects.new) }
+fn has_bytes<O: Objects>(objects: &mut O, name: Oid, other: Oid) -> Result<Value, Stop>
+    ensures { (text : List ℕ)
+        → Ok text ≡ text_or_fault (text_seen (value.Ref name) (O.seen objects.old))
+        → Does (has_bytes text other) (O.seen objects.old) result (O.seen objects.new) }
 {
-    let other = string_bytes(alloc, objects, name)?;
-    Ok(truth(same_bytes(text.bytes(), other.bytes())))
+    objects.read(other)?;
+    let first = string_at(objects, name)?;
+    let second = string_at(objects, other)?;
+    Ok(truth(same_bytes(first, second)))
 }
 
 fn same_bytes(first: &[u8], second: &[u8]) -> bool
@@ -314,7 +311,6 @@ fn same_bytes(first: &[u8], second: &[u8]) -> bool
 
 /// 50, `<`: the order by bytes.
 pub fn is_before<O: Objects>(
-    alloc: Global,
     objects: &mut O,
     receiver: &Value,
     arguments: &[Value],
@@ -323,21 +319,22 @@ pub fn is_before<O: Objects>(
         (O.seen objects.new) }
 {
     let argument = one_of(arguments)?;
-    let text = text_of_receiver(alloc, objects, receiver)?;
-    Ok(PrimitiveAnswer::Gives(before(alloc, objects, &text, argument)?))
+    read_receiver(objects, receiver)?;
+    text_at(objects, receiver)?;
+    Ok(PrimitiveAnswer::Gives(before(objects, receiver, argument)?))
 }
 
-fn before<O: Objects>(
-    alloc: Global,
-    objects: &mut O,
-    text: &Text,
-    argument: &Value,
-) -> Result<Value, Stop>
-    ensures { Does (before_rule text.now argument.now) (O.seen objects.old) result
+// Whether the text of the receiver, which was read, is before that of the argument.
+fn before<O: Objects>(objects: &mut O, receiver: &Value, argument: &Value) -> Result<Value, Stop>
+    ensures { (text : List ℕ)
+        → Ok text ≡ text_or_fault (text_seen receiver.now (O.seen objects.old))
+        → Does (before_rule text argument.now) (O.seen objects.old) result
         (O.seen objects.new) }
 {
-    let other = text_of_argument(alloc, objects, argument)?;
-    Ok(truth(is_less(text.bytes(), other.bytes())))
+    read_argument(objects, argument)?;
+    let first = text_at(objects, receiver)?;
+    let second = text_at(objects, argument)?;
+    Ok(truth(is_less(first, second)))
 }
 
 fn is_less(first: &[u8], second: &[u8]) -> bool

@@ -1,5 +1,7 @@
-use Rattle.prim_parts.proofs.Does.{does_then, does_stop, does_give, computes_then, computes_stop}
 use Rattle.std.proofs.lemmas.Result.{err_from_is_err_and}
+use Rattle.prim_rules.specs.Texts.{text_of_receiver}
+use Rattle.prim_parts.proofs.Does.{does_then, does_stop, does_give, computes_then, computes_stop}
+use Rattle.prim_collections.proofs.TextsRead.{text_told}
 use Rattle.prim_collections.proofs.strings.as_string.Goals as goal
 
 pub returns-in_err-no_arguments : goal.returns-in_err-no_arguments
@@ -7,18 +9,28 @@ returns-in_err-no_arguments g c =
     let p = err_from_is_err_and c.from_residual.result c.from_residual.ensures.1 in
     rw (p.1, p.2) (computes_stop _ c.in_err-no_arguments.ensures)
 
-pub returns-in_err-text : goal.returns-in_err-text
-returns-in_err-text g c =
-    let p = err_from_is_err_and c.from_residual-in_err-text.result c.from_residual-in_err-text.ensures.1 in
-    rw (p.1, p.2) (computes_then c.in_ok-no_arguments.ensures (does_stop c.in_err-text.ensures))
+pub returns-in_err-read_receiver : goal.returns-in_err-read_receiver
+returns-in_err-read_receiver g c =
+    let p = err_from_is_err_and c.from_residual-in_err-read_receiver.result
+    c.from_residual-in_err-read_receiver.ensures.1 in
+    rw (p.1, p.2) (computes_then c.in_ok-no_arguments.ensures (does_stop c.in_err-read_receiver.ensures))
 
-pub returns-in_err-new_string : goal.returns-in_err-new_string
-returns-in_err-new_string g c =
-    let p = err_from_is_err_and c.from_residual-in_err-new_string.result c.from_residual-in_err-new_string.ensures.1 in
-    rw (p.1, p.2) (computes_then c.in_ok-no_arguments.ensures (does_then c.in_ok-text.ensures (does_stop
-    c.in_err-new_string.ensures)))
+pub returns-in_err-text_at : goal.returns-in_err-text_at
+returns-in_err-text_at g c =
+    let p = err_from_is_err_and c.from_residual-in_err-text_at.result c.from_residual-in_err-text_at.ensures.1 in
+    rw (p.1, p.2) (computes_then c.in_ok-no_arguments.ensures (does_stop (text_told (text_of_receiver c.args.receiver.now) c.args.receiver.now (g.O.Objects.seen c.args.objects.now)
+    (g.O.Objects.seen c.read_receiver.new.objects) _ c.in_ok-read_receiver.ensures c.in_err-text_at.ensures)))
+
+pub returns-in_err-new_string_of : goal.returns-in_err-new_string_of
+returns-in_err-new_string_of g c =
+    let p = err_from_is_err_and c.from_residual-in_err-new_string_of.result
+    c.from_residual-in_err-new_string_of.ensures.1 in
+    rw (p.1, p.2) (computes_then c.in_ok-no_arguments.ensures (does_then (text_told (text_of_receiver c.args.receiver.now) c.args.receiver.now (g.O.Objects.seen c.args.objects.now)
+    (g.O.Objects.seen c.read_receiver.new.objects) _ c.in_ok-read_receiver.ensures c.in_ok-text_at.ensures)
+    (does_stop (rw c.in_ok-bytes.ensures at c.in_err-new_string_of.ensures))))
 
 pub returns : goal.returns
 returns g c =
-    computes_then c.in_ok-no_arguments.ensures (does_then c.in_ok-text.ensures (does_then c.in_ok-new_string.ensures
-    (does_give _ _)))
+    computes_then c.in_ok-no_arguments.ensures (does_then (text_told (text_of_receiver c.args.receiver.now) c.args.receiver.now (g.O.Objects.seen c.args.objects.now)
+    (g.O.Objects.seen c.read_receiver.new.objects) _ c.in_ok-read_receiver.ensures c.in_ok-text_at.ensures)
+    (does_then (rw c.in_ok-bytes.ensures at c.in_ok-new_string_of.ensures) (does_give _ _)))

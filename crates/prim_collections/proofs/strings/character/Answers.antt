@@ -1,5 +1,7 @@
-use Rattle.prim_parts.proofs.Does.{does_then, does_stop, does_give, does_compute, computes_then, computes_stop}
 use Rattle.std.proofs.lemmas.Result.{err_from_is_err_and}
+use Rattle.prim_rules.specs.Texts.{text_of_receiver}
+use Rattle.prim_parts.proofs.Does.{does_then, does_stop, does_give, does_compute, computes_then, computes_stop}
+use Rattle.prim_collections.proofs.TextsRead.{text_told}
 use Rattle.prim_collections.proofs.strings.character.Goals as goal
 
 pub returns-in_err-index : goal.returns-in_err-index
@@ -7,18 +9,27 @@ returns-in_err-index g c =
     let p = err_from_is_err_and c.from_residual.result c.from_residual.ensures.1 in
     rw (p.1, p.2) (computes_stop _ c.in_err-index.ensures)
 
+pub returns-in_err-read_receiver : goal.returns-in_err-read_receiver
+returns-in_err-read_receiver g c =
+    let p = err_from_is_err_and c.from_residual-in_err-read_receiver.result
+    c.from_residual-in_err-read_receiver.ensures.1 in
+    rw (p.1, p.2) (computes_then c.in_ok-index.ensures (does_stop c.in_err-read_receiver.ensures))
+
 pub returns-in_err-text : goal.returns-in_err-text
 returns-in_err-text g c =
     let p = err_from_is_err_and c.from_residual-in_err-text.result c.from_residual-in_err-text.ensures.1 in
-    rw (p.1, p.2) (computes_then c.in_ok-index.ensures (does_stop c.in_err-text.ensures))
+    rw (p.1, p.2) (computes_then c.in_ok-index.ensures (does_stop (text_told (text_of_receiver c.args.receiver.now) c.args.receiver.now (g.O.Objects.seen c.args.objects.now)
+    (g.O.Objects.seen c.read_receiver.new.objects) _ c.in_ok-read_receiver.ensures c.in_err-text.ensures)))
 
 pub returns-in_err-character_at : goal.returns-in_err-character_at
 returns-in_err-character_at g c =
     let p = err_from_is_err_and c.from_residual-in_err-character_at.result c.from_residual-in_err-character_at.ensures.1 in
-    rw (p.1, p.2) (computes_then c.in_ok-index.ensures (does_then c.in_ok-text.ensures (does_stop (does_compute _ (rw
-    c.bytes.ensures at c.in_err-character_at.ensures)))))
+    rw (p.1, p.2) (computes_then c.in_ok-index.ensures (does_then (text_told (text_of_receiver c.args.receiver.now) c.args.receiver.now (g.O.Objects.seen c.args.objects.now)
+    (g.O.Objects.seen c.read_receiver.new.objects) _ c.in_ok-read_receiver.ensures c.in_ok-text.ensures)
+    (does_stop (does_compute _ c.in_err-character_at.ensures))))
 
 pub returns : goal.returns
 returns g c =
-    computes_then c.in_ok-index.ensures (does_then c.in_ok-text.ensures (does_then (does_compute _ (rw c.bytes.ensures at
-    c.in_ok-character_at.ensures)) (does_give _ _)))
+    computes_then c.in_ok-index.ensures (does_then (text_told (text_of_receiver c.args.receiver.now) c.args.receiver.now (g.O.Objects.seen c.args.objects.now)
+    (g.O.Objects.seen c.read_receiver.new.objects) _ c.in_ok-read_receiver.ensures c.in_ok-text.ensures)
+    (does_then (does_compute _ c.in_ok-character_at.ensures) (does_give _ _)))
