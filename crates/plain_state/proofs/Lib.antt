@@ -18,3 +18,4 @@ mod OneStep
 pub mod Listing
 mod Grouping
 mod Costs
+mod AtHand

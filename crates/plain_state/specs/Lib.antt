@@ -1,3 +1,4 @@
+pub mod AtHand
 pub mod Classes
 pub mod Edit
 pub mod Keys

@@ -99,7 +99,7 @@ impl PlainState {
     pub fn view(&self) -> Result<Image, AllocError>
         ensures { IfOk result (λ image. image ≡ self.now.seen.setting.view) }
     {
-        self.parts.view.share()
+        self.parts.shown.view().share()
     }
 
     /// Whether the object of this name is an ordinary one, or was made here. It takes no memory,

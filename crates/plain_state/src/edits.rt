@@ -26,7 +26,7 @@ impl Parts {
         ensures { result ≡ holds_of (λ object. nat_lt at (plain_slots object.body))
             (get self.now.seen.world.changes oid) }
     {
-        match self.changes.look(oid.number()) {
+        match self.shown.changed(oid.number()) {
             Some(object) => at < object.body.plain_slots(),
             None => false,
         }
@@ -81,7 +81,7 @@ impl Parts {
             (self.new.seen ≡ edited_in oid (edited_by edit) self.old.seen) }
         ensures unchanged { OnErr result (self.new.seen ≡ self.old.seen) }
     {
-        self.changes.edit(oid.number(), edit)
+        self.shown.edit(oid.number(), edit)
     }
 
     /// Puts a value in a slot.
@@ -105,7 +105,7 @@ impl Parts {
         ensures { result ≡ holds_of (λ object. nat_lt at (body_bytes object.body))
             (get self.now.seen.world.changes oid) }
     {
-        match self.changes.look(oid.number()) {
+        match self.shown.changed(oid.number()) {
             Some(object) => at < object.body.byte_count(),
             None => false,
         }
@@ -130,7 +130,7 @@ impl Parts {
     fn slots_at(&self, oid: Oid) -> Option<(Oid, usize)>
         ensures { result ≡ slots_in (get self.now.seen.world.changes oid) }
     {
-        let object = self.changes.look(oid.number())?;
+        let object = self.shown.changed(oid.number())?;
         match &object.body {
             Body::Plain(values) => Some((object.class, values.len())),
             _ => None,
@@ -188,7 +188,7 @@ impl Parts {
         ensures { result ≡ holds_of (λ object. has_pairs object.body)
             (get self.now.seen.world.changes oid) }
     {
-        let Some(object) = self.changes.look(oid.number()) else {
+        let Some(object) = self.shown.changed(oid.number()) else {
             return false;
         };
         match &object.body {

@@ -2,6 +2,8 @@
 //! the Stone and of other sessions. Its tests stand in `running_tests`.
 #![tactic(auto)]
 
+mod at_hand;
+mod before;
 mod calls;
 mod classes;
 mod direct;
@@ -18,6 +20,7 @@ mod overlay;
 mod pairs;
 mod parts;
 mod puts;
+mod shown;
 mod state;
 mod updates;
 mod writes;

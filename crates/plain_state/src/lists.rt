@@ -37,7 +37,7 @@ impl PlainState {
         ensures { IfOk result (λ objects. objects.items
             ≡ all_uncommitted (written_objects self.now.seen.setting self.now.seen.world)) }
     {
-        let names = self.parts.changes.names()?;
+        let names = self.parts.shown.changes().names()?;
         choose(&self.parts, &names, false)
     }
 
@@ -50,7 +50,7 @@ impl PlainState {
         ensures { IfOk result (λ objects. objects.items
             ≡ all_uncommitted (made_objects self.now.seen.setting self.now.seen.world)) }
     {
-        let names = self.parts.changes.names()?;
+        let names = self.parts.shown.changes().names()?;
         choose(&self.parts, &names, true)
     }
 
@@ -90,7 +90,7 @@ impl Parts {
     fn chosen(&self, oid: Oid, made: bool) -> Result<Option<Object>, AllocError>
         ensures { IfOk result (λ object. object ≡ chosen made self.now.seen oid) }
     {
-        let Some(object) = self.changes.look(oid.number()) else {
+        let Some(object) = self.shown.changed(oid.number()) else {
             return Ok(None);
         };
         if !is_chosen(made, self.is_made(oid), object) {

@@ -45,7 +45,7 @@ impl Parts {
         ensures unchanged { OnErr result (self.new.seen ≡ self.old.seen) }
     {
         let (count, cost) = (objects.len() as u32, objects_cost(&objects));
-        self.changes.put_all(first.number(), objects)?;
+        self.shown.put_all(first.number(), objects)?;
         self.next += count;
         self.slots -= cost;
         Ok(())

@@ -35,7 +35,7 @@ impl Parts {
             && is_segment_at (fixed_by self.now.seen.setting self.now.seen.world) segment)
             (get self.now.seen.world.changes oid) }
     {
-        match self.changes.look(oid.number()) {
+        match self.shown.changed(oid.number()) {
             Some(object) => {
                 (self.is_made(oid) || !object.body.is_shared()) && self.is_segment(segment)
             }
@@ -48,7 +48,7 @@ impl Parts {
         requires { IsSoundState self.old.seen }
         ensures { Acted (Move oid segment) self.old.seen result self.new.seen }
     {
-        if !self.changes.has(oid.number()) {
+        if !self.shown.has(oid.number()) {
             return Ok(());
         }
         if self.may_move(oid, segment) {

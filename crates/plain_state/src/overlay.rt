@@ -1,5 +1,5 @@
 //! What a transaction has changed.
-ghost use Rattle.std.specs.Prelude.{◌≡◌, ◌≤◌, ◌+◌, ◌^◌, length, option_map, option_copied, is_some, IfOk, OnOk, OnErr};
+ghost use Rattle.std.specs.Prelude.{◌≡◌, ◌≤◌, ◌+◌, ◌^◌, length, option_map, option_copied, is_some, IfSome, IfOk, OnOk, OnErr, Some};
 ghost use Rattle.std.specs.FinMap as map;
 ghost use Rattle.gem_image.specs.Image.{contents_of};
 ghost use Rattle.plain_state.specs.Edit.{edited_by};
@@ -58,6 +58,43 @@ impl Overlay {
         Some(self.entries.get(&number)?.object())
     }
 
+    /// The object of this name, if it stands at this place.
+    #[inline(always)]
+    pub(crate) fn at(&self, at: usize, number: u64) -> Option<&Object>
+        ensures { IfSome (option_copied result) (λ object.
+            map.get self.now number ≡ Some (contents_of object)) }
+    {
+        let (key, entry) = self.entries.get_index(at)?;
+        if *key == number {
+            Some(entry.object())
+        } else {
+            None
+        }
+    }
+
+    /// The object of this name, if there is one; it mostly stands at this place.
+    #[inline(always)]
+    pub(crate) fn look_near(&self, at: usize, number: u64) -> Option<&Object>
+        ensures { option_map contents_of (option_copied result) ≡ map.get self.now number }
+    {
+        match self.at(at, number) {
+            Some(object) => Some(object),
+            None => self.look(number),
+        }
+    }
+
+    /// The place of the object of this name, if there is one.
+    pub(crate) fn place(&self, number: u64) -> Option<usize>
+        ensures { is_some result ≡ is_some (map.get self.now number) }
+    {
+        self.entries.get_index_of(&number)
+    }
+
+    /// How many objects there are: the place of the next one.
+    pub(crate) fn count(&self) -> usize {
+        self.entries.len()
+    }
+
     /// The bytes that the fields of this name's object take where it is stored, if there is one.
     /// They are known without a look at the contents.
     pub(crate) fn stored_bytes(&self, number: u64) -> Option<u64>
@@ -73,17 +110,17 @@ impl Overlay {
         self.look(number).is_some()
     }
 
-    /// Puts an object at this name.
+    /// Puts an object at this name, and tells the place where it stands.
     ///
     /// # Errors
     ///
     /// `AllocError` where memory ran out. All is as before.
-    pub(crate) fn put(&mut self, number: u64, object: Object) -> Result<(), AllocError>
+    pub(crate) fn put(&mut self, number: u64, object: Object) -> Result<usize, AllocError>
         ensures put { OnOk result (self.new ≡ map.insert self.old number (contents_of object)) }
         ensures unchanged { OnErr result (self.new ≡ self.old) }
     {
-        self.entries.insert(number, Entry::new(object))?;
-        Ok(())
+        let placed = self.entries.insert_full(number, Entry::new(object))?;
+        Ok(placed.0)
     }
 
     /// Puts objects at this name and at those after it.

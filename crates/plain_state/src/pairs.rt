@@ -37,7 +37,7 @@ impl Parts {
             (fixed_by self.now.seen.setting self.now.seen.world) key.now value.now object.body)
             (get self.now.seen.world.changes oid) }
     {
-        let Some(object) = self.changes.look(oid.number()) else {
+        let Some(object) = self.shown.changed(oid.number()) else {
             return false;
         };
         self.may_enter(key)

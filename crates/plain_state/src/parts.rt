@@ -1,16 +1,16 @@
 //! The parts of a plain state, without the claim that its objects are sound.
 ghost use Rattle.std.specs.Prelude.{◌≡◌, ◌≤◌, ◌+◌, option_map, option_copied, is_some, OnOk, OnErr};
 ghost use Rattle.indexmap.specs.IndexSet.{spare};
-ghost use Rattle.gem_image.specs.Image.{contents_of, objects_in};
+ghost use Rattle.gem_image.specs.Image.{contents_of};
 ghost use Rattle.gem_image.specs.Rights.{rights_at, groups_at, right_in, right_on, right_on_segment};
-ghost use Rattle.gem_world.specs.World.{shown_objects, as_of, are_shared, is_made, is_private, with_name};
+ghost use Rattle.gem_world.specs.World.{shown_objects, is_made, is_private, with_name};
 ghost use Rattle.gem_world.specs.Access.{a_read, a_write, right_at, is_allowed};
 ghost use Rattle.running_objects.specs.Seen.{object_at, with_whole_budget};
 ghost use Rattle.running_objects.specs.Acted.{stored_bytes};
 ghost use Rattle.plain_state.specs.Parts.{touched, missed, asked, held};
 
-use crate::overlay::Overlay;
-use gem_image::{Image, groups_of, right_on_segment, rights_of};
+use crate::shown::Shown;
+use gem_image::{groups_of, right_on_segment, rights_of};
 use gem_object::{Body, Object, Oid, Right, Rights, Text, may_read, may_write};
 use gem_update::Update;
 use indexmap::IndexSet;
@@ -18,16 +18,17 @@ use object_programs::{SPACE_LIMIT, UNIT_LIMIT};
 use std::alloc::{AllocError, Global};
 use std::marker::Model;
 
+/// Of how many classes above one that is read it is kept where they stand.
+const CLASSES: usize = 8;
+
 /// A state: what it began with, what has become of the objects, and what is left.
 #[derive(Drop)]
 pub(crate) struct Parts {
-    pub(crate) place: Image,
-    pub(crate) view: Image,
+    pub(crate) shown: Shown,
     pub(crate) user: Oid,
     pub(crate) serial: u32,
     pub(crate) first: u32,
     pub(crate) next: u32,
-    pub(crate) changes: Overlay,
     pub(crate) updates: Vec<(Oid, Update)>,
     pub(crate) touched: IndexSet<u64>,
     pub(crate) units: u64,
@@ -51,15 +52,15 @@ impl Model for Parts {
     ghost view = { λ parts. record {
       seen = record {
         setting = record {
-          place = parts.place;
-          view = parts.view;
+          place = parts.shown.place;
+          view = parts.shown.view;
           user = parts.user;
           serial = parts.serial;
           first = parts.first;
         };
         world = record {
           next = parts.next;
-          changes = parts.changes;
+          changes = parts.shown.changes;
           updates = parts.updates.items;
           touched = parts.touched.keys;
         };
@@ -75,10 +76,43 @@ impl Parts {
     pub(crate) fn look(&self, oid: Oid) -> Option<&Object>
         ensures { option_map contents_of (option_copied result) ≡ object_at oid self.now.seen }
     {
-        match self.changes.look(oid.number()) {
-            Some(object) => Some(object),
-            None => object_before(&self.place, &self.view, oid),
+        self.shown.look(oid)
+    }
+
+    /// Keeps at hand what an access of the object of this name asks for: the object, its segment
+    /// and the profile of the user, and of a class those above it.
+    pub(crate) fn bring(&mut self, oid: Oid)
+        ensures { self.new ≡ self.old }
+    {
+        self.shown.bring(oid);
+        let Some(object) = self.shown.look(oid) else {
+            return;
+        };
+        let (segment, user, above) = (object.segment, self.user, superclass_of(&object.body));
+        self.shown.bring(segment);
+        self.shown.bring(user);
+        self.bring_classes(above);
+    }
+
+    // Keeps the classes from this one up at hand.
+    fn bring_classes(&mut self, class: Option<Oid>)
+        ensures { self.new ≡ self.old }
+    {
+        let mut above = class;
+        for _ in 0..CLASSES {
+            let Some(name) = above else {
+                return;
+            };
+            above = self.bring_class(name);
         }
+    }
+
+    // Keeps a class at hand; its superclass, if it has one.
+    fn bring_class(&mut self, class: Oid) -> Option<Oid>
+        ensures { self.new ≡ self.old }
+    {
+        self.shown.bring(class);
+        superclass_of(&self.shown.look(class)?.body)
     }
 
     /// The name of the user.
@@ -93,10 +127,10 @@ impl Parts {
     pub(crate) fn stored_bytes(&self, oid: Oid) -> Option<u64>
         ensures { result ≡ option_map stored_bytes (object_at oid self.now.seen) }
     {
-        match self.changes.stored_bytes(oid.number()) {
+        match self.shown.stored_bytes(oid.number()) {
             Some(bytes) => Some(bytes),
             None => {
-                let object = object_before(&self.place, &self.view, oid)?;
+                let object = self.shown.before(oid)?;
                 Some(object.body.size())
             }
         }
@@ -126,7 +160,7 @@ impl Parts {
         let start = (self.serial as u64) * (1 << 24);
         start + (self.first as u64) <= oid.number()
             && oid.number() < start + (self.next as u64)
-            && self.changes.has(oid.number())
+            && self.shown.has(oid.number())
     }
 
     /// Whether no touch of the name is recorded.
@@ -134,7 +168,7 @@ impl Parts {
     fn is_private(&self, oid: Oid) -> bool
         ensures { result ≡ is_private oid self.now.seen.setting self.now.seen.world }
     {
-        self.is_made(oid) || are_shared(&self.place, &self.view, oid)
+        self.is_made(oid) || self.shown.are_shared(oid)
     }
 
     /// Makes room, so that so many names can be touched without memory.
@@ -209,17 +243,17 @@ impl Parts {
         ensures held { OnOk result (self.new.seen ≡ held oid self.old.seen) }
         ensures unchanged { OnErr result (self.new.seen ≡ self.old.seen) }
     {
-        if self.changes.has(oid.number()) {
+        if self.shown.has(oid.number()) {
             return Ok(());
         }
-        let Some(object) = object_before(&self.place, &self.view, oid) else {
+        let Some(object) = self.shown.before(oid) else {
             return Ok(());
         };
         if object.body.is_shared() {
             return Ok(());
         }
         let copy = object.clone()?;
-        self.changes.put(oid.number(), copy)
+        self.shown.put(oid.number(), copy)
     }
 
     /// Whether the user may read the object of this name.
@@ -282,6 +316,14 @@ impl Parts {
     }
 }
 
+// The superclass, if the body is that of a class that has one.
+fn superclass_of(body: &Body) -> Option<Oid> {
+    match body {
+        Body::Class(class) => class.superclass,
+        _ => None,
+    }
+}
+
 // Adds a name that may be there, where there is room for it.
 fn add_name(touched: &mut IndexSet<u64>, name: u64)
     requires { 1 ≤ spare touched.old }
@@ -291,29 +333,4 @@ fn add_name(touched: &mut IndexSet<u64>, name: u64)
     let Ok(_) = touched.insert(name) else {
         unreachable!()
     };
-}
-
-/// The object of this name before anything was changed: a reduced-conflict one as of the view, any
-/// other as of the place.
-pub(crate) fn object_before<'a>(place: &'a Image, view: &'a Image, oid: Oid) -> Option<&'a Object>
-    ensures { option_map contents_of (option_copied result)
-        ≡ as_of (objects_in place.now oid) (objects_in view.now oid) }
-{
-    let object = place.look(oid)?;
-    if object.body.is_shared() {
-        if let Some(viewed) = view.look(oid) {
-            return Some(viewed);
-        }
-    }
-    Some(object)
-}
-
-/// Whether both have an object of this name, a reduced-conflict one.
-fn are_shared(place: &Image, view: &Image, oid: Oid) -> bool
-    ensures { result ≡ are_shared (objects_in place.now oid) (objects_in view.now oid) }
-{
-    match (place.look(oid), view.look(oid)) {
-        (Some(object), Some(_)) => object.body.is_shared(),
-        _ => false,
-    }
 }

@@ -28,7 +28,7 @@ impl Parts {
             ≡ option_map (with_body body) (get self.now.seen.world.changes oid) }
         ensures name { oid < 2 ^ 48 }
     {
-        let old = self.changes.look(oid.number())?;
+        let old = self.shown.changed(oid.number())?;
         Some(Object {
             class: old.class,
             segment: old.segment,
@@ -46,7 +46,7 @@ impl Parts {
             && may_replace oid old (contents_of new.now) self.now.seen.setting self.now.seen.world)
             (get self.now.seen.world.changes oid) }
     {
-        match self.changes.look(oid.number()) {
+        match self.shown.changed(oid.number()) {
             Some(old) => {
                 (self.is_made(oid) || !old.body.is_shared())
                     && same_fixed(old, new)

@@ -2,8 +2,8 @@
 ghost use Rattle.std.specs.Prelude.{◌≡◌};
 ghost use Rattle.plain_state.specs.State.{begun, BeginsSound};
 
-use crate::overlay::Overlay;
 use crate::parts::Parts;
+use crate::shown::Shown;
 use gem_image::Image;
 use gem_object::{Body, Object, Oid, Value};
 use gem_update::Update;
@@ -55,13 +55,11 @@ impl PlainState {
     {
         PlainState {
             parts: Parts {
-                place,
-                view,
+                shown: Shown::new(alloc, place, view),
                 user,
                 serial,
                 first,
                 next: first,
-                changes: Overlay::new(alloc),
                 updates: Vec::new(alloc),
                 touched: IndexSet::new(alloc),
                 units: UNIT_LIMIT,
@@ -134,10 +132,12 @@ impl Objects for PlainState {
     }
 
     fn read(&mut self, oid: Oid) -> Result<(), Stop> {
+        self.parts.bring(oid);
         self.parts.read(oid)
     }
 
     fn write(&mut self, oid: Oid) -> Result<(), Stop> {
+        self.parts.bring(oid);
         self.parts.write(oid)
     }
 

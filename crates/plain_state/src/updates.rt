@@ -16,7 +16,7 @@ ghost use Rattle.running_objects.specs.Fitting.{may_enter, can_count};
 ghost use Rattle.plain_state.specs.Parts.{SameObjects};
 ghost use Rattle.plain_state.specs.Updates.{new_values, has_key, has_room, may_update, missed_update, takes, with_update, applied, applied_noted, after_allowed_update};
 
-use crate::parts::{Parts, object_before};
+use crate::parts::Parts;
 use gem_object::{Bag, BagUpdate, Body, DictUpdate, KeyDict, Object, Oid, QueueUpdate, Value};
 use gem_update::laws::spelling_stays;
 use gem_update::{Update, UpdateFault, update_body};
@@ -143,17 +143,17 @@ impl Parts {
         ensures applied { OnOk result (self.new.seen ≡ applied oid update self.old.seen) }
         ensures unchanged { OnErr result (self.new.seen ≡ self.old.seen) }
     {
-        if self.changes.has(oid.number()) {
-            return self.changes.update(oid.number(), update);
+        if self.shown.has(oid.number()) {
+            return self.shown.update(oid.number(), update);
         }
-        let Some(object) = object_before(&self.place, &self.view, oid) else {
+        let Some(object) = self.shown.before(oid) else {
             return Ok(false);
         };
         let mut copy = object.clone()?;
         if !take_update(&mut copy, update)? {
             return Ok(false);
         }
-        self.changes.put(oid.number(), copy)?;
+        self.shown.put(oid.number(), copy)?;
         Ok(true)
     }
 }

@@ -10,7 +10,7 @@ ghost use Rattle.plain_state.specs.Parts.{in_world, asked};
 ghost use Rattle.plain_state.specs.Writes.{replaced, changed_to, moved_to, updated_to, added};
 
 use crate::edit::Edit;
-use crate::parts::{Parts, object_before};
+use crate::parts::Parts;
 use gem_object::{Body, Object, Oid};
 use gem_update::Update;
 use std::alloc::AllocError;
@@ -31,7 +31,7 @@ impl Parts {
             changed: old.changed,
             body,
         };
-        self.changes.put(oid.number(), new)
+        self.shown.put(oid.number(), new)
     }
 
     // Puts the object of this name, if there is one, into a segment.
@@ -40,15 +40,15 @@ impl Parts {
             (self.new.seen ≡ replaced oid (in_segment segment) self.old.seen) }
         ensures unchanged { OnErr result (self.new.seen ≡ self.old.seen) }
     {
-        if self.changes.has(oid.number()) {
-            return self.changes.edit(oid.number(), Edit::MoveTo(segment));
+        if self.shown.has(oid.number()) {
+            return self.shown.edit(oid.number(), Edit::MoveTo(segment));
         }
-        let Some(object) = object_before(&self.place, &self.view, oid) else {
+        let Some(object) = self.shown.before(oid) else {
             return Ok(());
         };
         let mut copy = object.clone()?;
         copy.segment = segment;
-        self.changes.put(oid.number(), copy)
+        self.shown.put(oid.number(), copy)
     }
 
     // Puts a body in place of that of the object of this name, if there is one, and notes the
@@ -123,7 +123,7 @@ impl Parts {
         ensures unchanged { OnErr result (self.new.seen ≡ self.old.seen) }
     {
         let oid = Oid::from_parts(self.serial, self.next);
-        self.changes.put(oid.number(), object)?;
+        self.shown.put(oid.number(), object)?;
         self.next += 1;
         Ok(oid)
     }

@@ -7,6 +7,6 @@ use Rattle.plain_state.proofs.Changes.{put_by_name}
 use Rattle.plain_state.proofs.overlay.Overlay.put.Goals as goal
 
 pub returns-clause-put : goal.returns-clause-put
-returns-clause-put c = rw (← c.self.view_is) (ap contents_by_name c.in_ok-insert.ensures.entries
+returns-clause-put c = rw (← c.self.view_is) (ap contents_by_name c.in_ok-placed.ensures.entries
     ∙ put_by_name c.self.inside.entries.entries c.args.number c.new.result
     ∙ ap (λ (object : Object). insert (contents_by_name c.self.inside.entries.entries) c.args.number (contents_of object)) c.new.ensures)

@@ -1,4 +1,4 @@
-use Rattle.std.proofs.Common.{◌≡◌, ◌∙◌, sym, ap, true, false, is_some}
+use Rattle.std.proofs.Common.{◌≡◌, ◌∙◌, refl, sym, ap, true, false, is_some}
 use Rattle.std.proofs.lemmas.Result.{on_ok_weaker}
 use Rattle.std.specs.FinMap.{get}
 use Rattle.gem_image.specs.Image.{contents_of}
@@ -13,9 +13,9 @@ returns-then-has-clause-held c =
 
 pub returns-clause-held : goal.returns-clause-held
 returns-clause-held c =
-    let none : is_some (get c.self.inside.changes c.args.oid) ≡ false =
+    let none : is_some (get c.self.inside.shown.changes c.args.oid) ≡ false =
     rw (← c.number.ensures.number) (sym c.has.ensures ∙ c.if-has.false) in
-    on_ok_weaker c.put.result (λ is. rw (← c.self.view_is)
-    (held_by _ c.args.oid c.number-2.result (contents_of c.in-Some.object.now) (contents_of c.in_ok-copy.copy) c.put.new.self
-    is c.number-2.ensures.number (ap contents_of c.in_ok-copy.ensures.cases) none (sym c.in-Some.ensures)
-    (sym c.is_shared.ensures ∙ c.if-is_shared.false))) c.put.ensures.put
+    on_ok_weaker c.put.result (λ is. rw is (rw (← c.self.view_is)
+    (held_by _ c.args.oid c.number-2.result (contents_of c.in-Some.object.now) (contents_of c.in_ok-copy.copy) _
+    refl c.number-2.ensures.number (ap contents_of c.in_ok-copy.ensures.cases) none (sym c.in-Some.ensures)
+    (sym c.is_shared.ensures ∙ c.if-is_shared.false)))) c.put.ensures.put

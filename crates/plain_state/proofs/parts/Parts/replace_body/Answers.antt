@@ -1,4 +1,4 @@
-use Rattle.std.proofs.Common.{◌≡◌, ◌∙◌, refl, sym, ap, subst}
+use Rattle.std.proofs.Common.{◌≡◌, refl, sym, subst}
 use Rattle.std.proofs.lemmas.Result.{on_ok_weaker}
 use Rattle.std.specs.FinMap.{insert}
 use Rattle.gem_world.specs.Changes.{with_body}
@@ -12,10 +12,9 @@ pub returns-clause-replaced : goal.returns-clause-replaced
 returns-clause-replaced c =
     let x = c.args.self.now.seen in
     let new = with_body c.args.body (contents_of c.in-Some.old.now) in
-    let changes : c.self.inside.changes ≡ c.args.self.now.seen.world.changes =
-    ap (λ (s : SeenWithRoom). s.seen.world.changes) c.self.view_is in
-    let P : SeenWithRoom → Type 0 = λ s. record s.seen { world = record s.seen.world { changes = c.put.new.self } }
-    ≡ replaced c.args.oid (with_body c.args.body) c.args.self.now.seen in
-    on_ok_weaker c.put.result (λ is. subst P (sym c.self.view_is)
-    (replaced_there x c.args.oid c.number.result (with_body c.args.body) (contents_of c.in-Some.old.now) new c.put.new.self
-    (is ∙ ap (λ m. insert m c.number.result new) changes) c.number.ensures.number refl (sym c.in-Some.ensures))) c.put.ensures.put
+    let P : SeenWithRoom → Type 0 = λ s. record s.seen {
+      world = record s.seen.world { changes = insert s.seen.world.changes c.number.result new };
+    } ≡ replaced c.args.oid (with_body c.args.body) c.args.self.now.seen in
+    on_ok_weaker c.put.result (λ is. rw is (subst P (sym c.self.view_is)
+    (replaced_there x c.args.oid c.number.result (with_body c.args.body) (contents_of c.in-Some.old.now) new _
+    refl c.number.ensures.number refl (sym c.in-Some.ensures)))) c.put.ensures.put

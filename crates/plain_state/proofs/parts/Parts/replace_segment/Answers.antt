@@ -1,4 +1,4 @@
-use Rattle.std.proofs.Common.{◌≡◌, ◌∙◌, sym, ap, subst, Some, true, false, is_some}
+use Rattle.std.proofs.Common.{◌≡◌, ◌∙◌, refl, sym, ap, subst, Some, true, false, is_some}
 use Rattle.std.proofs.lemmas.Result.{on_ok_weaker}
 use Rattle.std.specs.FinMap.{get, insert}
 use Rattle.gem_image.specs.Image.{contents_of}
@@ -11,26 +11,25 @@ use Rattle.plain_state.proofs.parts.Parts.replace_segment.Goals as goal
 
 pub returns-then-has-clause-replaced : goal.returns-then-has-clause-replaced
 returns-then-has-clause-replaced c =
-    let some : is_some (get c.self.inside.changes c.args.oid) ≡ true =
+    let some : is_some (get c.self.inside.shown.changes c.args.oid) ≡ true =
     rw (← c.number.ensures.number) (sym c.has.ensures ∙ c.if-has.true) in
-    on_ok_weaker c.edit.result (λ is. rw (← c.self.view_is)
-    (moved_there _ c.args.oid c.number-then-has.result c.args.segment c.edit.new.self is c.number-then-has.ensures.number some))
+    on_ok_weaker c.edit.result (λ is. rw is (rw (← c.self.view_is)
+    (moved_there _ c.args.oid c.number-then-has.result c.args.segment _ refl c.number-then-has.ensures.number some)))
     c.edit.ensures.edited
 
 pub returns-clause-replaced : goal.returns-clause-replaced
 returns-clause-replaced c =
     let x = c.args.self.now.seen in
     let new = in_segment c.args.segment (contents_of c.in_ok-copy.copy) in
-    let changes : c.self.inside.changes ≡ c.args.self.now.seen.world.changes =
-    ap (λ (s : SeenWithRoom). s.seen.world.changes) c.self.view_is in
     let none : is_some (get c.args.self.now.seen.world.changes c.args.oid) ≡ false =
     rw (← c.self.view_is, ← c.number.ensures.number) (sym c.has.ensures ∙ c.if-has.false) in
     let before : before_changes c.args.oid c.args.self.now.seen.setting ≡ Some (contents_of c.in-Some.object.now) =
     rw (← c.self.view_is) (sym c.in-Some.ensures) in
-    let P : SeenWithRoom → Type 0 = λ s. record s.seen { world = record s.seen.world { changes = c.put.new.self } }
-    ≡ replaced c.args.oid (in_segment c.args.segment) c.args.self.now.seen in
-    on_ok_weaker c.put.result (λ is. subst P (sym c.self.view_is)
-    (replaced_there x c.args.oid c.number-2.result (in_segment c.args.segment) (contents_of c.in-Some.object.now) new c.put.new.self
-    (is ∙ ap (λ m. insert m c.number-2.result new) changes) c.number-2.ensures.number
+    let P : SeenWithRoom → Type 0 = λ s. record s.seen {
+      world = record s.seen.world { changes = insert s.seen.world.changes c.number-2.result new };
+    } ≡ replaced c.args.oid (in_segment c.args.segment) c.args.self.now.seen in
+    on_ok_weaker c.put.result (λ is. rw is (subst P (sym c.self.view_is)
+    (replaced_there x c.args.oid c.number-2.result (in_segment c.args.segment) (contents_of c.in-Some.object.now) new _
+    refl c.number-2.ensures.number
     (ap (λ object. in_segment c.args.segment (contents_of object)) c.in_ok-copy.ensures.cases)
-    (seen_before x c.args.oid (contents_of c.in-Some.object.now) none before))) c.put.ensures.put
+    (seen_before x c.args.oid (contents_of c.in-Some.object.now) none before)))) c.put.ensures.put

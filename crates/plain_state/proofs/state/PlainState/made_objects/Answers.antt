@@ -10,6 +10,6 @@ pub returns : goal.returns
 returns c =
     let x = c.self.inside.parts.seen in
     rw (← c.self.view_is) (IfOk-weaker c.choose.result _ _ (λ objects is. is
-    ∙ ap (all_chosen true x) (c.deref.ensures.value ∙ c.in_ok-names.ensures
+    ∙ ap (all_chosen true x) (c.deref.ensures.value ∙ c.in_ok-names.ensures ∙ ap keys c.changes.ensures
     ∙ ap (λ (s : Inside). keys s.parts.seen.world.changes) c.self-inside.view_is)
     ∙ chosen_are true x) c.choose.ensures)
