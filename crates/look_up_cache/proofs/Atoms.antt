@@ -1,5 +1,5 @@
 -- What atoms leave that look-ups depend on.
-use Rattle.std.proofs.Common.{◌≡◌, ◌≢◌, ◌∙◌, refl, sym, ap, subst, ℕ, zero, suc, ◌+◌, ◌<◌, ◌≤◌, Bool, true, false, ◌&&◌, cond, nat_eq, nat_le, Option, Some, None, List, [], ◌∷◌, length, is_some, option_map, map, Ok, arith}
+use Rattle.std.proofs.Common.{◌≡◌, ◌≢◌, ◌∙◌, refl, sym, ap, subst, ℕ, zero, suc, ◌+◌, ◌≤◌, Bool, true, false, ◌&&◌, cond, nat_le, Option, Some, None, List, [], ◌∷◌, length, is_some, option_map, map, Ok, arith}
 use Rattle.std.specs.FinMap.{get}
 use Rattle.std.proofs.lemmas.Bool.{false≢true, and_parts, ne_eqb}
 use Rattle.std.proofs.lemmas.Option.{none-some, same_Some}
@@ -12,21 +12,21 @@ use Rattle.gem_update.specs.Update.{updated}
 use Rattle.gem_update.specs.declared.update.Update.{Update}
 use Rattle.gem_update.specs.declared.update.Update.TheVariants as change
 use Rattle.running_objects.specs.gem_image.Image.{Contents, contents_of}
-use Rattle.running_objects.specs.gem_world.World.{Setting, World, name_of, next_name, shown, touch}
+use Rattle.running_objects.specs.gem_world.World.{Setting, World, name_of, shown}
 use Rattle.running_objects.specs.gem_world.Changes.{with_body, put, make, note}
 use Rattle.running_objects.specs.gem_world.Access.{Access, a_read, a_write, is_allowed, with_touches, after_allowed, accessed}
 use Rattle.running_objects.specs.object_programs.declared.limits.TheConstants.{COUNTER_LIMIT}
 use Rattle.running_objects.specs.object_programs.Budget.{Budget, may_write, bytes_cost}
-use Rattle.running_objects.specs.object_programs.Fixed.{BodyKind, PlainKind, BytesKind, DictKind, ClassKind, SegmentKind, UserKind, CounterKind, BagKind, RcDictKind, QueueKind, body_kind, Fixed, fixed_of, fixed_by}
-use Rattle.running_objects.specs.object_programs.Guard.{Parts, may_change, may_replace, may_make}
-use Rattle.running_objects.specs.object_programs.Atom.{Atom, Ask, Own, Kind, Put, Note, Names, Make, Tick, Room, Show, says, Done, done, MakeCheck, too_large, no_name, no_space, no_fault, make_check, with_new, made_where, made_by, named_where, ticked, spent_where, shown_where, replaced_where, edited_at, edited, updated_by, updated_at, updated_where, after_update}
-use Rattle.running_objects.specs.object_programs.Laws.{AreFree, AreSound}
+use Rattle.running_objects.specs.object_programs.Fixed.{BodyKind, ClassKind, SegmentKind, UserKind, body_kind, Fixed, fixed_of, fixed_by}
+use Rattle.running_objects.specs.object_programs.Guard.{may_change, may_replace, may_make}
+use Rattle.running_objects.specs.object_programs.Atom.{Atom, Ask, Own, Kind, Put, Note, Names, Make, Tick, Room, Show, Done, done, MakeCheck, too_large, no_name, no_space, no_fault, make_check, with_new, made_where, made_by, named_where, ticked, spent_where, shown_where, replaced_where, edited_at, edited, updated_by, updated_at, updated_where, after_update}
+use Rattle.running_objects.specs.object_programs.Laws.{AreFree}
 use Rattle.running_objects.proofs.object_programs_lemmas.Kept.{each_new, no_fault_found}
 use Rattle.running_objects.proofs.object_programs_lemmas.Worlds.{changed_shown, make_shown, make_next, note_shown, shown_asked}
 use Rattle.running_objects.proofs.object_programs_lemmas.Sames.{fixed_is}
 use Rattle.running_objects.specs.Seen.{Seen, object_at, IsSoundState}
 use Rattle.running_objects.specs.Acted.{Acted, Accessed, Owned, Known, Edited, Made}
-use Rattle.look_up_cache.specs.Lasting.{Lasting, lasting_body, lasting_of, Still}
+use Rattle.look_up_cache.specs.Lasting.{lasting_body, lasting_of, Still}
 use Rattle.look_up_cache.specs.Remains.{Remains}
 use Rattle.look_up_cache.proofs.Steps.{still_same, still_along, touch_still, misses_still, note_still, put_still, make_still, asked_still}
 
@@ -132,7 +132,7 @@ module _ (setting : Setting) where
       (λ may. ap (λ (held : Option Body). record { class = old.class; segment = old.segment; body = held })
       (suits old there (ap (λ (fixed : Fixed). fixed.kind) (replaced_fixed name old (with_body body old) world may))))
 
-  edited_still : (name : ℕ) (body : Body) (world : World) → Suits name body world
+  pub edited_still : (name : ℕ) (body : Body) (world : World) → Suits name body world
       → Still setting world (edited name (with_body body) setting world)
   unfolding edited
   edited_still name body world suits = edited_by name body (get world.changes name) world refl suits

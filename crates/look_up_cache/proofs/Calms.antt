@@ -1,5 +1,5 @@
 -- What reads of calm objects do.
-use Rattle.std.proofs.Common.{◌≡◌, ◌∙◌, refl, sym, ap, subst, ℕ, Bool, true, false, ◌||◌, cond, Option, Some, None, List, option_map, option_and_then}
+use Rattle.std.proofs.Common.{◌≡◌, ◌∙◌, refl, sym, ap, ℕ, Bool, true, false, ◌||◌, cond, Option, Some, None, List, option_map, option_and_then}
 use Rattle.std.proofs.lemmas.Bool.{false≢true}
 use Rattle.std.proofs.lemmas.Option.{same_Some}
 use Rattle.gem_object.specs.declared.body.ClassBody.{ClassBody}
@@ -7,16 +7,16 @@ use Rattle.gem_object.specs.declared.body.Body.{Body}
 use Rattle.gem_object.specs.declared.body.Body.TheVariants.{Plain, Bytes, Dict, Class, Segment, User, Counter, Bag, RcDict, Queue}
 use Rattle.running_objects.specs.gem_image.Image.{Contents}
 use Rattle.running_objects.specs.gem_world.World.{Setting, World, shown, is_private, is_among, touch}
-use Rattle.running_objects.specs.gem_world.Access.{a_read, is_allowed, touches_of, with_touches}
+use Rattle.running_objects.specs.gem_world.Access.{touches_of, with_touches}
 use Rattle.running_objects.specs.gem_sound.Parts.{class_of}
-use Rattle.running_objects.specs.object_programs.Atom.{Done, Ask, done}
+use Rattle.running_objects.specs.object_programs.Atom.{Done}
 use Rattle.running_objects.specs.object_programs.Laws.{answered}
 use Rattle.running_objects.specs.object_programs.Run.{gives, State, outcome_of}
 use Rattle.running_objects.specs.object_programs.Programs.{read}
 use Rattle.running_objects.proofs.object_programs_lemmas.Exact.{read_done}
 use Rattle.gem_language.specs.tree_meaning.Place.{MadeBlock}
 use Rattle.gem_language.specs.Comes.{Comes}
-use Rattle.gem_language.specs.LookUp.{Start, start_of_object}
+use Rattle.gem_language.specs.LookUp.{start_of_object}
 use Rattle.look_up_cache.specs.Lasting.{Lasting, lasting_body, lasting_of, class_in, is_settled}
 use Rattle.look_up_cache.specs.Calm.{Calm, start_by}
 

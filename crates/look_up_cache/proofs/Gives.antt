@@ -7,7 +7,7 @@ use Rattle.gem_object.specs.declared.body.ClassBody.{ClassBody}
 use Rattle.gem_object.specs.declared.value.Value.{Value}
 use Rattle.gem_object.specs.declared.value.Value.TheVariants as value
 use Rattle.running_objects.specs.gem_image.Image.{Contents}
-use Rattle.running_objects.specs.gem_world.World.{Setting, World}
+use Rattle.running_objects.specs.gem_world.World.{Setting}
 use Rattle.running_objects.specs.gem_sound.Parts.{class_of}
 use Rattle.running_objects.specs.gem_sound.Kernel.{class_class}
 use Rattle.running_objects.specs.object_programs.Guard.{chain_limit}
@@ -22,7 +22,7 @@ use Rattle.running_objects.specs.Seen.{Seen, with_local}
 use Rattle.running_objects.proofs.Running.{keeps_same}
 use Rattle.prim_parts.specs.Does.{Does}
 use Rattle.prim_parts.proofs.Does.{does_give, does_then}
-use Rattle.look_up_cache.specs.Lasting.{Lasting, lasting_of, class_in}
+use Rattle.look_up_cache.specs.Lasting.{Lasting, class_in}
 use Rattle.look_up_cache.specs.Calm.{Calm, Begins, start_by}
 use Rattle.look_up_cache.specs.Remembered.{Up, no_class, holds, last, above, IsNothing, Past, From, Finds}
 use Rattle.look_up_cache.specs.Memory.{BeginsFor, FindsFor}

@@ -13,17 +13,28 @@ use Rattle.running_objects.specs.object_programs.Atom.{Put, Note, Names, Tick, R
 use Rattle.running_objects.specs.Seen.{Seen, object_at, IsSoundState, with_whole_budget}
 use Rattle.running_objects.specs.Acted.{Acted, Accessed, Owned, Known, Edited, Made}
 use Rattle.running_objects.specs.declared.stop.Stop.{Stop}
+use Rattle.running_objects.specs.object_programs.Guard.{chain_limit}
+use Rattle.running_objects.specs.object_programs.Programs.{replace_body}
 use Rattle.gem_language.specs.LookUp.{Start}
+use Rattle.prim_parts.specs.Does.{Does}
+use Rattle.prim_parts.specs.Edits.{Replaces}
 use Rattle.look_up_cache.specs.Lasting.{lasting_body}
 use Rattle.look_up_cache.specs.Calm.{Begins, Writable}
 use Rattle.look_up_cache.specs.Remembered.{Finds}
 use Rattle.look_up_cache.specs.Remains.{Remains}
 use Rattle.look_up_cache.specs.Table.{AllHeld}
-use Rattle.look_up_cache.specs.Memory.{start_at, IsMet, IsFound, Holds, Where, IsKnown}
+use Rattle.look_up_cache.specs.Memory.{start_at, IsMet, IsFound, IsPlaced, IsCounted, Holds, Where, IsKnown}
 use Rattle.look_up_cache.specs.declared.memory.Receiver.{Receiver}
 use Rattle.look_up_cache.specs.declared.memory.Entry.{Entry}
+use Rattle.look_up_cache.specs.declared.memory.Variable.{Variable}
+use Rattle.look_up_cache.specs.declared.memory.Count.{Count}
 use Rattle.look_up_cache.specs.declared.memory.Memory.{Memory}
+use Rattle.look_up_cache.specs.Variables.{Stands}
+use Rattle.look_up_cache.specs.Counted.{Counted}
+use Rattle.look_up_cache.proofs.Names.{stands_stays}
+use Rattle.look_up_cache.proofs.Naming.{counted_stays}
 use Rattle.look_up_cache.proofs.Stays.{writable_stays, begins_stay, finds_stay}
+use Rattle.look_up_cache.proofs.Replaced.{replace_remains}
 use Rattle.look_up_cache.proofs.Atoms.{unit_remains, room_remains, names_remain, show_remains, access_remains, own_remains, known_remains, put_remains, edit_remains, note_remains, made_remains}
 
 where_still : (held : Bool) (P Q : Type 0) → (P → Q) → Where held P → Where held Q
@@ -56,17 +67,29 @@ module _ (before after : Seen) (remains : Remains before after) where
       Finds (start_at entry.start) entry.selector entry.found setting after.world) (sym remains.setting)
       (finds_stay before.setting before.world after.world remains.still (start_at entry.start) entry.selector entry.found found)
 
+  placed_remains : (variable : Variable) → IsPlaced before variable → IsPlaced after variable
+  placed_remains variable placed = subst (λ (setting : Setting).
+      Stands variable.holder variable.name variable.slot setting after.world) (sym remains.setting)
+      (stands_stays before.setting before.world after.world remains.still variable.holder variable.name variable.slot placed)
+
+  counted_remains : (count : Count) → IsCounted before count → IsCounted after count
+  counted_remains count counted = subst (λ (setting : Setting).
+      Counted setting after.world chain_limit count.class count.named) (sym remains.setting)
+      (counted_stays before.setting before.world after.world remains.still chain_limit count.class count.named counted)
+
   pub holds_remain : {T : Type 0} (memory : Memory T) → Holds memory before → Holds memory after
   holds_remain memory holds = record {
     receivers = λ at receiver here. met_remains receiver (holds.receivers at receiver here);
     methods = λ at entry here. found_remains entry (holds.methods at entry here);
+    variables = λ at variable here. placed_remains variable (holds.variables at variable here);
+    counts = λ at count here. counted_remains count (holds.counts at count here);
   }
 
 ok_by : {A : Type 0} (result : Result A Stop) (Q : Type 0) → is_ok result ≡ true → ((answer : A) → result ≡ Ok answer → Q) → Q
 ok_by (Ok answer) Q is then = then answer refl
 ok_by (Err ended) Q is then = absurd (false≢true is)
 
-some_by : (found : Option Contents) (Q : Type 0) → is_some found ≡ true → ((object : Contents) → found ≡ Some object → Q) → Q
+pub some_by : (found : Option Contents) (Q : Type 0) → is_some found ≡ true → ((object : Contents) → found ≡ Some object → Q) → Q
 some_by None Q is then = absurd (false≢true is)
 some_by (Some object) Q is then = then object refl
 
@@ -153,6 +176,16 @@ module _ {T : Type 0} (is_of : T → MethodCode → Type 0) (memory : Memory T) 
       edit_remains before after name edit object here keeps
       (subst (λ (r : Result (Unit {0}) Stop). Edited name edit before r after) same did))) known
 
+  pub replaced_known : (name : ℕ) (edit : Body → Body) → ((body : Body) → lasting_body (edit body) ≡ lasting_body body)
+      → (holds held now : Bool) (result : Result (Unit {0}) Stop) → (held ≡ true → holds ≡ true)
+      → (held ≡ true → is_some (object_at name before) ≡ true) → now ≡ (held && is_ok result)
+      → Replaces (λ body. 0) name edit before result after → IsKnown is_of holds memory before
+      → IsKnown is_of now memory after
+  replaced_known name edit keeps holds held now result from there is did known = called holds held now result is from
+      (λ yes answer same. some_by (object_at name before) (Remains before after) (there yes) (λ object here.
+      replace_remains before after name edit object here keeps (subst (λ (r : Result (Unit {0}) Stop).
+      Does (replace_body 0 name object (edit object.body)) before r after) same (did object here)))) known
+
   -- where all is forgotten
   pub unknown : (held : Bool) → IsKnown is_of held memory before → IsKnown is_of false memory after
   unknown held known = record { holds = tt; coded = known.coded }
@@ -168,7 +201,8 @@ pub chunk_known : {T : Type 0} (is_of : T → MethodCode → Type 0) (held : Boo
     → IsKnown is_of held memory seen → IsKnown is_of held memory (with_whole_budget seen)
 chunk_known {T} is_of held memory seen known = record {
   holds = where_still held (Holds memory seen) (Holds memory (with_whole_budget seen))
-      (λ holds. record { receivers = holds.receivers; methods = holds.methods }) known.holds;
+      (λ holds. record { receivers = holds.receivers; methods = holds.methods; variables = holds.variables; counts = holds.counts })
+      known.holds;
   coded = known.coded;
 }
 

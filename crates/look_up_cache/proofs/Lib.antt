@@ -3,8 +3,11 @@ pub mod Gives
 pub mod Stays
 pub mod Steps
 pub mod Told
+pub mod Names
+pub mod Naming
 pub mod Atoms
 mod Edits
+mod Replaced
 mod Keeps
 mod Places
 mod Again
@@ -12,3 +15,6 @@ mod There
 pub mod AfterReads
 mod AfterWrites
 pub mod Meets
+pub mod Sequences
+mod Slots
+mod Lacking

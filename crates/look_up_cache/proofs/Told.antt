@@ -38,10 +38,10 @@ use Rattle.look_up_cache.proofs.Steps.{still_same, still_along, asked_still, cal
 abbrev came : {A : Type 0} → Ending A → State MadeBlock → Outcome MadeBlock A
 came end state = record { end = end; state = state }
 
-state_is : {A : Type 0} (end final : Ending A) (state after : State MadeBlock) → came end state ≡ came final after → state ≡ after
+pub state_is : {A : Type 0} (end final : Ending A) (state after : State MadeBlock) → came end state ≡ came final after → state ≡ after
 state_is {A} end final state after same = ap (λ (o : Outcome MadeBlock A). o.state) same
 
-given : {A : Type 0} (one other : A) (state after : State MadeBlock) → came (gives one) state ≡ came (gives other) after
+pub given : {A : Type 0} (one other : A) (state after : State MadeBlock) → came (gives one) state ≡ came (gives other) after
     → one ≡ other
 given {A} one other state after same = same_answer one other (ap (λ (o : Outcome MadeBlock A). o.end) same)
 
@@ -69,7 +69,7 @@ module _ (setting : Setting) where
   read_world name state object after is = sym (read_leaves name state.world (read_allowed name state object after is))
       ∙ ap (λ (o : Outcome MadeBlock Contents). o.state.world) is
 
-  read_still : (name : ℕ) (state : State MadeBlock) (object : Contents) (after : State MadeBlock)
+  pub read_still : (name : ℕ) (state : State MadeBlock) (object : Contents) (after : State MadeBlock)
       → Comes (read name) setting state (gives object) after → Still setting state.world after.world
   read_still name state object after is = subst (λ (later : World). Still setting state.world later)
       (read_world name state object after is) (asked_still setting name state.world)
@@ -229,7 +229,7 @@ module _ (setting : Setting) where
       from_told parts.middle.class parts.middle.class_side selector parts.between after found parts.then in
       then parts.middle parts.between parts.before left.still (record { from = left.claim })
 
-nowhere : Local MadeBlock
+pub nowhere : Local MadeBlock
 nowhere = record { scopes = []; blocks = []; living = [] }
 
 plain_begun : (receiver : Value) (setting : Setting) (state between : State MadeBlock) (start : Start) (seen : Seen)

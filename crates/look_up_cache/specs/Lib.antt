@@ -3,4 +3,8 @@ pub mod Calm
 pub mod Remembered
 pub mod Remains
 pub mod Table
+pub mod Variables
+pub mod Counted
 pub mod Memory
+pub mod Elements
+pub mod Lacking

@@ -9,15 +9,20 @@ use Rattle.gem_language.specs.declared.found.Found.{Found}
 use Rattle.gem_language.specs.LookUp.{Start}
 use Rattle.running_objects.specs.gem_world.Access.{a_read}
 use Rattle.running_objects.specs.gem_world.World.{Setting, World}
+use Rattle.running_objects.specs.object_programs.Guard.{chain_limit}
 use Rattle.running_objects.specs.Acted.{Accessed}
 use Rattle.running_objects.specs.Seen.{Seen}
 use Rattle.running_objects.specs.declared.stop.Stop.{Stop}
 use Rattle.look_up_cache.specs.Calm.{Begins, Writable, plain_start}
 use Rattle.look_up_cache.specs.Remembered.{Finds}
+use Rattle.look_up_cache.specs.Variables.{Stands}
+use Rattle.look_up_cache.specs.Counted.{Counted}
 use Rattle.look_up_cache.specs.Table.{held_at, AllHeld}
 use Rattle.look_up_cache.specs.declared.memory.Beginning.{Beginning}
 use Rattle.look_up_cache.specs.declared.memory.Receiver.{Receiver}
 use Rattle.look_up_cache.specs.declared.memory.Entry.{Entry}
+use Rattle.look_up_cache.specs.declared.memory.Variable.{Variable}
+use Rattle.look_up_cache.specs.declared.memory.Count.{Count}
 use Rattle.look_up_cache.specs.declared.memory.Memory.{Memory}
 
 -- where a look-up begins
@@ -43,6 +48,15 @@ abbrev pub IsFound : {T : Type 0} → Seen → Entry T → Type 0
 IsFound seen entry =
     Finds (start_at entry.start) entry.selector entry.found seen.setting seen.world
 
+-- what is remembered of an instance variable is so
+abbrev pub IsPlaced : Seen → Variable → Type 0
+IsPlaced seen variable =
+    Stands variable.holder variable.name variable.slot seen.setting seen.world
+
+-- what is remembered of the slots that a class names is so
+abbrev pub IsCounted : Seen → Count → Type 0
+IsCounted seen count = Counted seen.setting seen.world chain_limit count.class count.named
+
 -- the code that is kept beside a method is that of the method
 abbrev pub IsCoded : {T : Type 0} → (T → MethodCode → Type 0) → Entry T → Type 0
 IsCoded is_of entry = IfSome entry.code (λ code. IfSome entry.found (λ found. is_of code found.code))
@@ -55,6 +69,8 @@ coded_by code entry = record entry { code = Some code }
 pub record Holds {T : Type 0} (memory : Memory T) (seen : Seen) : Type 0 where
   pub receivers : AllHeld (IsMet seen) memory.receivers.items
   pub methods : AllHeld (IsFound seen) memory.methods.items
+  pub variables : AllHeld (IsPlaced seen) memory.variables.items
+  pub counts : AllHeld (IsCounted seen) memory.counts.items
 
 -- What is remembered holds, where it isn't forgotten; and the code that is kept is that of its
 -- method.

@@ -12,7 +12,7 @@ ghost use Rattle.look_up_cache.specs.Memory.{start_at, IsMet, IsFound, IsCoded, 
 
 use crate::kept::MethodCodeKept;
 use crate::memory::{Beginning, Entry, Memory, Receiver};
-use crate::table::{empty_all, held_at, put_at};
+use crate::table::{beside, empty_all, free_place, held_at, put_at};
 use gem_language::Found;
 use gem_object::{Body, Oid, Text, Value};
 use prim_parts::class_of_plain;
@@ -32,6 +32,8 @@ pub(crate) fn renew<T: MethodCodeKept>(memory: &mut Memory<T>, held: bool)
     }
     empty_all(&mut memory.receivers);
     empty_all(&mut memory.methods);
+    empty_all(&mut memory.variables);
+    empty_all(&mut memory.counts);
 }
 
 /// The place of what a look-up for this receiver is known to find.
@@ -75,13 +77,25 @@ pub(crate) fn object_start(receivers: &Vec<Option<Receiver>>, name: Oid) -> Opti
     Some(receiver.start.copy())
 }
 
-/// What is remembered of the object of this name.
+/// What is remembered of the object of this name. It takes no memory.
 pub(crate) fn receiver_of(receivers: &Vec<Option<Receiver>>, name: Oid) -> Option<&Receiver>
     ensures name { IfSome result (λ receiver. receiver.now.name ≡ name) }
     ensures met { (seen : Seen) → AllHeld (IsMet seen) receivers.now.items
         → IfSome result (λ receiver. IsMet seen receiver.now) }
 {
-    let receiver = held_at(receivers, receiver_place(name))?;
+    let first = receiver_place(name);
+    match receiver_at(receivers, first, name) {
+        Some(receiver) => Some(receiver),
+        None => receiver_at(receivers, beside(first), name),
+    }
+}
+
+fn receiver_at(receivers: &Vec<Option<Receiver>>, at: usize, name: Oid) -> Option<&Receiver>
+    ensures name { IfSome result (λ receiver. receiver.now.name ≡ name) }
+    ensures met { (seen : Seen) → AllHeld (IsMet seen) receivers.now.items
+        → IfSome result (λ receiver. IsMet seen receiver.now) }
+{
+    let receiver = held_at(receivers, at)?;
     if receiver.name == name {
         Some(receiver)
     } else {
@@ -95,12 +109,26 @@ fn place_of<T>(memory: &Memory<T>, start: &Beginning, selector: &Text) -> Option
         Finds (start_at start.now) selector.now (held_at (founds memory.now.methods.items) at)
         seen.setting seen.world) }
 {
-    let at = method_place(start, selector);
-    let entry = held_at(&memory.methods, at)?;
-    if is_for(entry, start, selector) {
-        Some(at)
-    } else {
-        None
+    let first = method_place(start, selector);
+    if is_at(&memory.methods, first, start, selector) {
+        return Some(first);
+    }
+    let second = beside(first);
+    if is_at(&memory.methods, second, start, selector) {
+        return Some(second);
+    }
+    None
+}
+
+// Whether this look-up stands at a place.
+fn is_at<T>(methods: &Vec<Option<Entry<T>>>, at: usize, start: &Beginning, selector: &Text) -> bool
+    ensures { result ≡ true → (seen : Seen) → AllHeld (IsFound seen) methods.now.items
+        → Finds (start_at start.now) selector.now (held_at (founds methods.now.items) at)
+        seen.setting seen.world }
+{
+    match held_at(methods, at) {
+        Some(entry) => is_for(entry, start, selector),
+        None => false,
     }
 }
 
@@ -112,7 +140,7 @@ fn is_for<T>(entry: &Entry<T>, start: &Beginning, selector: &Text) -> bool
     same_start(&entry.start, start) && same_text(&entry.selector, selector)
 }
 
-fn same_text(one: &Text, other: &Text) -> bool
+pub(crate) fn same_text(one: &Text, other: &Text) -> bool
     ensures { result ≡ true → one.now ≡ other.now }
 {
     one.bytes() == other.bytes()
@@ -131,12 +159,30 @@ fn same_start(one: &Beginning, other: &Beginning) -> bool
     }
 }
 
-// The place at which a receiver stands.
+// The first place at which a receiver may stand.
 fn receiver_place(name: Oid) -> usize {
     (name.number() % 1024) as usize
 }
 
-// The place at which a look-up stands.
+// The place at which a receiver comes: where it stands or nothing does, and else the first one.
+fn place_for(receivers: &Vec<Option<Receiver>>, name: Oid) -> usize {
+    let first = receiver_place(name);
+    let second = beside(first);
+    if !is_free_for(receivers, first, name) && is_free_for(receivers, second, name) {
+        second
+    } else {
+        first
+    }
+}
+
+fn is_free_for(receivers: &Vec<Option<Receiver>>, at: usize, name: Oid) -> bool {
+    match held_at(receivers, at) {
+        Some(receiver) => receiver.name == name,
+        None => true,
+    }
+}
+
+// The first place at which a look-up may stand.
 fn method_place(start: &Beginning, selector: &Text) -> usize {
     let class = match start.class {
         Some(class) => class.number() % 1024,
@@ -149,7 +195,7 @@ fn method_place(start: &Beginning, selector: &Text) -> usize {
     ((class * 5 + side + first * 3 + last * 7 + (bytes.len() % 64) as u64 * 11) % 512) as usize
 }
 
-fn byte_of(byte: Option<&u8>) -> u64
+pub(crate) fn byte_of(byte: Option<&u8>) -> u64
     ensures { result < 256 }
 {
     match byte {
@@ -177,7 +223,7 @@ pub(crate) fn remember<O: Objects, T: MethodCodeKept>(
         return Err(AllocError);
     };
     remember_receiver(&mut memory.receivers, receiver, &start)?;
-    let at = method_place(&start, selector);
+    let at = free_place(&memory.methods, method_place(&start, selector));
     let entry = Entry {
         start,
         selector: selector.clone()?,
@@ -270,7 +316,8 @@ pub(crate) fn remember_object(
         start: start.copy(),
         written,
     };
-    put_at(receivers, receiver_place(name), receiver)
+    let at = place_for(receivers, name);
+    put_at(receivers, at, receiver)
 }
 
 /// Whether the object of this name is known to be read without a change of anything.

@@ -1,19 +1,37 @@
 //! Objects that remember look-ups.
-ghost use Rattle.std.specs.Prelude.{◌≡◌, false, Ok, IfSome, option_copied};
+ghost use Rattle.std.specs.Prelude.{◌≡◌, false, Ok, None, IfSome, option_copied};
+ghost use Rattle.gem_object.specs.Edits.{with_slot};
+ghost use Rattle.running_objects.specs.object_programs.Atom.{Tick};
 ghost use Rattle.running_objects.specs.object_programs.Budget.{Budget};
+ghost use Rattle.running_objects.specs.object_programs.Run.{give, atom, and_then};
+ghost use Rattle.running_objects.specs.Acted.{Acted, with_answer};
+ghost use Rattle.gem_language.specs.prim_rules.Rules.{rule_of};
+ghost use Rattle.gem_language.specs.prim_rules.declared.answer.PrimitiveAnswer.TheVariants.{Gives};
+ghost use Rattle.gem_language.specs.tree_meaning.Names.{index_of};
 ghost use Rattle.gem_language.specs.LookUp.{find_method};
+ghost use Rattle.gem_language.specs.OutOfScope.{instance_names, slot_of, read_out_of_scope, write_out_of_scope};
 ghost use Rattle.prim_parts.specs.Does.{Does};
+ghost use Rattle.prim_parts.specs.Edits.{Replaces};
 ghost use Rattle.look_up_cache.specs.Table.{held_at};
+ghost use Rattle.look_up_cache.specs.Variables.{Stands, bare_frame, SlotIsLeft};
 ghost use Rattle.look_up_cache.specs.Memory.{FindsFor, Met, told_by, with_budget};
+ghost use Rattle.look_up_cache.specs.Lacking.{LacksAtMost};
+ghost use Rattle.look_up_cache.specs.Elements.{AlwaysGives, ended_by, PutIsLeft, UnitAndPut};
 
+use crate::counts::remember_count;
+use crate::elements::{Put, Slot, element_put, known_answer};
 use crate::finding::{keep_at, known_place, remember, renew};
 use crate::kept::MethodCodeKept;
 use crate::memory::Memory;
+use crate::objects::{is_shown, still};
 use crate::table::held_at;
+use crate::variables::{copy_of, known_index, known_variable, remember_variable, slot_to_set};
 use gem_language::Found;
-use gem_object::{Text, Value};
+use gem_object::{Oid, Text, Value};
+use prim_parts::replace_slot;
 use running_objects::{Objects, Stop};
 use st_locals::Frame;
+use st_outside::{assign_name, value_of_name, variable_index};
 use std::alloc::Global;
 use std::marker::Model;
 use std::mem;
@@ -112,6 +130,244 @@ impl<O: Objects, T: MethodCodeKept> KnownObjects<O, T> {
         Some(at)
     }
 
+    /// What the primitive of this number answers, where that is known without a change of anything,
+    /// whatever the budget is: the size (33) and an element (34) of a sequence that is read so. None
+    /// doesn't say that there is no answer. It takes no memory but for the text of a symbol, and
+    /// without that it is None.
+    pub fn known_answer(&self, number: u8, receiver: &Value, arguments: &[Value]) -> Option<Value>
+        ensures { IfSome result (λ value. AlwaysGives
+            (rule_of number receiver.now arguments.now) (Gives value) (O.seen self.now.0)) }
+    {
+        if self.holds {
+            known_answer(&self.memory, &self.objects, number, receiver, arguments)
+        } else {
+            None
+        }
+    }
+
+    /// Takes a unit, and then does what the primitive of this number does: a value comes into a
+    /// sequence (35), where the receiver is known to be written and each test of the rule passes but
+    /// that of its size. An error is E13, and then nothing else was done, or E17. None doesn't say
+    /// that it would fail; then nothing is done, and no unit taken. It takes no memory but for the
+    /// text of a symbol, and without that it is None.
+    pub fn do_known(
+        &mut self,
+        number: u8,
+        receiver: &Value,
+        arguments: &[Value],
+    ) -> Option<Result<Value, Stop>>
+        ensures done { IfSome result (λ ended. Does (and_then (atom Tick)
+            (λ unit. rule_of number receiver.now arguments.now)) (O.seen self.old.0)
+            (ended_by ended) (O.seen self.new.0)) }
+        ensures lacks { IfSome result LacksAtMost }
+        ensures unchanged { result ≡ None → self.new ≡ self.old }
+        ensures founds { self.new.1 ≡ self.old.1 }
+    {
+        let put = self.element_put(number, receiver, arguments)?;
+        Some(self.put_after_unit(put))
+    }
+
+    /// The value of an instance variable, where that is known without a change of anything,
+    /// whatever the budget is: for a method of this class and side, where the slot of this name is
+    /// remembered and the receiver is known to be read. None doesn't say that there is no such
+    /// variable. It takes no memory but for the text of a symbol, and without that it is None.
+    pub fn known_variable(
+        &self,
+        name: &Text,
+        receiver: &Value,
+        holder: Oid,
+        class_side: bool,
+    ) -> Option<Value>
+        ensures { IfSome result (λ value. AlwaysGives
+            (read_out_of_scope name.now (bare_frame receiver.now holder class_side)) value
+            (O.seen self.now.0)) }
+    {
+        if self.holds {
+            known_variable(
+                &self.memory,
+                &self.objects,
+                name,
+                receiver,
+                holder,
+                class_side,
+            )
+        } else {
+            None
+        }
+    }
+
+    /// Puts a copy of a value into an instance variable, as an assignment does in a method of this
+    /// class and side, where the slot of this name is remembered, the receiver is known to be
+    /// written, and the value is no block. An error is E17. None doesn't say that it would fail; then
+    /// nothing is done. It takes no memory but for the text of a symbol, and without that it is None.
+    pub fn set_known_variable(
+        &mut self,
+        name: &Text,
+        receiver: &Value,
+        holder: Oid,
+        class_side: bool,
+        value: &Value,
+    ) -> Option<Result<(), Stop>>
+        ensures done { IfSome result (λ ended. Does (write_out_of_scope name.now
+            (bare_frame receiver.now holder class_side) value.now) (O.seen self.old.0)
+            (with_answer value.now ended) (O.seen self.new.0)) }
+        ensures lacks { IfSome result LacksAtMost }
+        ensures unchanged { result ≡ None → self.new ≡ self.old }
+        ensures founds { self.new.1 ≡ self.old.1 }
+    {
+        let slot = self.slot_to_set(name, receiver, holder, class_side, value)?;
+        let copy = copy_of(value)?;
+        Some(self.put_in_slot(slot, copy))
+    }
+
+    // The slot into which an assignment puts this value.
+    fn slot_to_set(
+        &self,
+        name: &Text,
+        receiver: &Value,
+        holder: Oid,
+        class_side: bool,
+        value: &Value,
+    ) -> Option<Slot>
+        ensures { IfSome result (λ slot. SlotIsLeft name.now
+            (bare_frame receiver.now holder class_side) value.now slot (O.seen self.now.0)) }
+    {
+        if self.holds {
+            slot_to_set(
+                &self.memory,
+                &self.objects,
+                name,
+                receiver,
+                holder,
+                class_side,
+                value,
+            )
+        } else {
+            None
+        }
+    }
+
+    /// The value of a name that is no variable in scope, as `read_name` of `st_outside` gives it.
+    /// The slot of an instance variable is looked for once and then known, and so is that there is
+    /// none.
+    pub fn read_name(&mut self, frame: &Frame, name: &Text) -> Result<Value, Stop>
+        ensures { Does (read_out_of_scope name.now frame.now) (O.seen self.old.0) result
+            (O.seen self.new.0) }
+    {
+        let slot = self.slot_of(frame, name)?;
+        value_of_name(self, name, frame, slot)
+    }
+
+    /// An assignment to such a name, as `write_name` of `st_outside` does it, with the same that is
+    /// known.
+    pub fn write_name(&mut self, frame: &Frame, name: &Text, value: Value) -> Result<Value, Stop>
+        ensures { Does (write_out_of_scope name.now frame.now value) (O.seen self.old.0) result
+            (O.seen self.new.0) }
+    {
+        let slot = self.slot_of(frame, name)?;
+        assign_name(self, name, frame, slot, value)
+    }
+
+    // The slot of the instance variable of this name; none in a method of the class side.
+    fn slot_of(&mut self, frame: &Frame, name: &Text) -> Result<Option<usize>, Stop>
+        ensures { Does (and_then (instance_names frame.now.holder)
+            (λ names. give (slot_of frame.now.class_side name.now names))) (O.seen self.old.0)
+            result (O.seen self.new.0) }
+    {
+        let found = self.variable_index(frame.holder(), name)?;
+        if frame.class_side() {
+            return Ok(None);
+        }
+        Ok(found)
+    }
+
+    // In which slot the instance variable of this name of a class stands.
+    fn variable_index(&mut self, holder: Oid, name: &Text) -> Result<Option<usize>, Stop>
+        ensures { Does (and_then (instance_names holder)
+            (λ names. give (index_of name.now names))) (O.seen self.old.0) result
+            (O.seen self.new.0) }
+    {
+        match self.known_index(holder, name) {
+            Some(found) => Ok(found),
+            None => self.look_for(holder, name),
+        }
+    }
+
+    // The same, where it is remembered.
+    fn known_index(&self, holder: Oid, name: &Text) -> Option<Option<usize>>
+        ensures { IfSome result (λ found. Stands holder name.now found
+            (O.seen self.now.0).setting (O.seen self.now.0).world) }
+    {
+        if self.holds {
+            known_index(&self.memory, holder, name)
+        } else {
+            None
+        }
+    }
+
+    // Looks for it, and remembers it.
+    fn look_for(&mut self, holder: Oid, name: &Text) -> Result<Option<usize>, Stop>
+        ensures { Does (and_then (instance_names holder)
+            (λ names. give (index_of name.now names))) (O.seen self.old.0) result
+            (O.seen self.new.0) }
+    {
+        renew(&mut self.memory, self.holds);
+        self.holds = false;
+        let found = variable_index(&mut self.objects, holder, name)?;
+        remember_variable(&mut self.memory, holder, name, found);
+        self.holds = true;
+        Ok(found)
+    }
+
+    // What is left to do of a primitive that puts a value into a slot.
+    fn element_put(&self, number: u8, receiver: &Value, arguments: &[Value]) -> Option<Put>
+        ensures { IfSome result (λ put. PutIsLeft
+            (rule_of number receiver.now arguments.now) put (O.seen self.now.0)) }
+    {
+        if self.holds {
+            element_put(&self.memory, &self.objects, number, receiver, arguments)
+        } else {
+            None
+        }
+    }
+
+    // Takes a unit, and then does what is left.
+    fn put_after_unit(&mut self, put: Put) -> Result<Value, Stop>
+        ensures put { UnitAndPut put (O.seen self.old.0) result (O.seen self.new.0) }
+        ensures lacks { LacksAtMost result }
+        ensures founds { self.new.1 ≡ self.old.1 }
+    {
+        self.take_unit()?;
+        self.put_in_slot(put.slot, put.value)?;
+        Ok(put.answer)
+    }
+
+    /// Takes a unit, and keeps what is remembered.
+    pub(crate) fn take_unit(&mut self) -> Result<(), Stop>
+        ensures unit { Acted Tick (O.seen self.old.0) result (O.seen self.new.0) }
+        ensures lacks { LacksAtMost result }
+        ensures founds { self.new.1 ≡ self.old.1 }
+    {
+        let result = self.objects.tick();
+        self.holds = still(self.holds, &result);
+        result
+    }
+
+    // Puts a value in a slot of an object that was written, and keeps what is remembered.
+    fn put_in_slot(&mut self, slot: Slot, value: Value) -> Result<(), Stop>
+        ensures put { Replaces (λ body. 0) slot.name (with_slot slot.at value)
+            (O.seen self.old.0) result (O.seen self.new.0) }
+        ensures lacks { LacksAtMost result }
+        ensures founds { self.new.1 ≡ self.old.1 }
+    {
+        if !is_shown(&self.objects, slot.name) {
+            return Ok(());
+        }
+        let result = replace_slot(&mut self.objects, slot.name, slot.at, value);
+        self.holds = still(self.holds, &result);
+        result
+    }
+
     // Reads the receiver, if it is an object. Where what is remembered holds, the object is
     // remembered by that, and with it where look-ups for it begin.
     fn meet(&mut self, receiver: &Value) -> Result<(), Stop>
@@ -144,6 +400,7 @@ impl<O: Objects, T: MethodCodeKept> KnownObjects<O, T> {
         self.holds = false;
         let found = st_outside::find_method(&mut self.objects, false, frame, receiver, selector)?;
         let at = remember(&mut self.memory, &self.objects, receiver, selector, found)?;
+        remember_count(&mut self.memory, &self.objects, receiver, at);
         self.holds = true;
         Ok(at)
     }

@@ -16,10 +16,17 @@ ghost use Rattle.running_objects.specs.Acted.{Acted, Accessed, Owned, Known, Edi
 ghost use Rattle.gem_language.specs.declared.found.Found.{Found};
 ghost use Rattle.gem_language.specs.LookUp.{Start, start_of_receiver, found_at, find_method};
 ghost use Rattle.running_objects.specs.Seen.{Seen, object_at, IsSoundState};
-ghost use Rattle.prim_parts.specs.Does.{Does};
+ghost use Rattle.running_objects.specs.object_programs.Guard.{chain_limit};
+ghost use Rattle.running_objects.specs.object_programs.Run.{give, and_then};
+ghost use Rattle.gem_language.specs.tree_meaning.Names.{index_of};
+ghost use Rattle.gem_language.specs.prim_rules.Parts.{named_slots};
+ghost use Rattle.gem_language.specs.OutOfScope.{instance_names};
+ghost use Rattle.prim_parts.specs.Does.{Does, IsThere};
 ghost use Rattle.look_up_cache.specs.Lasting.{lasting_body, lasting_of};
 ghost use Rattle.look_up_cache.specs.Calm.{Calm, Begins};
 ghost use Rattle.look_up_cache.specs.Remembered.{Finds};
+ghost use Rattle.look_up_cache.specs.Variables.{Stands};
+ghost use Rattle.look_up_cache.specs.Counted.{Counted};
 ghost use Rattle.look_up_cache.specs.Memory.{FindsFor};
 ghost use Rattle.look_up_cache.specs.Remains.{Remains};
 
@@ -57,6 +64,28 @@ pub fn look_ups_are_told()
         (before after : Seen)
         → Does (find_method false frame receiver selector) before (Ok found) after
         → Remains before after × FindsFor receiver selector found after }
+{}
+
+/// In which slot an instance variable stands, and how many slots a class names, is remembered as it
+/// is found now, without a change; it remains, as look-ups do, and what was looked for leaves it.
+pub fn slots_are_remembered()
+    ensures variable { (holder : ℕ) (name : Text) (found : Option ℕ) (seen : Seen)
+        → Stands holder name found seen.setting seen.world
+        → Does (and_then (instance_names holder) (λ names. give (index_of name names))) seen
+        (Ok found) seen }
+    ensures count { (class named : ℕ) (seen : Seen) → IsSoundState seen → IsThere class seen
+        → Counted seen.setting seen.world chain_limit class named
+        → Does (named_slots class) seen (Ok named) seen }
+    ensures stands { (holder : ℕ) (name : Text) (found : Option ℕ) (before after : Seen)
+        → Remains before after → Stands holder name found before.setting before.world
+        → Stands holder name found after.setting after.world }
+    ensures counted { (class named : ℕ) (before after : Seen) → Remains before after
+        → Counted before.setting before.world chain_limit class named
+        → Counted after.setting after.world chain_limit class named }
+    ensures told { (holder : ℕ) (name : Text) (found : Option ℕ) (before after : Seen)
+        → Does (and_then (instance_names holder) (λ names. give (index_of name names))) before
+        (Ok found) after
+        → Remains before after × Stands holder name found after.setting after.world }
 {}
 
 /// What calls leave that say what an atom does, where they end well: nothing happened that look-ups

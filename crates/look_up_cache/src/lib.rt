@@ -1,8 +1,11 @@
-//! Room: running. Gives objects that remember look-ups: which method answers a message is found
-//! once and then known, until something changes on which it depends. Knows nothing of how a tree is
-//! run, of the Stone and of other sessions. Its tests stand in `machine_tests`.
+//! Room: running. Gives objects that remember look-ups: which method answers a message, in which
+//! slot an instance variable stands, and how many slots a class names, is found once and then known,
+//! until something changes on which it depends. Knows nothing of how a tree is run, of the Stone and
+//! of other sessions. Its tests stand in `machine_tests`.
 #![tactic(auto)]
 
+mod counts;
+mod elements;
 mod finding;
 mod kept;
 mod known;
@@ -10,6 +13,7 @@ pub mod laws;
 mod memory;
 mod objects;
 mod table;
+mod variables;
 mod writes;
 
 pub use kept::MethodCodeKept;

@@ -41,12 +41,30 @@ pub(crate) struct Entry<T> {
     pub(crate) code: Option<T>,
 }
 
-/// Receivers and look-ups, each at a place that its name or its class and selector tell. At a place
-/// stands what came there last.
+/// A name that was looked for among the instance variables of a class, and the slot of the variable
+/// of this name, if there is one.
+#[derive(Drop)]
+pub(crate) struct Variable {
+    pub(crate) holder: Oid,
+    pub(crate) name: Text,
+    pub(crate) slot: Option<usize>,
+}
+
+/// A class, and how many slots it and those above it name.
+#[derive(Drop)]
+pub(crate) struct Count {
+    pub(crate) class: Oid,
+    pub(crate) named: usize,
+}
+
+/// Receivers, look-ups, instance variables and classes, each at a place that its name, or its class
+/// and selector or name, tell; all but classes at one of two. At a place stands what came there last.
 #[derive(Drop)]
 pub struct Memory<T> {
     pub(crate) receivers: Vec<Option<Receiver>>,
     pub(crate) methods: Vec<Option<Entry<T>>>,
+    pub(crate) variables: Vec<Option<Variable>>,
+    pub(crate) counts: Vec<Option<Count>>,
 }
 
 impl<T> Memory<T> {
@@ -54,10 +72,14 @@ impl<T> Memory<T> {
     pub(crate) fn empty(alloc: Global) -> Memory<T>
         ensures receivers { result.receivers.items ≡ [] }
         ensures methods { result.methods.items ≡ [] }
+        ensures variables { result.variables.items ≡ [] }
+        ensures counts { result.counts.items ≡ [] }
     {
         Memory {
             receivers: Vec::new(alloc),
             methods: Vec::new(alloc),
+            variables: Vec::new(alloc),
+            counts: Vec::new(alloc),
         }
     }
 }

@@ -41,9 +41,7 @@ impl<O: Objects, T: MethodCodeKept> Objects for KnownObjects<O, T> {
     }
 
     fn tick(&mut self) -> Result<(), Stop> {
-        let result = self.objects.tick();
-        self.holds = still(self.holds, &result);
-        result
+        self.take_unit()
     }
 
     fn room(&mut self, slots: u64) -> Result<(), Stop> {
@@ -174,8 +172,8 @@ impl<O: RunsChunks, T: MethodCodeKept> RunsChunks for KnownObjects<O, T> {
     }
 }
 
-// Whether what is remembered is so after a call with this result.
-fn still<A>(held: bool, ended: &Result<A, Stop>) -> bool
+/// Whether what is remembered is so after a call with this result.
+pub(crate) fn still<A>(held: bool, ended: &Result<A, Stop>) -> bool
     ensures { result ≡ (held && is_ok ended.now) }
 {
     held && ended.is_ok()
@@ -200,9 +198,16 @@ fn stays(held: bool, body: &Body) -> bool
     }
 }
 
-// Whether what is remembered is so, and there is an object of this name.
+/// Whether there is an object of this name.
+pub(crate) fn is_shown<O: Objects>(objects: &O, oid: Oid) -> bool
+    ensures { result ≡ is_some (object_at oid (O.seen objects.now)) }
+{
+    objects.object(oid).is_some()
+}
+
+/// Whether what is remembered is so, and there is an object of this name.
 #[tactic(auto, using(crate::proofs::There::there_by))]
-fn is_there<O: Objects>(held: bool, objects: &O, oid: Oid) -> bool
+pub(crate) fn is_there<O: Objects>(held: bool, objects: &O, oid: Oid) -> bool
     ensures held { result ≡ true → held ≡ true }
     ensures there { result ≡ true → is_some (object_at oid (O.seen objects.now)) ≡ true }
 {

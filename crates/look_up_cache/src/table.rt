@@ -12,6 +12,22 @@ pub(crate) fn held_at<X>(places: &Vec<Option<X>>, at: usize) -> Option<&X>
     place.as_ref()
 }
 
+/// The other place for what may stand at one.
+pub(crate) fn beside(place: usize) -> usize {
+    place ^ 1
+}
+
+/// Where something new comes that may stand at a place or beside it: where nothing stands, and else
+/// at the first of the two. It takes no memory.
+pub(crate) fn free_place<X>(places: &Vec<Option<X>>, first: usize) -> usize {
+    let second = beside(first);
+    if held_at(places, first).is_some() && held_at(places, second).is_none() {
+        second
+    } else {
+        first
+    }
+}
+
 /// Makes a table wide enough that it has this place.
 #[tactic(auto, using(crate::proofs::Places::held_added))]
 pub(crate) fn widen<X: Drop>(places: &mut Vec<Option<X>>, at: usize) -> Result<(), AllocError>

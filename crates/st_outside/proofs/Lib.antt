@@ -1,6 +1,6 @@
 mod Steps
 mod Ups
-mod Indexes
-mod Slots
+pub mod Indexes
+pub mod Slots
 mod Elements
 mod Placing

@@ -5,7 +5,7 @@ use Rattle.gem_object.specs.texts.Bytes.{Bytes as Text}
 use Rattle.gem_object.specs.Edits.{plain_slots, with_slot}
 use Rattle.gem_object.specs.declared.value.Value.{Value}
 use Rattle.gem_sound.specs.gem_image.Image.{Contents}
-use Rattle.object_programs.specs.Run.{Run, give, and_then}
+use Rattle.object_programs.specs.Run.{Run, give, fail, and_then}
 use Rattle.object_programs.specs.Programs.{check, replace_body}
 use Rattle.object_programs.specs.declared.fault.Fault.TheVariants as fault
 use Rattle.gem_language.specs.prim_rules.Receivers.{check_stored}
@@ -13,7 +13,7 @@ use Rattle.gem_language.specs.tree_meaning.Place.{Frame, MadeBlock}
 use Rattle.gem_language.specs.tree_meaning.Names.{index_of}
 use Rattle.running_objects.specs.Seen.{Seen}
 use Rattle.running_objects.specs.declared.stop.Stop.{Stop}
-use Rattle.gem_language.specs.OutOfScope.{instance_names, slot_of, instance_value, set_instance_value, put_in_slot, value_of_name, read_out_of_scope, assign_name, write_out_of_scope}
+use Rattle.gem_language.specs.OutOfScope.{instance_names, slot_of, instance_value, set_instance_value, put_in_slot, global_value, value_of_name, read_out_of_scope, assign_name, write_out_of_scope}
 use Rattle.prim_parts.specs.Does.{Does, Computes}
 use Rattle.prim_parts.proofs.Does.{does_then, does_stop, does_give, does_assoc_back, computes_then}
 use Rattle.prim_parts.proofs.Onward.{handed}
@@ -77,12 +77,6 @@ module _ (name : Text) (frame : Frame) where
     read_then slot told does = with_given {first = instance_names frame.holder} (slot_of frame.class_side name)
         {second = value_of_name name frame} (does_then told does)
 
-    pub read_slot : (slot : ℕ) (receiver : Value) → receiver ≡ frame.receiver → SlotTold before (Ok (Some slot)) between
-        → Does (instance_value receiver slot) between result after → Does (read_out_of_scope name frame) before result after
-    read_slot slot receiver is told does =
-        let At : Value → Type 0 = λ receiver. Does (instance_value receiver slot) between result after in
-        read_then (Some slot) told (subst At is does)
-
     pub write_then : (slot : Option ℕ) (value : Value) → SlotTold before (Ok slot) between
         → Does (assign_name name frame slot value) between result after
         → Does (write_out_of_scope name frame value) before result after
@@ -90,12 +84,35 @@ module _ (name : Text) (frame : Frame) where
     write_then slot value told does = with_given {first = instance_names frame.holder} (slot_of frame.class_side name)
         {second = λ slot. assign_name name frame slot value} (does_then told does)
 
-    pub write_slot : (slot : ℕ) (value receiver : Value) → receiver ≡ frame.receiver → SlotTold before (Ok (Some slot)) between
-        → Does (set_instance_value receiver slot value) between result after
-        → Does (write_out_of_scope name frame value) before result after
-    write_slot slot value receiver is told does =
-        let At : Value → Type 0 = λ receiver. Does (set_instance_value receiver slot value) between result after in
-        write_then (Some slot) value told (subst At is does)
+  -- by the slot that was told
+  module _ {before after : Seen} {result : Result Value Stop} where
+    pub value_in_slot : (found : Option ℕ) (slot : ℕ) (receiver : Value) → found ≡ Some slot → receiver ≡ frame.receiver
+        → Does (instance_value receiver slot) before result after → Does (value_of_name name frame found) before result after
+    value_in_slot found slot receiver is own does =
+        let At : Option ℕ → Type 0 = λ found. Does (value_of_name name frame found) before result after in
+        let Of : Value → Type 0 = λ receiver. Does (instance_value receiver slot) before result after in
+        subst At (sym is) (subst Of own does)
+
+    pub value_of_global : (found : Option ℕ) → found ≡ None → Does (global_value name) before result after
+        → Does (value_of_name name frame found) before result after
+    value_of_global found is does =
+        let At : Option ℕ → Type 0 = λ found. Does (value_of_name name frame found) before result after in
+        subst At (sym is) does
+
+    pub assigned_in_slot : (found : Option ℕ) (slot : ℕ) (value receiver : Value) → found ≡ Some slot
+        → receiver ≡ frame.receiver → Does (set_instance_value receiver slot value) before result after
+        → Does (assign_name name frame found value) before result after
+    assigned_in_slot found slot value receiver is own does =
+        let At : Option ℕ → Type 0 = λ found. Does (assign_name name frame found value) before result after in
+        let Of : Value → Type 0 = λ receiver. Does (set_instance_value receiver slot value) before result after in
+        subst At (sym is) (subst Of own does)
+
+    pub assigned_to_none : (found : Option ℕ) (value : Value) → found ≡ None
+        → Does (fail (fault.UndefinedVariable name)) before result after
+        → Does (assign_name name frame found value) before result after
+    assigned_to_none found value is does =
+        let At : Option ℕ → Type 0 = λ found. Does (assign_name name frame found value) before result after in
+        subst At (sym is) does
 
   module _ {before after : Seen} {ended : Stop} {result : Result Value Stop} where
     pub read_stop : SlotTold before (Err ended) after → IsErrAnd result (λ given. given ≡ ended)

@@ -18,8 +18,9 @@ use prim_parts::{check, check_stored, reference_in, replace_slot};
 use running_objects::{Objects, Stop};
 
 /// Where a name stands first among those of the instance variables of a class, the inherited ones
-/// first. The classes from this one up are read. It takes no memory.
-pub(crate) fn variable_index<O: Objects>(
+/// first; None where no variable has this name. The classes from this one up are read: E10 where
+/// the user may not. It takes no memory.
+pub fn variable_index<O: Objects>(
     objects: &mut O,
     class: Oid,
     name: &Text,

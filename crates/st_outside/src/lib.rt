@@ -12,7 +12,8 @@ mod methods;
 mod names;
 
 pub use globals::global_value;
+pub use instances::variable_index;
 pub use literals::literal;
 pub use look_up::find_method;
 pub use methods::install;
-pub use names::{read_name, write_name};
+pub use names::{assign_name, read_name, value_of_name, write_name};

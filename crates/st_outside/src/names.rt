@@ -18,11 +18,8 @@ pub fn read_name<O: Objects>(objects: &mut O, name: &Text, frame: &Frame) -> Res
     ensures { Does (read_out_of_scope name.now frame.now) (O.seen objects.old) result
         (O.seen objects.new) }
 {
-    let found = slot_of(objects, name, frame)?;
-    match found {
-        Some(slot) => instance_value(objects, frame.receiver(), slot),
-        None => global_value(objects, name),
-    }
+    let slot = slot_of(objects, name, frame)?;
+    value_of_name(objects, name, frame, slot)
 }
 
 /// An assignment to such a name: to an instance variable, for which the receiver is written (E11
@@ -36,11 +33,8 @@ pub fn write_name<O: Objects>(
     ensures { Does (write_out_of_scope name.now frame.now value) (O.seen objects.old) result
         (O.seen objects.new) }
 {
-    let found = slot_of(objects, name, frame)?;
-    match found {
-        Some(slot) => set_instance_value(objects, frame.receiver(), slot, value),
-        None => undefined(name),
-    }
+    let slot = slot_of(objects, name, frame)?;
+    assign_name(objects, name, frame, slot, value)
 }
 
 // The slot of the instance variable of this name; none in a method of the class side.
@@ -54,4 +48,40 @@ fn slot_of<O: Objects>(objects: &mut O, name: &Text, frame: &Frame) -> Result<Op
         return Ok(None);
     }
     Ok(found)
+}
+
+/// What `read_name` gives once it is told in which slot the instance variable of this name stands.
+/// Where it is none, for there is no such variable or the method is one of the class side, the
+/// value is a global's. That the slot is the name's own isn't claimed.
+pub fn value_of_name<O: Objects>(
+    objects: &mut O,
+    name: &Text,
+    frame: &Frame,
+    slot: Option<usize>,
+) -> Result<Value, Stop>
+    ensures { Does (value_of_name name.now frame.now slot) (O.seen objects.old) result
+        (O.seen objects.new) }
+{
+    match slot {
+        Some(slot) => instance_value(objects, frame.receiver(), slot),
+        None => global_value(objects, name),
+    }
+}
+
+/// What `write_name` does once it is told in which slot the instance variable of this name stands.
+/// That the slot is the name's own isn't claimed.
+pub fn assign_name<O: Objects>(
+    objects: &mut O,
+    name: &Text,
+    frame: &Frame,
+    slot: Option<usize>,
+    value: Value,
+) -> Result<Value, Stop>
+    ensures { Does (assign_name name.now frame.now slot value) (O.seen objects.old) result
+        (O.seen objects.new) }
+{
+    match slot {
+        Some(slot) => set_instance_value(objects, frame.receiver(), slot, value),
+        None => undefined(name),
+    }
 }

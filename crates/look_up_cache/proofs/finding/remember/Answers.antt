@@ -24,4 +24,6 @@ returns-clause-holds g c = λ holds.
           (subst (λ (s : Start). Finds s c.in_ok-clone.field-0 c.args.found seen.setting seen.world) (sym same)
           (subst (λ (text : Text). Finds start text c.args.found seen.setting seen.world) (sym c.in_ok-clone.ensures.cases)
           c.requires.finds)) holds.methods;
+      variables = holds.variables;
+      counts = holds.counts;
     }

@@ -5,5 +5,10 @@ use Rattle.look_up_cache.proofs.writes.remember_write.Goals as goal
 pub returns-then-held-clause-holds : goal.returns-then-held-clause-holds
 returns-then-held-clause-holds g c before reached holds =
     learned c.args.held c.args.memory.now
-    (record { receivers = c.remember_object_written.new.receivers; methods = c.args.memory.now.methods })
-    (g.O.Objects.seen c.args.objects.now) (c.remember_object_written.ensures before reached) refl holds
+    (record {
+      receivers = c.remember_object_written.new.receivers;
+      methods = c.args.memory.now.methods;
+      variables = c.args.memory.now.variables;
+      counts = c.args.memory.now.counts;
+    })
+    (g.O.Objects.seen c.args.objects.now) (c.remember_object_written.ensures before reached) refl refl refl holds

@@ -1,22 +1,10 @@
-use Rattle.std.proofs.Common.{subst, ℕ, Option, None, Ok}
-use Rattle.prim_parts.proofs.Does.{does_compute}
-use Rattle.st_outside.proofs.Slots.{SlotTold, write_stop, write_slot, write_then}
+use Rattle.st_outside.proofs.Slots.{write_stop, write_then}
 use Rattle.st_outside.proofs.names.write_name.Goals as goal
 
-pub returns-in_err-found : goal.returns-in_err-found
-returns-in_err-found g c =
-    write_stop c.args.name.now c.args.frame.now c.args.value c.in_err-found.ensures c.from_residual.ensures.1
+pub returns-in_err-slot : goal.returns-in_err-slot
+returns-in_err-slot g c =
+    write_stop c.args.name.now c.args.frame.now c.args.value c.in_err-slot.ensures c.from_residual.ensures.1
 
-pub returns-in-Some : goal.returns-in-Some
-returns-in-Some g c =
-    let At : Option ℕ → Type 0 = λ found. SlotTold c.args.name.now c.args.frame.now (g.O.Objects.seen c.args.objects.now)
-    (Ok found) (g.O.Objects.seen c.slot_of.new.objects) in
-    write_slot c.args.name.now c.args.frame.now c.in-Some.slot c.args.value c.receiver.result.now c.receiver.ensures
-    (subst At c.in-Some.is c.in_ok-found.ensures) c.set_instance_value.ensures
-
-pub returns-in-None : goal.returns-in-None
-returns-in-None g c =
-    let At : Option ℕ → Type 0 = λ found. SlotTold c.args.name.now c.args.frame.now (g.O.Objects.seen c.args.objects.now)
-    (Ok found) (g.O.Objects.seen c.slot_of.new.objects) in
-    write_then c.args.name.now c.args.frame.now None c.args.value (subst At c.in-None.is c.in_ok-found.ensures)
-    (does_compute (g.O.Objects.seen c.slot_of.new.objects) c.undefined.ensures)
+pub returns : goal.returns
+returns g c = write_then c.args.name.now c.args.frame.now c.in_ok-slot.slot c.args.value c.in_ok-slot.ensures
+    c.assign_name.ensures

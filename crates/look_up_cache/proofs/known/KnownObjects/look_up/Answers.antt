@@ -1,5 +1,4 @@
-use Rattle.std.proofs.Common.{ℕ, false, Option, Result, Err}
-use Rattle.gem_language.specs.tree_meaning.Place.{Frame}
+use Rattle.std.proofs.Common.{sym, subst, ℕ, false, Result}
 use Rattle.running_objects.specs.Seen.{Seen, Keeps}
 use Rattle.running_objects.specs.declared.stop.Stop.{Stop}
 use Rattle.running_objects.specs.declared.stop.Stop.TheVariants as stop
@@ -7,7 +6,8 @@ use Rattle.gem_language.specs.LookUp.{find_method}
 use Rattle.prim_parts.specs.Does.{Does}
 use Rattle.prim_parts.proofs.Does.{does_nothing}
 use Rattle.prim_parts.proofs.Onward.{handed}
-use Rattle.look_up_cache.specs.Memory.{founds, told_by}
+use Rattle.look_up_cache.specs.Table.{AllHeld}
+use Rattle.look_up_cache.specs.Memory.{founds, told_by, IsCoded}
 use Rattle.look_up_cache.proofs.Told.{method_told}
 use Rattle.look_up_cache.proofs.Keeps.{holds_remain, as_seen}
 use Rattle.look_up_cache.proofs.known.KnownObjects.look_up.Goals as goal
@@ -37,7 +37,8 @@ invariant_of-self-2 g c =
     let told = method_told c.args.frame.now c.args.receiver.now c.args.selector.now c.in_ok-found.found
     before after c.in_ok-found.ensures in
     record {
-      holds = c.in_ok-at.ensures.holds (holds_remain before after told.0 c.renew.new.memory
-          (c.renew.ensures.holds before c.self.invariant.holds));
-      coded = c.remember.ensures.coded (c.renew.ensures.coded c.self.invariant.coded);
+      holds = c.remember_count.ensures.holds (c.in_ok-at.ensures.holds (holds_remain before after told.0 c.renew.new.memory
+          (c.renew.ensures.holds before c.self.invariant.holds)));
+      coded = subst (λ methods. AllHeld (IsCoded g.T.MethodCodeKept.is_of) methods) (sym c.remember_count.ensures.methods)
+          (c.remember.ensures.coded (c.renew.ensures.coded c.self.invariant.coded));
     }

@@ -1,5 +1,5 @@
 use Rattle.look_up_cache.proofs.Keeps.{unit_known}
-use Rattle.look_up_cache.proofs.objects.KnownObjectsObjects.tick.Goals as goal
+use Rattle.look_up_cache.proofs.known.KnownObjects.take_unit.Goals as goal
 
 pub invariant_of-self : goal.invariant_of-self
 invariant_of-self g c = unit_known g.T.MethodCodeKept.is_of c.self.inside.memory
