@@ -58,6 +58,12 @@ pub whatever : {T E P : Type 0} (result : Result T E) → P → IfOk result (λ 
 whatever (Ok found) holds = holds
 whatever (Err ended) holds = tt
 
+-- The same in other words.
+pub is_then : {T E A : Type 0} (result : Result T E) (new old other : A) → old ≡ other
+    → IfOk result (λ found. new ≡ old) → IfOk result (λ found. new ≡ other)
+is_then (Ok found) new old other same is = is ∙ same
+is_then (Err stop) new old other same is = tt
+
 -- The measure of the machine's loop, where it goes on.
 pub less_forward : (whole size at there : ℕ) → at < size → at < there
     → whole + (size + 1 - there) < whole + (size + 1 - at)

@@ -1,7 +1,7 @@
 -- What is known to be answered by one push is answered as the look-up and the activation do.
-use Rattle.std.proofs.Common.{◌≡◌, ◌∙◌, refl, sym, ap, ap₂, subst, ℕ, zero, suc, ◌<◌, ◌-◌, false, List, reverse, length, take, drop, get_or, Option, None, Some, Result, Ok, Err, IfSome}
+use Rattle.std.proofs.Common.{◌≡◌, ◌∙◌, refl, sym, ap, ap₂, subst, ℕ, zero, suc, ◌<◌, ◌-◌, Bool, false, List, ◌∷◌, reverse, length, take, drop, get_or, slice_get, Option, None, Some, Result, Ok, Err, IfSome}
 use Rattle.std.specs.declared.alloc.AllocError.{AllocError}
-use Rattle.std.proofs.lemmas.Option.{same_Some, none-some}
+use Rattle.std.proofs.lemmas.Option.{same_Some, none-some, slice_get-get_or}
 use Rattle.gem_object.specs.texts.Bytes.{Bytes as Text}
 use Rattle.st_tree.specs.Trees.{Program}
 use Rattle.gem_sound.specs.st_grammar.Grammar.{method}
@@ -34,13 +34,15 @@ use Rattle.prim_parts.specs.Does.{Does}
 use Rattle.prim_parts.proofs.Does.{does_give, does_atom, does_ran}
 use Rattle.look_up_cache.specs.Memory.{with_budget}
 use Rattle.st_compiler.specs.Code.{Piece}
-use Rattle.st_compiler.specs.Instruction.{Instruction, PushSelf, PushNil, PushTrue, PushFalse, PushLit, Send, TakeUnit}
+use Rattle.st_compiler.specs.Instruction.{Instruction, PushSelf, PushNil, PushTrue, PushFalse, PushLit, PushName, Send, TakeUnit}
 use Rattle.st_compiler.specs.Machine.{after as ended_by}
 use Rattle.st_commands.proofs.Activations.{method_ran}
+use Rattle.st_machine.specs.AtOnce.{StandsFor}
 use Rattle.st_machine.specs.Led.{TurnedBy, UnitTurned}
 use Rattle.st_machine.specs.Methods.{IsMethodOf, IsCodeOf}
 use Rattle.st_machine.specs.Parts.{framed}
-use Rattle.st_machine.specs.Quick.{put_value, IsQuick, quick_frame, constant_put, Replaced, AnswersQuickly}
+use Rattle.look_up_cache.specs.Variables.{bare_frame}
+use Rattle.st_machine.specs.Quick.{put_value, IsQuick, constant_put, Replaced, PushedAtOnce, AnswersQuickly}
 use Rattle.st_machine.specs.Targets.{target_by_tree, target_by, target_for, call_of, found_by, Answered}
 use Rattle.st_machine.specs.declared.flow.Turn.{Turn}
 use Rattle.st_machine.specs.declared.flow.Turn.TheVariants as turn
@@ -67,21 +69,27 @@ module _ (callee : Callee) (selector : Text) (receiver : Value) (arguments : Lis
   by_found None = refl
   by_found (Some found) = by_code found found.code
 
--- What stands at a place is a method that answers by this push.
+-- What stands at a place is a method that answers by this push, also where it is named.
+abbrev QuickAt : Instruction → Option Found → Type 0
+QuickAt one held = IfSome held (λ found. AnswersQuickly held found.holder found.class_side one)
+
 pub quick_found : (held : Option Found) (found : Found) (source : Text) (tree : Program) (one : Instruction)
     → Some found ≡ held → found.code ≡ Source source → IfSome held (λ one. IsCodeOf tree one.code) → IsQuick tree one
-    → AnswersQuickly held one
+    → QuickAt one held
 quick_found held found source tree one is by_source coded quick =
     let here : IsCodeOf tree found.code = subst (λ (at : Option Found). IfSome at (λ one. IsCodeOf tree one.code)) (sym is) coded in
     let method_is : IsMethodOf source (Some tree) = subst (λ (code : MethodCode). IsCodeOf tree code) by_source here in
-    subst (λ (at : Option Found). AnswersQuickly at one) is (record {
+    subst (QuickAt one) is (record {
       tree = tree;
-      holder = found.holder;
-      class_side = found.class_side;
       leads = ap (target_by found) by_source ∙ ap (target_by_tree found) method_is.0;
       named = method_is.1;
       quick = quick;
     })
+
+pub quick_named : (held : Option Found) (found : Found) (one : Instruction) → Some found ≡ held → QuickAt one held
+    → AnswersQuickly held found.holder found.class_side one
+quick_named held found one is quick =
+    subst (λ (at : Option Found). AnswersQuickly at found.holder found.class_side one) is (subst (QuickAt one) (sym is) quick)
 
 -- A push that asks no objects puts its constant, in any frame with this receiver.
 given : (frame : Frame) (seen : Seen) (first answer : Value) → Some first ≡ Some answer
@@ -99,45 +107,73 @@ constant_does PushFalse frame seen answer is = given frame seen value.False answ
 constant_does (PushLit first) frame seen answer is = given frame seen first answer is
 constant_does other frame seen answer is = absurd (none-some answer is)
 
-module _ (depth : ℕ) (some : 0 < depth) (selector : Text) (frame : Frame) (receiver : Value) (arguments : List Value)
-    (found : Option Found) (one : Instruction) (quick : AnswersQuickly found one) (seen : Seen)
-    (local : Local MadeBlock) where
-  called : (answer : Value) → constant_put one receiver ≡ Some answer
+pub constant_pushed : (one : Instruction) (frame : Frame) (seen : Seen) (below left : List Value)
+    → Replaced (constant_put one frame.receiver) below left → PushedAtOnce one frame seen below left
+constant_pushed one frame seen below left replaced = by (constant_put one frame.receiver) refl replaced
+  where
+    by : (put : Option Value) → constant_put one frame.receiver ≡ put → Replaced put below left
+        → PushedAtOnce one frame seen below left
+    by None is stands = absurd stands
+    by (Some value) is stands = record {
+      value = value;
+      puts = λ budget. constant_does one frame (with_budget budget seen) value is;
+      stands = stands;
+    }
+
+-- A name that is known puts its value.
+pub name_pushed : (one : Instruction) (name : Text) (frame : Frame) (seen : Seen) (below left : List Value)
+    → one ≡ PushName name → PushedAtOnce (PushName name) frame seen below left → PushedAtOnce one frame seen below left
+name_pushed one name frame seen below left is pushed =
+    subst (λ (at : Instruction). PushedAtOnce at frame seen below left) (sym is) pushed
+
+pub variable_pushed : (name : Text) (receiver : Value) (own : List Value) (count : ℕ) → count < length own
+    → Some receiver ≡ slice_get own count → (holder : ℕ) (class_side : Bool) (seen : Seen) (known : Value)
+    (left : List Value) → StandsFor name (bare_frame receiver holder class_side) seen known
+    → left ≡ known ∷ drop (suc count) own
+    → PushedAtOnce (PushName name) (bare_frame (get_or own count value.Nil) holder class_side) seen
+    (drop (suc count) own) left
+variable_pushed name receiver own count within there holder class_side seen known left stands_for stands = record {
+  value = known;
+  puts = subst (λ (at : Value). StandsFor name (bare_frame at holder class_side) seen known)
+      (same_Some receiver (get_or own count value.Nil) (there ∙ slice_get-get_or own count value.Nil within)) stands_for;
+  stands = stands;
+}
+
+-- The method that was found is called, and puts a value.
+module _ (depth : ℕ) (some : 0 < depth) (selector : Text) (receiver : Value) (arguments : List Value)
+    (found : Option Found) (holder : ℕ) (class_side : Bool) (one : Instruction)
+    (quick : AnswersQuickly found holder class_side one) (seen : Seen) (local : Local MadeBlock) where
+  called : (answer : Value) → Does (put_value one (bare_frame receiver holder class_side)) seen (Ok answer) seen
       → Ran (call_found (callee depth) selector found receiver arguments) seen local (Ok answer) seen local
-  called answer is =
+  called answer puts =
       let AtTarget : Target → Type 0 = λ target. Ran (call_of (callee depth) selector target receiver arguments)
       seen local (Ok answer) seen local in
       let AtRun : ValueRun → Type 0 = λ program. Ran program seen local (Ok answer) seen local in
       subst AtRun (by_found (callee depth) selector receiver arguments found)
       (subst AtTarget (sym quick.leads)
-      (method_ran depth some quick.tree quick.holder quick.class_side receiver arguments
-      (quick_ran (depth - 1) quick.tree one quick.quick quick.named quick.holder quick.class_side receiver arguments
-      local (Ok answer)
-      (constant_does one (quick_frame receiver quick.holder quick.class_side) seen answer is))))
+      (method_ran depth some quick.tree holder class_side receiver arguments
+      (quick_ran (depth - 1) quick.tree one quick.quick quick.named holder class_side receiver arguments
+      local (Ok answer) puts)))
 
 -- The message is answered, where the receiver stands below its arguments.
 module _ (depth : ℕ) (some : 0 < depth) (selector : Text) (frame : Frame) (own : List Value) (count : ℕ)
-    (found : Option Found) (one : Instruction) (quick : AnswersQuickly found one) (left : List Value) {seen : Seen}
+    (found : Option Found) (holder : ℕ) (class_side : Bool) (one : Instruction)
+    (quick : AnswersQuickly found holder class_side one) (left : List Value) (seen : Seen) (budget : Budget)
     {local : Local MadeBlock}
-    (finds : Ran (find_method false frame (get_or own count value.Nil) selector) seen local (Ok found) seen local) where
-  by_put : (put : Option Value) → constant_put one (get_or own count value.Nil) ≡ put
-      → Replaced put (drop (suc count) own) left
-      → Answered (found_by (callee depth) selector frame (get_or own count value.Nil) (take count own)) seen local
+    (finds : Ran (find_method false frame (get_or own count value.Nil) selector) (with_budget budget seen) local
+    (Ok found) (with_budget budget seen) local) where
+  pub known_answered : PushedAtOnce one (bare_frame (get_or own count value.Nil) holder class_side) seen
       (drop (suc count) own) left
-  by_put None is stands = absurd stands
-  by_put (Some answer) is stands = record {
-    answer = answer;
+      → Answered (found_by (callee depth) selector frame (get_or own count value.Nil) (take count own))
+      (with_budget budget seen) local (drop (suc count) own) left
+  known_answered pushed = record {
+    answer = pushed.value;
     ran = ran_then (λ held. call_found (callee depth) selector held (get_or own count value.Nil)
         (reverse (take count own))) finds
-        (called depth some selector frame (get_or own count value.Nil) (reverse (take count own)) found one quick seen local
-        answer is);
-    stands = stands;
+        (called depth some selector (get_or own count value.Nil) (reverse (take count own)) found holder class_side one
+        quick (with_budget budget seen) local pushed.value (pushed.puts budget));
+    stands = pushed.stands;
   }
-
-  pub known_answered : Replaced (constant_put one (get_or own count value.Nil)) (drop (suc count) own) left
-      → Answered (found_by (callee depth) selector frame (get_or own count value.Nil) (take count own)) seen local
-      (drop (suc count) own) left
-  known_answered replaced = by_put (constant_put one (get_or own count value.Nil)) refl replaced
 
 -- What a unit leaves: all but the budget is as before; and where it fails, none was left.
 world_stays : (units : ℕ) (world : World) (budget : Budget) (answer : Answer (Unit {0})) (later : World) (left : Budget)
@@ -186,6 +222,7 @@ unit_led outside table place stack scopes frame before after local (Ok turn.NoUn
 unit_led outside table place stack scopes frame before after local (Ok (turn.Jumps there)) turned = absurd turned
 unit_led outside table place stack scopes frame before after local (Ok turn.NotBoolean) turned = absurd turned
 unit_led outside table place stack scopes frame before after local (Ok turn.ArgumentKind) turned = absurd turned
+unit_led outside table place stack scopes frame before after local (Ok turn.TooLarge) turned = absurd turned
 unit_led outside table place stack scopes frame before after local (Ok turn.Stuck) turned = absurd turned
 unit_led outside table place stack scopes frame before after local (Err none) turned = tt
 
@@ -226,5 +263,6 @@ module _ (depth : ℕ) (table : List Piece) (selector : Text) (count place : ℕ
   known_led answers (Ok (turn.Jumps there)) turned = absurd turned
   known_led answers (Ok turn.NotBoolean) turned = absurd turned
   known_led answers (Ok turn.ArgumentKind) turned = absurd turned
+  known_led answers (Ok turn.TooLarge) turned = absurd turned
   known_led answers (Ok turn.Stuck) turned = absurd turned
   known_led answers (Err none) turned = tt

@@ -10,6 +10,11 @@ pub mod Kept
 pub mod QuickRuns
 pub mod KnownAnswers
 mod Placed
+mod Changes
+mod Lacking
 pub mod ReadyAnswers
 pub mod PutItem
 pub mod MoreNils
+pub mod Taken
+pub mod Evaluated
+pub mod Calls

@@ -1,6 +1,6 @@
 -- What a look-up asks of a frame: the receiver, and the class that holds the method. Scopes and the
 -- home don't matter.
-use Rattle.std.proofs.Common.{◌≡◌, ◌∙◌, refl, ap, subst, ℕ, Bool, true, false, List, [], ◌∷◌, reverse, Option, None, Some, Result}
+use Rattle.std.proofs.Common.{◌≡◌, ◌∙◌, refl, ap, subst, ℕ, Bool, true, false, List, [], ◌∷◌, reverse, Option, None, Some, Result, Ok, IfSome}
 use Rattle.std.proofs.Math.Path.{fun_ext}
 use Rattle.gem_object.specs.texts.Bytes.{Bytes as Text}
 use Rattle.gem_object.specs.declared.value.Value.{Value}
@@ -21,6 +21,11 @@ use Rattle.gem_language.specs.declared.found.Found.{Found}
 use Rattle.running_objects.specs.Seen.{Seen}
 use Rattle.running_objects.specs.Ran.{Ran}
 use Rattle.running_objects.specs.declared.stop.Stop.{Stop}
+use Rattle.prim_parts.specs.Does.{Does}
+use Rattle.prim_parts.proofs.Does.{does_ran}
+use Rattle.st_machine.specs.AtOnce.{StandsFor, assigning}
+use Rattle.look_up_cache.specs.Variables.{bare_frame}
+use Rattle.st_machine.specs.declared.lack.Lack.{Lack}
 use Rattle.st_machine.specs.Parts.{framed, piece_of, text_run_by, part_run}
 use Rattle.st_machine.specs.declared.shared_code.Part.TheVariants.{Whole, Block}
 
@@ -87,6 +92,31 @@ module _ (first second : Frame) (same_receiver : first.receiver ≡ second.recei
   write_ran name value ran =
       named_ran name (λ slot. assign_name name first slot value) (λ slot. assign_name name second slot value)
       (same_assignment name value) ran
+
+-- A name that is known in a frame with what it asks of one, and an assignment to it.
+module _ (receiver : Value) (holder : ℕ) (class_side : Bool) (frame : Frame) (same_receiver : receiver ≡ frame.receiver)
+    (same_holder : holder ≡ frame.holder) (same_side : class_side ≡ frame.class_side) (name : Text) where
+  pub known_ran : {seen : Seen} {local : Local MadeBlock} (value : Value)
+      → StandsFor name (bare_frame receiver holder class_side) seen value
+      → Ran (read_out_of_scope name frame) seen local (Ok value) seen local
+  known_ran {seen} {local} value stands =
+      read_ran (bare_frame receiver holder class_side) frame same_receiver same_holder same_side name
+      (does_ran (stands seen.budget) local)
+
+  assigned_ran : {before after : Seen} {local : Local MadeBlock} (value : Value) (ended : Result Value Stop)
+      → Does (write_out_of_scope name (bare_frame receiver holder class_side) value) before ended after
+      → Ran (write_out_of_scope name frame value) before local ended after local
+  assigned_ran {before} {after} {local} value ended does =
+      write_ran (bare_frame receiver holder class_side) frame same_receiver same_holder same_side name value
+      (does_ran does local)
+
+  pub assigned_by : (before after : Seen) (local : Local MadeBlock) (value : Value)
+      (known : Option (Result (Unit {0}) Lack))
+      → IfSome known (λ ended. Does (write_out_of_scope name (bare_frame receiver holder class_side) value) before
+      (assigning value ended) after)
+      → IfSome known (λ ended. Ran (write_out_of_scope name frame value) before local (assigning value ended) after local)
+  assigned_by before after local value None does = tt
+  assigned_by before after local value (Some ended) does = assigned_ran value (assigning value ended) does
 
 -- The frame of a method that begins, by its outline.
 pub method_framed : (outline : Frame) (here : Mark) (receiver : Value) (holder : ℕ) (class_side : Bool)

@@ -30,7 +30,8 @@ use Rattle.st_commands.specs.Leaving.{LeftSo}
 use Rattle.st_commands.proofs.Activations.{activation_ran}
 use Rattle.st_machine.specs.Led.{LedBy}
 use Rattle.st_machine.specs.Parts.{table_of, part_code, part_run}
-use Rattle.st_machine.specs.Quick.{IsPut, put_value, IsQuick, quick_frame, at_home}
+use Rattle.look_up_cache.specs.Variables.{bare_frame}
+use Rattle.st_machine.specs.Quick.{IsPut, put_value, IsQuick, at_home}
 use Rattle.st_machine.specs.declared.shared_code.Part.TheVariants.{Whole}
 use Rattle.st_machine.specs.declared.flow.Flow.TheVariants.{Goes}
 use Rattle.st_machine.proofs.Outlines.{read_ran, method_ran_by}
@@ -207,7 +208,7 @@ put_ran first second same_receiver same_holder same_side {before} {now} {local} 
 pub quick_ran : (depth : ℕ) (tree : Program) (one : Instruction) → IsQuick tree one → tree.selector ≡ Some (selector_of tree)
     → (holder : ℕ) (class_side : Bool) (receiver : Value) (arguments : List Value) {before now : Seen}
     (local : Local MadeBlock) (ended : Result Value Stop)
-    → Does (put_value one (quick_frame receiver holder class_side)) before ended now
+    → Does (put_value one (bare_frame receiver holder class_side)) before ended now
     → Ran (activation (method_body (outside depth) tree) (length tree.temps) holder class_side receiver arguments) before local
     (at_home (length local.living) ended) now local
 quick_ran depth tree one quick named holder class_side receiver arguments {before} {now} local ended does =
@@ -218,7 +219,7 @@ quick_ran depth tree one quick named holder class_side receiver arguments {befor
     (quick_end (length local.living) ended) (mark local) receiver frame values (length tree.temps)
     refl refl refl refl refl refl
     (body_ran depth tree one quick named frame ended
-    (put_ran (quick_frame receiver holder class_side) frame refl refl refl one quick.puts
+    (put_ran (bare_frame receiver holder class_side) frame refl refl refl one quick.puts
     (does_ran does begun)))
     (left_so values now local ended)
 
@@ -238,7 +239,7 @@ pub quick_answered : (depth : ℕ) (tree : Program) (one : Instruction) → IsQu
     → tree.selector ≡ Some (selector_of tree) → (holder : ℕ) (class_side : Bool) (own : List Value) (count : ℕ)
     (copy : Value) → count < length own → Some copy ≡ slice_get own count → (arguments : List Value) {before now : Seen}
     (local : Local MadeBlock) (here : Mark) → here ≡ mark local → (ended result : Result Value Stop)
-    → result ≡ at_home here.living ended → Does (put_value one (quick_frame copy holder class_side)) before ended now
+    → result ≡ at_home here.living ended → Does (put_value one (bare_frame copy holder class_side)) before ended now
     → Ran (activation (method_body (outside depth) tree) (length tree.temps) holder class_side (get_or own count value.Nil)
     arguments) before local result now local
 quick_answered depth tree one quick named holder class_side own count copy within there arguments {before} {now} local here

@@ -1,6 +1,7 @@
 -- Messages that were sent.
 use Rattle.std.proofs.Common.{◌≡◌, ◌∙◌, sym, ap, ℕ, suc, ◌<◌, ◌≤◌, Bool, true, false, List, [], ◌∷◌, ◌++◌, length, reverse, take, drop, get_or, slice_get, Option, Some, Ok, Err}
 use Rattle.std.proofs.lemmas.List.{drop_all, reverse-reverse}
+use Rattle.std.proofs.lemmas.Option.{same_Some, none-some}
 use Rattle.gem_object.specs.texts.Bytes.{Bytes as Text}
 use Rattle.st_tree.specs.Trees.{Program}
 use Rattle.gem_object.specs.declared.value.Value.{Value}
@@ -177,6 +178,24 @@ module _ (program : Value → ValueRun) where
       ∙ stopped (program first) (stop.Returns answer home) (λ next back value state. next (suc place) (value ∷ rest) frame state)
       left frame ran next back
   replaced_stops place stack first rest left frame stop.NoMemory is ran = tt
+
+  -- It answers the value itself, which stays where it is.
+  pub stored_led : (place there : ℕ) (stack : List Value) (first : Value) → Some first ≡ slice_get stack 0
+      → there ≡ suc place → (frame : Frame) {before now : Seen} {local later : Local MadeBlock}
+      → Ran (program first) before local (Ok first) now later → (next back : Next)
+      → taking place stack frame before local next ≡ next there stack frame (with_local now later)
+  stored_led place there [] first is is_there frame ran next back = absurd (none-some first (sym is))
+  stored_led place there (top ∷ rest) first is is_there frame ran next back =
+      let same : top ∷ rest ≡ first ∷ rest = ap (λ (value : Value). value ∷ rest) (sym (same_Some first top is)) in
+      replaced_led place there (top ∷ rest) first rest (top ∷ rest) frame first same is_there same ran next back
+
+  pub stored_stops : (place : ℕ) (stack : List Value) (first : Value) → Some first ≡ slice_get stack 0 → (frame : Frame)
+      {before now : Seen} {local later : Local MadeBlock} (ended : Stop) → Ran (program first) before local (Err ended) now later
+      → LedTo (λ next back. taking place stack frame before local next) (Err ended) stack frame (with_local now later)
+  stored_stops place [] first is frame ended ran = absurd (none-some first (sym is))
+  stored_stops place (top ∷ rest) first is frame ended ran =
+      replaced_stops place (top ∷ rest) first rest (top ∷ rest) frame ended
+      (ap (λ (value : Value). value ∷ rest) (sym (same_Some first top is))) ran
 
 -- A new block is put on the stack.
 pub block_led : (depth : ℕ) (tree : Program) (number place there : ℕ) (below left : List Value) (frame : Frame)

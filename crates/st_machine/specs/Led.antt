@@ -1,5 +1,5 @@
 -- What one instruction led to.
-use Rattle.std.specs.Prelude.{◌≡◌, ℕ, suc, ◌<◌, List, Option, Some, Result, Ok, Err}
+use Rattle.std.specs.Prelude.{◌≡◌, ℕ, suc, ◌<◌, List, ◌∷◌, Option, Some, Result, Ok, Err}
 use Rattle.std.specs.declared.alloc.AllocError.{AllocError}
 use Rattle.gem_object.specs.declared.value.Value.{Value}
 use Rattle.tree_meaning.specs.object_programs.Atom.{Tick}
@@ -16,11 +16,13 @@ use Rattle.tree_meaning.specs.declared.place.Mark.{Mark}
 use Rattle.st_compiler.specs.Instruction.{Instruction, MakeLit, PushName, StoreName, Send, SuperSend, PushBlock, ReturnMethod, ReturnHome, ReturnBlock}
 use Rattle.st_compiler.specs.Code.{Piece}
 use Rattle.st_compiler.specs.Machine.{CodeEnd, over, stuck, Next, act}
+use Rattle.st_machine.specs.Lacks.{LackTurned}
 use Rattle.st_machine.specs.Parts.{framed}
 use Rattle.st_machine.specs.declared.flow.Flow.{Flow}
 use Rattle.st_machine.specs.declared.flow.Flow.TheVariants.{Goes, Leaves, Stuck}
 use Rattle.st_machine.specs.declared.flow.Turn.{Turn}
 use Rattle.st_machine.specs.declared.flow.Turn.TheVariants as turn
+use Rattle.st_machine.specs.declared.lack.Lack.{Lack}
 use Rattle.st_machine.specs.declared.flow.Turned.{Turned}
 use Rattle.st_machine.specs.declared.flow.Turned.TheVariants.{Done, Left}
 
@@ -69,6 +71,8 @@ TurnedTo end (Ok turn.ArgumentKind) stack frame state = (next back : Next)
     → end next back ≡ over (record { end = fails fault.ArgumentKind; state = state })
 TurnedTo end (Ok turn.NoUnit) stack frame state = (next back : Next)
     → end next back ≡ over (record { end = fails fault.SendBudget; state = state })
+TurnedTo end (Ok turn.TooLarge) stack frame state = (next back : Next)
+    → end next back ≡ over (record { end = fails fault.ObjectTooLarge; state = state })
 TurnedTo end (Ok turn.Stuck) stack frame state = (next back : Next) → end next back ≡ stuck
 TurnedTo end (Err none) stack frame state = Unit {0}
 
@@ -102,6 +106,16 @@ UnitTurned place before (Ok turn.NoUnit) after =
     Acted Tick before (Err (stop.Fails fault.SendBudget)) after
 UnitTurned place before (Ok other) after = ⊥
 UnitTurned place before (Err none) after = Unit {0}
+
+-- A message ended so: its answer stands above these values, and the next instruction follows; or
+-- something was lacking for it.
+abbrev pub AnswerTurned : (place : ℕ) → Result Value Lack → (below left : List Value)
+    → Result Turn AllocError → Type 0
+AnswerTurned place (Ok value) below left (Ok (turn.Goes there)) =
+    (there ≡ suc place) × (left ≡ value ∷ below)
+AnswerTurned place (Ok value) below left (Ok other) = ⊥
+AnswerTurned place (Ok value) below left (Err none) = Unit {0}
+AnswerTurned place (Err lack) below left turned = LackTurned lack turned
 
 -- It sends, makes an object or a block, asks for a name, or ends.
 abbrev pub IsAsked : Instruction → Type 0

@@ -4,6 +4,8 @@ pub mod Led
 pub mod Methods
 pub mod Targets
 pub mod Known
+pub mod AtOnce
+pub mod Lacks
 pub mod Ready
 pub mod Quick
 pub mod Variables

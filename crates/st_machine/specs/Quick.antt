@@ -3,12 +3,16 @@ use Rattle.std.specs.Prelude.{◌≡◌, ℕ, Bool, nat_eq, cond, List, [], ◌�
 use Rattle.st_tree.specs.Trees.{Program}
 use Rattle.gem_object.specs.declared.value.Value.{Value}
 use Rattle.gem_object.specs.declared.value.Value.TheVariants as value
+use Rattle.tree_meaning.specs.object_programs.Budget.{Budget}
 use Rattle.tree_meaning.specs.object_programs.Run.{give}
 use Rattle.tree_meaning.specs.Place.{Frame}
 use Rattle.tree_meaning.specs.Operands.{ValueRun}
 use Rattle.gem_language.specs.OutOfScope.{read_out_of_scope}
 use Rattle.gem_language.specs.declared.found.Found.{Found}
 use Rattle.gem_language.specs.Commands.{selector_of}
+use Rattle.prim_parts.specs.Does.{Does}
+use Rattle.running_objects.specs.Seen.{Seen}
+use Rattle.look_up_cache.specs.Memory.{with_budget}
 use Rattle.running_objects.specs.declared.stop.Stop.{Stop}
 use Rattle.running_objects.specs.declared.stop.Stop.TheVariants as stop
 use Rattle.st_compiler.specs.Instruction.{Instruction, PushSelf, PushNil, PushTrue, PushFalse, PushLit, PushName, ReturnMethod}
@@ -43,16 +47,6 @@ pub record IsQuick (tree : Program) (one : Instruction) : Type 0 where
   pub first : slice_get (part_code tree Whole) 0 ≡ Some one
   pub second : slice_get (part_code tree Whole) 1 ≡ Some ReturnMethod
 
--- what such an instruction asks of a frame
-abbrev pub quick_frame : (receiver : Value) → (holder : ℕ) → (class_side : Bool) → Frame
-quick_frame receiver holder class_side = record {
-  scopes = [];
-  receiver = receiver;
-  home = 0;
-  holder = holder;
-  class_side = class_side;
-}
-
 -- The method's answer, where this is its home: a value that returns to it is its answer.
 abbrev pub at_home : (home : ℕ) → Result Value Stop → Result Value Stop
 at_home home (Err (stop.Returns answer number)) =
@@ -73,11 +67,20 @@ abbrev pub Replaced : Option Value → (below left : List Value) → Type 0
 Replaced (Some answer) below left = left ≡ answer ∷ below
 Replaced None below left = ⊥
 
--- What was found is a method that answers by this push.
-pub record AnswersQuickly (found : Option Found) (one : Instruction) : Type 0 where
+-- The instruction puts this value, whatever the budget is, and changes nothing; the value stands
+-- above these.
+pub record PushedAtOnce (one : Instruction) (frame : Frame) (seen : Seen) (below left : List Value)
+    : Type 0 where
+  pub value : Value
+  pub puts : (budget : Budget)
+      → Does (put_value one frame) (with_budget budget seen) (Ok value) (with_budget budget seen)
+  pub stands : left ≡ value ∷ below
+
+-- What was found is a method that answers by this push: this class holds it, on its class side or
+-- not.
+pub record AnswersQuickly (found : Option Found) (holder : ℕ) (class_side : Bool)
+    (one : Instruction) : Type 0 where
   pub tree : Program
-  pub holder : ℕ
-  pub class_side : Bool
   pub leads : target_for found ≡ Method tree holder class_side
   pub named : tree.selector ≡ Some (selector_of tree)
   pub quick : IsQuick tree one

@@ -1,7 +1,7 @@
 //! What stands between objects and variables: calls that do something to objects, said with the
 //! variables at hand, which they leave as they are. A frame here has no scopes: those of the
 //! activation that runs stand on a stack, and nothing here asks for them.
-ghost use Rattle.std.specs.Prelude.{◌≡◌, true, false, Ok, IfSome};
+ghost use Rattle.std.specs.Prelude.{◌≡◌, true, false, None, Ok, IfSome};
 ghost use Rattle.tree_meaning.specs.object_programs.Budget.{Budget};
 ghost use Rattle.gem_language.specs.prim_rules.Rules.{rule_of};
 ghost use Rattle.gem_language.specs.LookUp.{find_method};
@@ -9,9 +9,11 @@ ghost use Rattle.gem_language.specs.OutOfScope.{read_out_of_scope, write_out_of_
 ghost use Rattle.look_up_cache.specs.Memory.{told_by, with_budget};
 ghost use Rattle.look_up_cache.specs.Table.{held_at};
 ghost use Rattle.running_objects.specs.Ran.{Ran};
+ghost use Rattle.st_machine.specs.AtOnce.{assigning};
 ghost use Rattle.st_machine.specs.Parts.{framed};
 
 use crate::finds::FindsMethods;
+use crate::lack::Lack;
 use crate::layers::Layers;
 use crate::locals::Locals;
 use crate::outline::Outline;
@@ -90,7 +92,7 @@ pub(crate) fn primitive<O: Objects>(
 }
 
 /// The value of a name that is no variable in scope.
-pub(crate) fn read_name<O: Objects>(
+pub(crate) fn read_name<O: FindsMethods>(
     objects: &mut O,
     locals: &Locals,
     chain: &Layers<Mark>,
@@ -100,11 +102,28 @@ pub(crate) fn read_name<O: Objects>(
     ensures { Ran (read_out_of_scope name.now (framed chain.now.own frame.now))
         (O.seen objects.old) locals.now result (O.seen objects.new) locals.now }
 {
-    st_outside::read_name(objects, name, frame.frame())
+    objects.read_name(frame.frame(), name)
+}
+
+/// The same where it is known without a look at any object.
+pub(crate) fn known_variable<O: FindsMethods>(
+    objects: &O,
+    locals: &Locals,
+    chain: &Layers<Mark>,
+    name: &Text,
+    frame: &Outline,
+) -> Option<Value>
+    ensures { IfSome result (λ value. Ran
+        (read_out_of_scope name.now (framed chain.now.own frame.now)) (O.seen objects.now)
+        locals.now (Ok value) (O.seen objects.now) locals.now) }
+{
+    let inner = frame.frame();
+    let value = objects.known_variable(name, inner.receiver(), inner.holder(), inner.class_side())?;
+    Some(value)
 }
 
 /// An assignment to a name that is no variable in scope; it answers the value.
-pub(crate) fn write_name<O: Objects>(
+pub(crate) fn write_name<O: FindsMethods>(
     objects: &mut O,
     locals: &Locals,
     chain: &Layers<Mark>,
@@ -115,5 +134,30 @@ pub(crate) fn write_name<O: Objects>(
     ensures { Ran (write_out_of_scope name.now (framed chain.now.own frame.now) value)
         (O.seen objects.old) locals.now result (O.seen objects.new) locals.now }
 {
-    st_outside::write_name(objects, name, frame.frame(), value)
+    objects.write_name(frame.frame(), name, value)
+}
+
+/// The same where it is known that it ends well, if nothing is lacking for it.
+pub(crate) fn set_known_variable<O: FindsMethods>(
+    objects: &mut O,
+    locals: &Locals,
+    chain: &Layers<Mark>,
+    name: &Text,
+    frame: &Outline,
+    value: &Value,
+) -> Option<Result<(), Lack>>
+    ensures done { IfSome result (λ ended. Ran
+        (write_out_of_scope name.now (framed chain.now.own frame.now) value.now)
+        (O.seen objects.old) locals.now (assigning value.now ended) (O.seen objects.new)
+        locals.now) }
+    ensures unchanged { result ≡ None → objects.new ≡ objects.old }
+{
+    let inner = frame.frame();
+    objects.set_known_variable(
+        name,
+        inner.receiver(),
+        inner.holder(),
+        inner.class_side(),
+        value,
+    )
 }

@@ -5,8 +5,9 @@ ghost use Rattle.st_machine.specs.Parts.{table_of, piece_of, made_of, framed};
 
 use crate::outline::Outline;
 use crate::shared_code::SharedCode;
-use std::alloc::AllocError;
+use std::alloc::{AllocError, Global};
 use std::marker::Model;
+use std::sync::Arc;
 use tree_meaning::Mark;
 
 /// A block that was made: the code of the text in which it is pushed, its number there, and what
@@ -101,21 +102,49 @@ impl CodeBlock {
     }
 }
 
-impl Clone for CodeBlock {
-    ghost is_clone = { λ made copy. copy ≡ made };
-
-    fn clone(&self) -> Result<CodeBlock, AllocError> {
-        Ok(CodeBlock {
-            code: self.code.share()?,
-            number: self.number,
-            scopes: copy_marks(&self.scopes)?,
-            outline: self.outline.clone()?,
-        })
-    }
+/// A made block, which all share that evaluate it.
+#[derive(Drop)]
+pub(crate) struct SharedBlock {
+    block: Arc<CodeBlock>,
 }
 
-fn copy_marks(marks: &Vec<Mark>) -> Result<Vec<Mark>, AllocError>
-    ensures { IfOk result (λ copies. copies.items ≡ marks.now.items) }
-{
-    marks.clone()
+impl Model for SharedBlock {
+    ghost use Rattle.std.specs.Arc.{arc_value};
+    ghost use Rattle.gem_object.specs.contracts.value.Value as value;
+    ghost use Rattle.tree_meaning.specs.contracts.place.Mark as mark;
+    ghost use Rattle.tree_meaning.specs.Place.{MadeBlock as TreeBlock};
+    ghost use Rattle.st_locals.specs.Codes.{made_block_code};
+
+    ghost Value = { TreeBlock };
+
+    ghost coded = { made_block_code value.the_row.coded mark.the_row.coded };
+
+    ghost view = { λ shared. arc_value shared.block };
+}
+
+impl SharedBlock {
+    /// The block, to be shared.
+    pub(crate) fn of(alloc: Global, block: CodeBlock) -> Result<SharedBlock, AllocError>
+        ensures { IfOk result (λ shared. shared ≡ block) }
+    {
+        Ok(SharedBlock {
+            block: Arc::new(alloc, block)?,
+        })
+    }
+
+    /// The same block for one more. It copies nothing.
+    pub(crate) fn share(&self) -> Result<SharedBlock, AllocError>
+        ensures { IfOk result (λ shared. shared ≡ self.now) }
+    {
+        Ok(SharedBlock {
+            block: Arc::try_clone(&self.block)?,
+        })
+    }
+
+    /// The block.
+    pub(crate) fn block(&self) -> &CodeBlock
+        ensures { result.now ≡ self.now }
+    {
+        &self.block
+    }
 }

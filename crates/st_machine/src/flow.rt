@@ -30,6 +30,8 @@ pub(crate) enum Turn {
     ArgumentKind,
     /// The run fails: E13.
     NoUnit,
+    /// The run fails: E17.
+    TooLarge,
     /// It couldn't be carried out. No code that was compiled comes to this.
     Stuck,
 }

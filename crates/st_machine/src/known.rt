@@ -8,15 +8,18 @@ ghost use Rattle.running_objects.specs.Seen.{Keeps};
 ghost use Rattle.look_up_cache.specs.Memory.{with_budget};
 ghost use Rattle.look_up_cache.specs.Table.{held_at};
 ghost use Rattle.st_compiler.specs.Emitted.{instruction_of};
-ghost use Rattle.st_compiler.specs.Instruction.{Send};
+ghost use Rattle.st_compiler.specs.Instruction.{PushName, Send};
+ghost use Rattle.st_machine.specs.AtOnce.{IsReady};
 ghost use Rattle.st_machine.specs.Led.{TurnedBy, TurnsForward, IfDone, IfLeft};
 ghost use Rattle.st_machine.specs.Known.{IfAnswered, IfUnanswered};
 ghost use Rattle.st_machine.specs.Parts.{framed, table_of};
-ghost use Rattle.st_machine.specs.Quick.{constant_put, Replaced, AnswersQuickly};
+ghost use Rattle.look_up_cache.specs.Variables.{bare_frame};
+ghost use Rattle.st_machine.specs.Quick.{constant_put, Replaced, AnswersQuickly, PushedAtOnce};
 ghost use Rattle.st_machine.specs.Ready.{PutBy, ReadyPut};
 ghost use Rattle.st_machine.specs.Targets.{found_by, Answered, AnswersAt};
 
 use crate::border::known_place;
+use crate::changing::send_changing;
 use crate::finds::FindsMethods;
 use crate::flow::Turned;
 use crate::layers::Layers;
@@ -25,7 +28,7 @@ use crate::outline::Outline;
 use crate::quick::quick_instr;
 use crate::shared_code::SharedCode;
 use crate::units::spend_unit;
-use gem_object::{MethodCode, Text, Value};
+use gem_object::{MethodCode, Oid, Text, Value};
 use st_compiler::Instr;
 use tree_meaning::Mark;
 
@@ -60,7 +63,14 @@ pub(crate) fn send_known<O: FindsMethods>(
     }
     match answer_known(objects, locals, stack, chain, frame, selector, count, depth) {
         Known::Answered => Turned::Done(spend_unit(objects, place)),
-        Known::Unanswered(at) => Turned::Left(at),
+        Known::Unanswered(at) => {
+            if count == 2 {
+                return send_changing(
+                    objects, locals, stack, chain, frame, code, selector, count, at, place, depth,
+                );
+            }
+            Turned::Left(at)
+        }
     }
 }
 
@@ -138,7 +148,7 @@ fn put_at<O: FindsMethods>(objects: &O, stack: &mut Layers<Value>, at: usize, co
     requires { count < length stack.old.own }
     ensures put { result ≡ true → PutBy (held_at (O.founds objects.now) at)
         (get_or stack.old.own count Nil) (reverse (take count stack.old.own))
-        (drop (suc count) stack.old.own) stack.new.own }
+        (O.seen objects.now) (drop (suc count) stack.old.own) stack.new.own }
     ensures unchanged { result ≡ false → stack.new.own ≡ stack.old.own }
     ensures below { stack.new.below ≡ stack.old.below }
 {
@@ -146,9 +156,9 @@ fn put_at<O: FindsMethods>(objects: &O, stack: &mut Layers<Value>, at: usize, co
         return false;
     };
     match &found.code {
-        MethodCode::Primitive(number) => put_ready(stack, *number, count),
+        MethodCode::Primitive(number) => put_ready(objects, stack, *number, count),
         MethodCode::Source(_) => match quick_at(objects, at) {
-            Some(instr) => put_constant(stack, instr, count),
+            Some(instr) => put_push(objects, stack, instr, found.holder, found.class_side, count),
             None => false,
         },
     }
@@ -156,27 +166,70 @@ fn put_at<O: FindsMethods>(objects: &O, stack: &mut Layers<Value>, at: usize, co
 
 /// Puts the answer of a primitive in place of the receiver and of so many arguments above it, where
 /// it is ready. Else false, and all is as before.
-fn put_ready(stack: &mut Layers<Value>, number: u8, count: usize) -> bool
+fn put_ready<O: FindsMethods>(
+    objects: &O,
+    stack: &mut Layers<Value>,
+    number: u8,
+    count: usize,
+) -> bool
     requires { count < length stack.old.own }
     ensures put { result ≡ true → ReadyPut number (get_or stack.old.own count Nil)
-        (reverse (take count stack.old.own)) (drop (suc count) stack.old.own) stack.new.own }
+        (reverse (take count stack.old.own)) (O.seen objects.now)
+        (drop (suc count) stack.old.own) stack.new.own }
     ensures unchanged { result ≡ false → stack.new.own ≡ stack.old.own }
     ensures below { stack.new.below ≡ stack.old.below }
 {
     let Some(receiver) = stack.item(count) else {
         unreachable!()
     };
-    match prim_calls::ready(number, receiver, stack.upper(count)) {
+    match answer_ready(objects, number, receiver, stack.upper(count)) {
         Some(value) => put_over(stack, count, value),
         None => false,
     }
 }
 
+/// The answer of a primitive, where it is ready: of integers it is computed, and of the parts of an
+/// object it may be known.
+fn answer_ready<O: FindsMethods>(
+    objects: &O,
+    number: u8,
+    receiver: &Value,
+    arguments: &[Value],
+) -> Option<Value>
+    ensures { IfSome result (λ value.
+        IsReady number receiver.now arguments.now (O.seen objects.now) value) }
+{
+    if let Some(value) = prim_calls::ready(number, receiver, arguments) {
+        return Some(value);
+    }
+    if number == 33 || number == 34 {
+        known_part(objects, number, receiver, arguments)
+    } else {
+        None
+    }
+}
+
+/// The answer of `size` or `at:`, where it is known.
+#[inline(never)]
+fn known_part<O: FindsMethods>(
+    objects: &O,
+    number: u8,
+    receiver: &Value,
+    arguments: &[Value],
+) -> Option<Value>
+    ensures { IfSome result (λ value.
+        IsReady number receiver.now arguments.now (O.seen objects.now) value) }
+{
+    let value = objects.known_answer(number, receiver, arguments)?;
+    Some(value)
+}
+
 /// What puts the answer of the method that stands at a place, where its code is kept and it answers
 /// by one push.
 fn quick_at<O: FindsMethods>(objects: &O, at: usize) -> Option<&Instr>
-    ensures { IfSome result (λ one.
-        AnswersQuickly (held_at (O.founds objects.now) at) (instruction_of one.now)) }
+    ensures { IfSome result (λ one. IfSome (held_at (O.founds objects.now) at) (λ found.
+        AnswersQuickly (held_at (O.founds objects.now) at) found.holder found.class_side
+        (instruction_of one.now))) }
 {
     let found = objects.found(at)?;
     match &found.code {
@@ -186,6 +239,56 @@ fn quick_at<O: FindsMethods>(objects: &O, at: usize) -> Option<&Instr>
             Some(instr)
         }
         MethodCode::Primitive(_) => None,
+    }
+}
+
+/// Puts what the instruction puts in place of the receiver and of so many arguments above it, in a
+/// method that this class holds, on its class side or not: where it is known without a look at any
+/// object. Else false, and all is as before.
+fn put_push<O: FindsMethods>(
+    objects: &O,
+    stack: &mut Layers<Value>,
+    instr: &Instr,
+    holder: Oid,
+    class_side: bool,
+    count: usize,
+) -> bool
+    requires { count < length stack.old.own }
+    ensures put { result ≡ true → PushedAtOnce (instruction_of instr.now)
+        (bare_frame (get_or stack.old.own count Nil) holder class_side) (O.seen objects.now)
+        (drop (suc count) stack.old.own) stack.new.own }
+    ensures unchanged { result ≡ false → stack.new.own ≡ stack.old.own }
+    ensures below { stack.new.below ≡ stack.old.below }
+{
+    match instr {
+        Instr::PushName(name) => put_variable(objects, stack, name, holder, class_side, count),
+        _ => put_constant(stack, instr, count),
+    }
+}
+
+/// Puts what this name stands for, which is no variable in scope.
+#[inline(never)]
+fn put_variable<O: FindsMethods>(
+    objects: &O,
+    stack: &mut Layers<Value>,
+    name: &Text,
+    holder: Oid,
+    class_side: bool,
+    count: usize,
+) -> bool
+    requires { count < length stack.old.own }
+    ensures put { result ≡ true → PushedAtOnce (PushName name.now)
+        (bare_frame (get_or stack.old.own count Nil) holder class_side) (O.seen objects.now)
+        (drop (suc count) stack.old.own) stack.new.own }
+    ensures unchanged { result ≡ false → stack.new.own ≡ stack.old.own }
+    ensures below { stack.new.below ≡ stack.old.below }
+{
+    let Some(receiver) = stack.item(count) else {
+        unreachable!()
+    };
+    match objects.known_variable(name, receiver, holder, class_side) {
+        Some(value) => put_over(stack, count, value),
+        None => false,
     }
 }
 
@@ -215,7 +318,7 @@ fn put_constant(stack: &mut Layers<Value>, instr: &Instr, count: usize) -> bool
 }
 
 /// Puts a value in place of the receiver and of so many arguments above it. Always true.
-fn put_over(stack: &mut Layers<Value>, count: usize, value: Value) -> bool
+pub(crate) fn put_over(stack: &mut Layers<Value>, count: usize, value: Value) -> bool
     requires { count < length stack.old.own }
     ensures done { result ≡ true }
     ensures own { stack.new.own ≡ value ∷ drop (suc count) stack.old.own }

@@ -1,7 +1,8 @@
 //! A stack that all activations share.
-ghost use Rattle.std.specs.Prelude.{◌≡◌, ◌≤◌, ◌∷◌, length, reverse, take, drop, set, slice_get, option_copied, IfOk, OnOk, OnErr};
+ghost use Rattle.std.specs.Prelude.{◌≡◌, ◌≤◌, [], ◌∷◌, ◌++◌, length, reverse, take, drop, set, slice_get, option_copied, OnOk, OnErr};
 ghost use Rattle.st_machine.specs.Layers.{nothing_on, begun, ended, Popped};
 
+use list_stack::ListStack;
 use std::alloc::{AllocError, Global};
 use std::marker::Model;
 
@@ -53,6 +54,15 @@ impl<T: Drop> Layers<T> {
         ensures below { self.new.below ≡ self.old.below }
     {
         Ok(self.items.push(item)?)
+    }
+
+    /// Puts items on top, the last one uppermost. Where it finds no memory all is as before.
+    pub(crate) fn push_all(&mut self, mut items: Vec<T>) -> Result<(), AllocError>
+        ensures pushed { OnOk result (self.new.own ≡ reverse items.items ++ self.old.own) }
+        ensures unchanged { OnErr result (self.new.own ≡ self.old.own) }
+        ensures below { self.new.below ≡ self.old.below }
+    {
+        Ok(self.items.append(&mut items)?)
     }
 
     /// Takes the uppermost item, where the activation that runs has put one there.
@@ -117,16 +127,21 @@ impl<T: Drop> Layers<T> {
         }
     }
 
-    /// Takes so many of the uppermost items away and gives them, the uppermost one last. Where it
-    /// finds no memory all is as before.
-    pub(crate) fn take_upper(&mut self, count: usize) -> Result<Vec<T>, AllocError>
+    /// Moves so many of the uppermost items to a new list on top of these, the uppermost one last.
+    /// Where it finds no memory the lists are as before.
+    pub(crate) fn move_upper(
+        &mut self,
+        lists: &mut ListStack<T>,
+        count: usize,
+    ) -> Result<(), AllocError>
         requires { count ≤ length self.old.own }
-        ensures taken { IfOk result (λ taken. taken.items ≡ reverse (take count self.old.own)) }
+        ensures opened { OnOk result
+            (lists.new ≡ lists.old ++ reverse (take count self.old.own) ∷ []) }
         ensures own { OnOk result (self.new.own ≡ drop count self.old.own) }
         ensures below { self.new.below ≡ self.old.below }
+        ensures unchanged { OnErr result (lists.new ≡ lists.old) }
     {
-        let left = self.items.len() - count;
-        self.items.split_off(left)
+        lists.open_taking(&mut self.items, count)
     }
 
     /// An activation begins. What is answered is wanted at its end.

@@ -3,8 +3,10 @@
 //! Its tests stand in `machine_tests`.
 #![tactic(auto)]
 
+mod blocks;
 mod border;
 mod cache;
+mod changing;
 mod chunk;
 mod code_block;
 mod command;
@@ -13,6 +15,7 @@ mod finds;
 mod flow;
 mod jumps;
 mod known;
+mod lack;
 mod layers;
 mod locals;
 mod loops;
@@ -33,5 +36,6 @@ pub use cache::CodeCache;
 pub use chunk::run_chunk;
 pub use command::{run_command, run_text};
 pub use finds::FindsMethods;
+pub use lack::Lack;
 pub use look_up_cache::KnownObjects;
 pub use shared_code::SharedCode;

@@ -6,7 +6,7 @@ ghost use Rattle.st_machine.specs.Variables.{more_nils};
 ghost use Rattle.tree_meaning.specs.Place.{MadeBlock as TreeBlock};
 ghost use Rattle.tree_meaning.specs.Scopes.{mark, open_scope, begin_method, is_living, with_value};
 
-use crate::code_block::CodeBlock;
+use crate::code_block::{CodeBlock, SharedBlock};
 use crate::layers::Layers;
 use gem_object::Value;
 use list_stack::ListStack;
@@ -20,7 +20,7 @@ use tree_meaning::Mark;
 #[derive(Drop)]
 pub(crate) struct Locals {
     scopes: ListStack<Value>,
-    blocks: Vec<CodeBlock>,
+    blocks: Vec<SharedBlock>,
     living: Vec<bool>,
 }
 
@@ -109,18 +109,8 @@ impl Locals {
         ensures below { stack.new.below ≡ stack.old.below }
         ensures unchanged { OnErr result (self.new ≡ self.old) }
     {
-        let arguments = stack.take_upper(count)?;
-        self.begin_with(arguments, temps)
-    }
-
-    /// The same with these variables, and so many more that are nil.
-    fn begin_with(&mut self, values: Vec<Value>, temps: usize) -> Result<(), AllocError>
-        ensures begun { OnOk result
-            (self.new ≡ begin_method (values.items ++ replicate temps Nil) self.old) }
-        ensures unchanged { OnErr result (self.new ≡ self.old) }
-    {
         self.living.reserve(1)?;
-        open_in(&mut self.scopes, values, temps)?;
+        open_moving(&mut self.scopes, stack, count, temps)?;
         Ok(self.living.push(true)?)
     }
 
@@ -130,6 +120,25 @@ impl Locals {
     {
         let number = number as usize;
         number < self.living.len() && self.living[number]
+    }
+
+    /// Opens a scope. Its variables are so many of the uppermost values of the stack, the uppermost
+    /// one last, which are taken from there, and so many more that are nil. Where it finds no memory
+    /// the variables are as before.
+    pub(crate) fn open_taking(
+        &mut self,
+        stack: &mut Layers<Value>,
+        count: usize,
+        temps: usize,
+    ) -> Result<(), AllocError>
+        requires { count ≤ length stack.old.own }
+        ensures opened { OnOk result (self.new
+            ≡ open_scope (reverse (take count stack.old.own) ++ replicate temps Nil) self.old) }
+        ensures own { OnOk result (stack.new.own ≡ drop count stack.old.own) }
+        ensures below { stack.new.below ≡ stack.old.below }
+        ensures unchanged { OnErr result (self.new ≡ self.old) }
+    {
+        open_moving(&mut self.scopes, stack, count, temps)
     }
 
     /// A copy of the value of a variable of the scope of this number. Nil where there is no such
@@ -154,19 +163,19 @@ impl Locals {
     }
 
     /// Adds a block; its number. Where it finds no memory all is as before.
-    pub(crate) fn add_block(&mut self, made: CodeBlock) -> Result<u64, AllocError>
+    pub(crate) fn add_block(&mut self, alloc: Global, made: CodeBlock) -> Result<u64, AllocError>
         ensures number { IfOk result (λ number. number ≡ length self.old.blocks) }
         ensures added { OnOk result
             (self.new ≡ record self.old { blocks = self.old.blocks ++ made ∷ [] }) }
         ensures unchanged { OnErr result (self.new ≡ self.old) }
     {
         let number = self.blocks.len() as u64;
-        self.blocks.push(made)?;
+        self.blocks.push(SharedBlock::of(alloc, made)?)?;
         Ok(number)
     }
 
     /// The block of this number, if there is one.
-    pub(crate) fn block(&self, number: u64) -> Option<&CodeBlock>
+    pub(crate) fn block(&self, number: u64) -> Option<&SharedBlock>
         ensures { option_copied result ≡ slice_get self.now.blocks number }
     {
         self.blocks.get(number as usize)
@@ -182,6 +191,36 @@ fn open_in(scopes: &mut ListStack<Value>, values: Vec<Value>, nils: usize) -> Re
 {
     let count = scopes.len();
     scopes.open_with(values)?;
+    fill(scopes, count, nils)
+}
+
+/// The same of so many of the uppermost values of the stack, the uppermost one last, which are taken
+/// from there. Where it finds no memory the scopes are as before.
+fn open_moving(
+    scopes: &mut ListStack<Value>,
+    stack: &mut Layers<Value>,
+    taken: usize,
+    nils: usize,
+) -> Result<(), AllocError>
+    requires { taken ≤ length stack.old.own }
+    ensures opened { OnOk result (scopes.new
+        ≡ scopes.old ++ (reverse (take taken stack.old.own) ++ replicate nils Nil) ∷ []) }
+    ensures own { OnOk result (stack.new.own ≡ drop taken stack.old.own) }
+    ensures below { stack.new.below ≡ stack.old.below }
+    ensures unchanged { OnErr result (scopes.new ≡ scopes.old) }
+{
+    let count = scopes.len();
+    stack.move_upper(scopes, taken)?;
+    fill(scopes, count, nils)
+}
+
+/// So many variables more, which are nil, come into the innermost scope, that of this number. Where
+/// it finds no memory the scope is closed.
+fn fill(scopes: &mut ListStack<Value>, count: usize, nils: usize) -> Result<(), AllocError>
+    requires { count < length scopes.old }
+    ensures added { OnOk result (scopes.new ≡ more_nils nils scopes.old) }
+    ensures closed { OnErr result (scopes.new ≡ take count scopes.old) }
+{
     let filled = add_nils(scopes, nils);
     if filled.is_err() {
         scopes.truncate(count);

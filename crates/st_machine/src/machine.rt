@@ -21,6 +21,7 @@ ghost use Rattle.st_machine.specs.Led.{LedBy, IsForward, IsAsked};
 ghost use Rattle.st_machine.specs.Parts.{table_of, HasPart, part_run, framed};
 ghost use Rattle.st_machine.specs.Targets.{IsCallable, call_of, AnswersAt, StandsAt};
 
+use crate::blocks::block_called;
 use crate::border::primitive;
 use crate::cache::CodeCache;
 use crate::code_block::CodeBlock;
@@ -111,6 +112,7 @@ pub(crate) fn execute<O: FindsMethods>(
                     Turn::NotBoolean => return Err(Stop::Fails(Fault::NotBoolean)),
                     Turn::ArgumentKind => return Err(Stop::Fails(Fault::ArgumentKind)),
                     Turn::NoUnit => return Err(Stop::Fails(Fault::SendBudget)),
+                    Turn::TooLarge => return Err(Stop::Fails(Fault::ObjectTooLarge)),
                     Turn::Stuck => unreachable!(),
                 }
             }
@@ -391,12 +393,26 @@ fn call_primitive<O: FindsMethods>(
     let Some(receiver) = stack.item(count) else {
         unreachable!()
     };
+    if let Some(block) = block_called(number, receiver, count) {
+        return call_block(
+            alloc,
+            objects,
+            locals,
+            stack,
+            chain,
+            cache,
+            block.number,
+            count,
+            depth,
+        );
+    }
     let answer = primitive(alloc, objects, locals, number, receiver, stack.upper(count))?;
-    stack.drop_upper(count + 1);
+    stack.drop_upper(count);
     value_of_primitive(alloc, objects, locals, stack, chain, cache, answer, depth)
 }
 
-/// What a primitive's answer comes to: its value, or that of the block that it evaluates.
+/// What a primitive's answer comes to: its value, or that of the block that it evaluates. The
+/// primitive's receiver stands on the stack, and is taken from there.
 #[cycle(machine)]
 fn value_of_primitive<O: FindsMethods>(
     alloc: Global,
@@ -408,14 +424,19 @@ fn value_of_primitive<O: FindsMethods>(
     answer: PrimitiveAnswer,
     depth: u32,
 ) -> Result<Value, Stop>
+    requires { 0 < length stack.old.own }
     ensures ran { Ran (primitive_value (callee depth) answer)
         (O.seen objects.old) locals.old result (O.seen objects.new) locals.new }
-    ensures stack { stack.new ≡ stack.old }
+    ensures own { IfOk result (λ _. stack.new.own ≡ drop 1 stack.old.own) }
+    ensures stack { stack.new.below ≡ stack.old.below }
     ensures chain { chain.new ≡ chain.old }
 {
     match answer {
-        PrimitiveAnswer::Gives(value) => Ok(value),
-        PrimitiveAnswer::Evaluates(block, arguments) => call_block(
+        PrimitiveAnswer::Gives(value) => {
+            stack.drop_upper(1);
+            Ok(value)
+        }
+        PrimitiveAnswer::Evaluates(block, arguments) => call_with(
             alloc,
             objects,
             locals,
@@ -427,6 +448,34 @@ fn value_of_primitive<O: FindsMethods>(
             depth,
         ),
     }
+}
+
+/// The made block of this number is called with these arguments. The primitive's receiver stands on
+/// the stack, and is taken from there.
+#[cycle(machine)]
+fn call_with<O: FindsMethods>(
+    alloc: Global,
+    objects: &mut O,
+    locals: &mut Locals,
+    stack: &mut Layers<Value>,
+    chain: &mut Layers<Mark>,
+    cache: &mut CodeCache,
+    number: u64,
+    arguments: Vec<Value>,
+    depth: u32,
+) -> Result<Value, Stop>
+    requires { 0 < length stack.old.own }
+    ensures ran { Ran (call_block_at (callee depth).block number arguments.items)
+        (O.seen objects.old) locals.old result (O.seen objects.new) locals.new }
+    ensures own { IfOk result (λ _. stack.new.own ≡ drop 1 stack.old.own) }
+    ensures stack { stack.new.below ≡ stack.old.below }
+    ensures chain { chain.new ≡ chain.old }
+{
+    let count = arguments.len();
+    stack.push_all(arguments)?;
+    call_block(
+        alloc, objects, locals, stack, chain, cache, number, count, depth,
+    )
 }
 
 /// A method with code is called: E14 where no activation may begin.
@@ -597,7 +646,8 @@ fn run_with<O: FindsMethods>(
     )
 }
 
-/// The made block of this number is called: E9 unless it takes so many arguments.
+/// The made block of this number is called: E9 unless it takes so many arguments. They stand on the
+/// stack, and are taken from there with the value below them.
 #[cycle(machine)]
 #[tactic(auto, using(crate::proofs::Runs::runs), unfolding(tree_meaning::specs::Calls::call_block_at))]
 fn call_block<O: FindsMethods>(
@@ -608,23 +658,27 @@ fn call_block<O: FindsMethods>(
     chain: &mut Layers<Mark>,
     cache: &mut CodeCache,
     number: u64,
-    arguments: Vec<Value>,
+    count: usize,
     depth: u32,
 ) -> Result<Value, Stop>
-    ensures ran { Ran (call_block_at (callee depth).block number arguments.items)
+    requires { count < length stack.old.own }
+    ensures ran { Ran (call_block_at (callee depth).block number
+        (reverse (take count stack.old.own)))
         (O.seen objects.old) locals.old result (O.seen objects.new) locals.new }
-    ensures stack { stack.new ≡ stack.old }
+    ensures own { IfOk result (λ _. stack.new.own ≡ drop (suc count) stack.old.own) }
+    ensures stack { stack.new.below ≡ stack.old.below }
     ensures chain { chain.new ≡ chain.old }
 {
-    let Some(made) = locals.block(number) else {
+    let Some(shared) = locals.block(number) else {
         return Err(Stop::Fails(Fault::ArgumentKind));
     };
-    let made = made.clone()?;
-    if !takes(&made, &arguments) {
+    let shared = shared.share()?;
+    let made = shared.block();
+    if !takes(made, stack.upper(count)) {
         return Err(Stop::Fails(Fault::BlockArgumentCount));
     }
     call_made(
-        alloc, objects, locals, stack, chain, cache, &made, arguments, depth,
+        alloc, objects, locals, stack, chain, cache, made, count, depth,
     )
 }
 
@@ -645,12 +699,14 @@ fn call_made<O: FindsMethods>(
     chain: &mut Layers<Mark>,
     cache: &mut CodeCache,
     made: &CodeBlock,
-    arguments: Vec<Value>,
+    count: usize,
     depth: u32,
 ) -> Result<Value, Stop>
-    ensures ran { Ran ((callee depth).block made.now arguments.items)
+    requires { count < length stack.old.own }
+    ensures ran { Ran ((callee depth).block made.now (reverse (take count stack.old.own)))
         (O.seen objects.old) locals.old result (O.seen objects.new) locals.new }
-    ensures stack { stack.new ≡ stack.old }
+    ensures own { IfOk result (λ _. stack.new.own ≡ drop (suc count) stack.old.own) }
+    ensures stack { stack.new.below ≡ stack.old.below }
     ensures chain { chain.new ≡ chain.old }
 {
     if depth == 0 {
@@ -664,7 +720,7 @@ fn call_made<O: FindsMethods>(
         chain,
         cache,
         made,
-        arguments,
+        count,
         depth - 1,
     )
 }
@@ -679,17 +735,20 @@ fn evaluate<O: FindsMethods>(
     chain: &mut Layers<Mark>,
     cache: &mut CodeCache,
     made: &CodeBlock,
-    arguments: Vec<Value>,
+    count: usize,
     depth: u32,
 ) -> Result<Value, Stop>
+    requires { count < length stack.old.own }
     ensures ran { Ran (evaluation (block_body (outside depth) made.now.tree made.now.place)
-        (temps_count made.now.tree) made.now.frame arguments.items)
+        (temps_count made.now.tree) made.now.frame (reverse (take count stack.old.own)))
         (O.seen objects.old) locals.old result (O.seen objects.new) locals.new }
-    ensures stack { stack.new ≡ stack.old }
+    ensures own { IfOk result (λ _. stack.new.own ≡ drop (suc count) stack.old.own) }
+    ensures stack { stack.new.below ≡ stack.old.below }
     ensures chain { chain.new ≡ chain.old }
 {
     let mark = locals.mark();
-    locals.open_scope(arguments, made.temps_count())?;
+    locals.open_taking(stack, count, made.temps_count())?;
+    stack.drop_upper(1);
     let (code, number) = made.code();
     let ended = run_inside(
         alloc,

@@ -1,14 +1,19 @@
 //! Instructions for variables, for names out of scope and for new blocks.
-ghost use Rattle.std.specs.Prelude.{◌≡◌, IfOk};
+ghost use Rattle.std.specs.Prelude.{◌≡◌, IfOk, Ok};
+ghost use Rattle.gem_language.specs.OutOfScope.{read_out_of_scope};
 ghost use Rattle.gem_language.specs.Sends.{outside};
 ghost use Rattle.running_objects.specs.Seen.{Keeps};
+ghost use Rattle.running_objects.specs.Ran.{Ran};
 ghost use Rattle.st_compiler.specs.Instruction.{PushLocal, StoreLocal, PushName, StoreName, PushBlock};
-ghost use Rattle.st_machine.specs.Led.{LedBy, IsForward, TurnedBy, TurnsForward};
-ghost use Rattle.st_machine.specs.Parts.{table_of};
+ghost use Rattle.st_machine.specs.Led.{LedBy, IsForward, TurnedBy, TurnsForward, IfDone, IfLeft};
+ghost use Rattle.st_machine.specs.Parts.{framed, table_of};
+ghost use Rattle.st_machine.specs.Targets.{AnswersAt};
 
-use crate::border::{read_name, write_name};
+use crate::border::{known_variable, read_name, set_known_variable, write_name};
 use crate::code_block::CodeBlock;
-use crate::flow::{Flow, Turn};
+use crate::finds::FindsMethods;
+use crate::flow::{Flow, Turn, Turned};
+use crate::lack::turn_of;
 use crate::layers::Layers;
 use crate::locals::Locals;
 use crate::outline::Outline;
@@ -73,8 +78,65 @@ pub(crate) fn store_local<O: Objects>(
     Ok(Turn::Goes(next_of(place)?))
 }
 
+/// Puts what a name out of scope stands for, where that is known without a look at any object. Else
+/// it is left.
+#[inline(never)]
+pub(crate) fn push_known<O: FindsMethods>(
+    objects: &O,
+    locals: &Locals,
+    stack: &mut Layers<Value>,
+    chain: &Layers<Mark>,
+    frame: &Outline,
+    code: &SharedCode,
+    name: &Text,
+    place: usize,
+    depth: u32,
+) -> Turned
+    ensures led { IfDone result (λ turned. TurnedBy (outside depth) (table_of code.now)
+        (PushName name.now) place stack.old.own chain.now.own frame.now (O.seen objects.now)
+        locals.now turned stack.new.own chain.now.own (O.seen objects.now) locals.now) }
+    ensures forward { IfDone result (λ turned. IfOk turned (TurnsForward place)) }
+    ensures place { IfLeft result (λ at. AnswersAt (PushName name.now) stack.old.own
+        (framed chain.now.own frame.now) (O.seen objects.now) locals.now (O.founds objects.now)
+        at) }
+    ensures own { IfLeft result (λ _. stack.new.own ≡ stack.old.own) }
+    ensures stack { stack.new.below ≡ stack.old.below }
+{
+    match known_variable(objects, locals, chain, name, frame) {
+        Some(value) => Turned::Done(push_variable(
+            objects, locals, stack, chain, frame, code, name, value, place, depth,
+        )),
+        None => Turned::Left(None),
+    }
+}
+
+/// Puts this value, for which a name out of scope stands.
+fn push_variable<O: Objects>(
+    objects: &O,
+    locals: &Locals,
+    stack: &mut Layers<Value>,
+    chain: &Layers<Mark>,
+    frame: &Outline,
+    code: &SharedCode,
+    name: &Text,
+    value: Value,
+    place: usize,
+    depth: u32,
+) -> Result<Turn, AllocError>
+    requires { Ran (read_out_of_scope name.now (framed chain.now.own frame.now))
+        (O.seen objects.now) locals.now (Ok value) (O.seen objects.now) locals.now }
+    ensures led { TurnedBy (outside depth) (table_of code.now) (PushName name.now) place
+        stack.old.own chain.now.own frame.now (O.seen objects.now) locals.now result stack.new.own
+        chain.now.own (O.seen objects.now) locals.now }
+    ensures forward { IfOk result (TurnsForward place) }
+    ensures stack { stack.new.below ≡ stack.old.below }
+{
+    stack.push(value)?;
+    Ok(Turn::Goes(next_of(place)?))
+}
+
 /// Puts what a name out of scope stands for.
-pub(crate) fn push_name<O: Objects>(
+pub(crate) fn push_name<O: FindsMethods>(
     objects: &mut O,
     locals: &Locals,
     stack: &mut Layers<Value>,
@@ -97,8 +159,45 @@ pub(crate) fn push_name<O: Objects>(
     Ok(Flow::Goes(next_of(place)?))
 }
 
+/// Stores the uppermost value under a name out of scope, and leaves it, where it is known that this
+/// ends well unless something is lacking for it. Else the instruction is left.
+#[inline(never)]
+pub(crate) fn store_known<O: FindsMethods>(
+    objects: &mut O,
+    locals: &Locals,
+    stack: &Layers<Value>,
+    chain: &Layers<Mark>,
+    frame: &Outline,
+    code: &SharedCode,
+    name: &Text,
+    place: usize,
+    depth: u32,
+) -> Turned
+    ensures keeps { Keeps (O.seen objects.old) (O.seen objects.new) }
+    ensures led { IfDone result (λ turned. TurnedBy (outside depth) (table_of code.now)
+        (StoreName name.now) place stack.now.own chain.now.own frame.now (O.seen objects.old)
+        locals.now turned stack.now.own chain.now.own (O.seen objects.new) locals.now) }
+    ensures forward { IfDone result (λ turned. IfOk turned (TurnsForward place)) }
+    ensures place { IfLeft result (λ at. AnswersAt (StoreName name.now) stack.now.own
+        (framed chain.now.own frame.now) (O.seen objects.new) locals.now (O.founds objects.new)
+        at) }
+    ensures seen { IfLeft result (λ _. O.seen objects.new ≡ O.seen objects.old) }
+{
+    let Some(top) = stack.item(0) else {
+        return Turned::Left(None);
+    };
+    match set_known_variable(objects, locals, chain, name, frame, top) {
+        Some(Ok(())) => match next_of(place) {
+            Ok(next) => Turned::Done(Ok(Turn::Goes(next))),
+            Err(error) => Turned::Done(Err(error)),
+        },
+        Some(Err(lack)) => Turned::Done(turn_of(lack)),
+        None => Turned::Left(None),
+    }
+}
+
 /// Stores the uppermost value under a name out of scope, and leaves it.
-pub(crate) fn store_name<O: Objects>(
+pub(crate) fn store_name<O: FindsMethods>(
     objects: &mut O,
     locals: &Locals,
     stack: &mut Layers<Value>,
@@ -150,7 +249,7 @@ pub(crate) fn push_block<O: Objects>(
     let params = count_params(block.params)?;
     let scopes = chain.own().to_vec(alloc)?;
     let made = CodeBlock::of(code.share()?, number, scopes, frame.clone()?);
-    let number = locals.add_block(made)?;
+    let number = locals.add_block(alloc, made)?;
     stack.push(Value::Block(BlockRef { number, params }))?;
     Ok(Flow::Goes(next_of(place)?))
 }

@@ -10,14 +10,16 @@ ghost use Rattle.prim_parts.specs.Does.{Does};
 ghost use Rattle.running_objects.specs.Ran.{Ran};
 ghost use Rattle.st_compiler.specs.Emitted.{instruction_of};
 ghost use Rattle.st_compiler.specs.Instruction.{ReturnMethod};
-ghost use Rattle.st_machine.specs.Quick.{IsPut, put_value, IsQuick, quick_frame, at_home};
+ghost use Rattle.look_up_cache.specs.Variables.{bare_frame};
+ghost use Rattle.st_machine.specs.Quick.{IsPut, put_value, IsQuick, at_home};
 
+use crate::finds::FindsMethods;
 use crate::layers::Layers;
 use crate::locals::Locals;
 use crate::outline::Outline;
 use crate::shared_code::{Part, SharedCode};
 use gem_object::{Oid, Value};
-use running_objects::{Objects, Stop};
+use running_objects::Stop;
 use st_compiler::Instr;
 use std::alloc::Global;
 
@@ -59,7 +61,7 @@ fn is_put(instr: &Instr) -> bool
 
 /// The answer of such a method, which is called: its receiver and so many arguments stand on the
 /// stack, and are taken from there.
-pub(crate) fn answer_quickly<O: Objects>(
+pub(crate) fn answer_quickly<O: FindsMethods>(
     alloc: Global,
     objects: &mut O,
     locals: &Locals,
@@ -90,7 +92,7 @@ pub(crate) fn answer_quickly<O: Objects>(
 }
 
 /// What such an instruction puts.
-fn value_put<O: Objects>(
+fn value_put<O: FindsMethods>(
     alloc: Global,
     objects: &mut O,
     instr: &Instr,
@@ -100,7 +102,7 @@ fn value_put<O: Objects>(
 ) -> Result<Value, Stop>
     requires { IsPut (instruction_of instr.now) }
     ensures { Does (put_value (instruction_of instr.now)
-        (quick_frame receiver.now holder class_side)) (O.seen objects.old) result
+        (bare_frame receiver.now holder class_side)) (O.seen objects.old) result
         (O.seen objects.new) }
 {
     match instr {
@@ -111,7 +113,7 @@ fn value_put<O: Objects>(
         Instr::PushLit(value) => Ok(value.clone()?),
         Instr::PushName(name) => {
             let frame = Outline::of(alloc, receiver.clone()?, 0, holder, class_side);
-            st_outside::read_name(objects, name, frame.frame())
+            objects.read_name(frame.frame(), name)
         }
         _ => unreachable!(),
     }

@@ -16,7 +16,7 @@ use crate::known::send_known;
 use crate::layers::Layers;
 use crate::locals::Locals;
 use crate::loops::{loop_next, loop_start, loop_step};
-use crate::names::{push_local, store_local};
+use crate::names::{push_known, push_local, store_known, store_local};
 use crate::outline::Outline;
 use crate::pushes::{duplicate, pop, push_self, push_singleton, push_value};
 use crate::scopes::{enter, leave};
@@ -136,9 +136,13 @@ pub(crate) fn turn<O: FindsMethods>(
         Instr::Send(selector, count) => send_known(
             objects, locals, stack, chain, frame, code, selector, *count, at, depth,
         ),
+        Instr::PushName(name) => push_known(
+            objects, locals, stack, chain, frame, code, name, at, depth,
+        ),
+        Instr::StoreName(name) => store_known(
+            objects, locals, stack, chain, frame, code, name, at, depth,
+        ),
         Instr::MakeLit(_)
-        | Instr::PushName(_)
-        | Instr::StoreName(_)
         | Instr::SuperSend(_, _)
         | Instr::PushBlock(_)
         | Instr::ReturnMethod

@@ -1,11 +1,11 @@
-use Rattle.std.proofs.Common.{◌∙◌, false, refl, sym, ap, ◌<◌, ◌++◌, ◌∷◌, List, [], length, get_or, take, reverse, replicate, slice_get, arith}
+use Rattle.std.proofs.Common.{◌≡◌, ◌∙◌, false, suc, rules, refl, sym, ap, ◌<◌, ◌++◌, ◌∷◌, List, [], length, get_or, take, drop, reverse, replicate, slice_get, arith}
 use Rattle.std.proofs.lemmas.Grind.{common_steps}
 use Rattle.std.proofs.lemmas.Result.{err_from_is_err_and}
 use Rattle.gem_object.specs.declared.value.Value.TheVariants.{Nil}
 use Rattle.tree_meaning.specs.Bodies.{temps_count, method_body, block_body}
 use Rattle.tree_meaning.specs.declared.place.Mark.{Mark}
 use Rattle.gem_language.specs.Commands.{selector_of}
-use Rattle.gem_language.specs.Sends.{outside}
+use Rattle.gem_language.specs.Sends.{outside, callee}
 use Rattle.tree_meaning.specs.object_programs.declared.fault.Fault.TheVariants as fault
 use Rattle.running_objects.specs.declared.stop.Stop.TheVariants as stop
 use Rattle.look_up_cache.specs.Table.{held_at}
@@ -14,12 +14,14 @@ use Rattle.st_compiler.specs.Emitted.{instruction_of}
 use Rattle.st_commands.proofs.Activations.{activation_ran, evaluation_ran, method_ran, made_ran}
 use Rattle.st_machine.specs.Layers.{Layers}
 use Rattle.st_machine.specs.Parts.{table_of, part_code, part_run, framed}
-use Rattle.st_machine.proofs.Ends.{receiver_is, rest_is, never_empty, whatever}
+use Rattle.st_machine.proofs.Ends.{is_then, receiver_is, rest_is, never_empty, whatever}
 use Rattle.st_machine.proofs.Outlines.{method_framed, block_framed, method_ran_by, block_ran_by}
 use Rattle.st_machine.proofs.PartRuns.{part_runs}
 use Rattle.st_machine.proofs.Standing.{stands_empty, stands_left, stands_next, stands_back, stands_leaves, stands_stop, never_stuck, never_past}
 use Rattle.st_machine.proofs.Sent.{sent_answers, sent_stops}
 use Rattle.st_machine.proofs.Placed.{placed_ran, placed_stops}
+use Rattle.st_machine.proofs.Taken.{one_less, one_left, put_taken, put_left}
+use Rattle.st_machine.proofs.Calls.{called_ran, block_ran}
 use Rattle.st_machine.proofs.machine.+machine.Goals as goal
 
 pub send-returns-in_err-answer-clause-led : goal.send-returns-in_err-answer-clause-led
@@ -86,18 +88,62 @@ call_method-returns-in-None-clause-ran g t c =
     method_ran c.args.depth (omega (arith, c.if-depth-eq0.false)) c.args.code.now c.args.holder c.args.class_side
     (get_or c.args.stack.now.own c.args.count Nil) (reverse (take c.args.count c.args.stack.now.own)) c.activate.ensures.ran
 
+pub call_primitive-returns-in-Some-block_called-clause-ran : goal.call_primitive-returns-in-Some-block_called-clause-ran
+call_primitive-returns-in-Some-block_called-clause-ran g t c =
+    called_ran c.args.depth c.args.number c.args.stack.now.own c.args.count c.requires c.in-Some.receiver.now
+    c.in-Some.ensures c.in-Some-block_called.block c.in-Some-block_called.ensures c.call_block.ensures.ran
+
+pub call_primitive-returns-clause-own : goal.call_primitive-returns-clause-own
+call_primitive-returns-clause-own g t c =
+    is_then c.value_of_primitive.result c.value_of_primitive.new.stack.own (drop 1 c.drop_upper.new.self.own)
+    (drop (suc c.args.count) c.args.stack.now.own)
+    (ap (drop 1) c.drop_upper.ensures.own ∙ one_less c.args.count c.args.stack.now.own) c.value_of_primitive.ensures.own
+
+pub call_with-returns-clause-ran : goal.call_with-returns-clause-ran
+call_with-returns-clause-ran g t c =
+    let size : c.len-count.result ≡ length c.args.arguments.items = search rules in
+    let taken = put_taken c.args.arguments.items c.args.stack.now.own c.push_all.new.self.own c.len-count.result size
+    c.in_ok-push_all.ensures.pushed in
+    rw taken at c.call_block.ensures.ran
+
+pub call_with-returns-clause-own : goal.call_with-returns-clause-own
+call_with-returns-clause-own g t c =
+    let size : c.len-count.result ≡ length c.args.arguments.items = search rules in
+    is_then c.call_block.result c.call_block.new.stack.own (drop (suc c.len-count.result) c.push_all.new.self.own)
+    (drop 1 c.args.stack.now.own) (put_left c.args.arguments.items c.args.stack.now.own c.push_all.new.self.own
+    c.len-count.result size c.in_ok-push_all.ensures.pushed) c.call_block.ensures.own
+
+pub call_block-returns-clause-ran : goal.call_block-returns-clause-ran
+call_block-returns-clause-ran g t c =
+    block_ran (callee c.args.depth).block c.args.number (reverse (take c.args.count c.args.stack.now.own)) c.in-Some.shared.now
+    c.block-made.result.now c.in-Some.ensures (c.block-made.ensures ∙ c.in_ok-shared.ensures) c.upper.result.now c.upper.ensures
+    c.takes.result c.takes.ensures c.if-not-takes.false c.call_made.ensures.ran
+
 pub call_made-returns-clause-ran : goal.call_made-returns-clause-ran
 call_made-returns-clause-ran g t c =
-    made_ran c.args.depth (omega (arith, c.if-depth-eq0.false)) c.args.made.now c.args.arguments.items c.evaluate.ensures.ran
+    made_ran c.args.depth (omega (arith, c.if-depth-eq0.false)) c.args.made.now
+    (reverse (take c.args.count c.args.stack.now.own)) c.evaluate.ensures.ran
+
+pub evaluate-drop_upper-requires : goal.evaluate-drop_upper-requires
+evaluate-drop_upper-requires g t c =
+    one_left c.args.count c.args.stack.now.own c.open_taking.new.stack.own c.requires c.in_ok-open_taking.ensures.own
+
+pub evaluate-returns-clause-own : goal.evaluate-returns-clause-own
+evaluate-returns-clause-own g t c =
+    whatever c.leave_block.result
+    (ap (λ (one : Layers _). one.own) c.run_inside-ended.ensures.stack
+    ∙ (c.drop_upper.ensures.own ∙ (ap (drop 1) c.in_ok-open_taking.ensures.own
+    ∙ one_less c.args.count c.args.stack.now.own)))
 
 pub evaluate-returns-clause-ran : goal.evaluate-returns-clause-ran
 evaluate-returns-clause-ran g t c =
     let inner = framed (c.mark-mark.result ∷ reverse c.scopes.result.now) c.outline.result.now in
+    let arguments = reverse (take c.args.count c.args.stack.now.own) in
     evaluation_ran (block_body (outside c.args.depth) c.args.made.now.tree c.args.made.now.place) (temps_count c.args.made.now.tree)
-    c.args.made.now.frame c.args.arguments.items c.run_inside-ended.result c.mark-mark.result inner
-    (c.args.arguments.items ++ replicate c.temps_count.result Nil) c.temps_count.result c.mark-mark.ensures
+    c.args.made.now.frame arguments c.run_inside-ended.result c.mark-mark.result inner
+    (arguments ++ replicate c.temps_count.result Nil) c.temps_count.result c.mark-mark.ensures
     (block_framed c.outline.result.now c.args.made.now.frame c.mark-mark.result c.scopes.result.now c.outline.ensures c.scopes.ensures)
-    refl c.temps_count.ensures c.in_ok-open_scope.ensures.opened
+    refl c.temps_count.ensures c.in_ok-open_taking.ensures.opened
     (block_ran_by (outside c.args.depth) c.code-number.result.0.now c.code-number.result.1 inner c.args.made.now c.code-number.ensures.tree
     c.code-number.ensures.place c.run_inside-ended.ensures.ran) c.leave_block.ensures
 
@@ -206,6 +252,17 @@ execute-returns-in-NoUnit-clause-ran g t c =
     (instruction_of c.in-Some.instr.now)
     (ap (λ (code : List Instruction). slice_get code c.run.at) (sym c.code_of-instrs.ensures) ∙ sym c.in-Some.ensures.is)
     c.turn-turned.ensures.keeps (stop.Fails fault.SendBudget) (rw c.in-NoUnit.is at (rw c.in-Ok-done.is at c.in-Done.ensures.led))
+
+pub execute-returns-in-TooLarge-clause-ran : goal.execute-returns-in-TooLarge-clause-ran
+execute-returns-in-TooLarge-clause-ran g t c =
+    stands_stop (outside c.args.depth) (table_of c.args.code.now) (part_code c.args.code.now c.args.part)
+    (part_run (outside c.args.depth) c.args.code.now c.args.part (framed c.args.chain.now.own c.args.frame.now))
+    (g.O.Objects.seen c.args.objects.now) (g.O.Objects.seen c.run.objects) (g.O.Objects.seen c.turn-turned.new.objects)
+    c.args.locals.now c.run.locals c.turn-turned.new.locals c.run.at c.run.stack.own c.turn-turned.new.stack.own
+    c.run.chain.own c.turn-turned.new.chain.own c.args.frame.now c.run.invariant.standing
+    (instruction_of c.in-Some.instr.now)
+    (ap (λ (code : List Instruction). slice_get code c.run.at) (sym c.code_of-instrs.ensures) ∙ sym c.in-Some.ensures.is)
+    c.turn-turned.ensures.keeps (stop.Fails fault.ObjectTooLarge) (rw c.in-TooLarge.is at (rw c.in-Ok-done.is at c.in-Done.ensures.led))
 
 pub execute-unreachable-requires-in-Stuck-turn : goal.execute-unreachable-requires-in-Stuck-turn
 execute-unreachable-requires-in-Stuck-turn g t c =

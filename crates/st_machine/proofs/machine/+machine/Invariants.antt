@@ -26,10 +26,13 @@ abbrev pub decreases-call_target : goal.decreases-call_target
 decreases-call_target g l = 16 * l.depth + 8
 
 abbrev pub decreases-call_primitive : goal.decreases-call_primitive
-decreases-call_primitive g l = 16 * l.depth + 6
+decreases-call_primitive g l = 16 * l.depth + 7
 
 abbrev pub decreases-value_of_primitive : goal.decreases-value_of_primitive
-decreases-value_of_primitive g l = 16 * l.depth + 5
+decreases-value_of_primitive g l = 16 * l.depth + 6
+
+abbrev pub decreases-call_with : goal.decreases-call_with
+decreases-call_with g l = 16 * l.depth + 5
 
 abbrev pub decreases-call_method : goal.decreases-call_method
 decreases-call_method g l = 16 * l.depth + 3
