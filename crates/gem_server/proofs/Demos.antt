@@ -1,5 +1,6 @@
 -- A generated load, from what each of its scripts leaves to how the call ends.
-use Rattle.std.proofs.Common.{◌≡◌, ◌⊎◌, ℕ, zero, suc, ◌+◌, ◌*◌, ◌<◌, ◌≤◌, Bool, true, false, not, List, [], ◌∷◌, ◌++◌, length, sum_by, Option, Some, None, option_map, Result, Ok, Err, IfOk, refl, sym, ap, ap₂, subst, codes, ◌∙◌, inl, inr, append_assoc, arith}
+use Rattle.std.proofs.Common.{◌≡◌, ◌≢◌, ◌⊎◌, ℕ, zero, suc, ◌+◌, ◌*◌, ◌<◌, ◌≤◌, Bool, true, false, ◌&&◌, not, List, [], ◌∷◌, ◌++◌, Option, Some, None, option_map, Result, Ok, Err, IfOk, refl, sym, ap, ap₂, subst, codes, ◌∙◌, inl, inr, append_assoc, arith}
+use Rattle.std.specs.List.{AllByRecursion, list_all}
 use Rattle.std.specs.Fmt.{decimal}
 use Rattle.std.specs.Str.{bytes_eq}
 use Rattle.std.proofs.lemmas.Slice.Eq.{bytes_eq-Decides}
@@ -11,14 +12,12 @@ use Rattle.gem_object.specs.texts.Bytes.{Bytes}
 use Rattle.gem_object.specs.declared.object.Object.{Object}
 use Rattle.gem_disk.specs.Disk.{Files, Past, as_read}
 use Rattle.gem_image.specs.Image.{Image}
-use Rattle.gem_record.specs.Stored.{Root, Stored}
+use Rattle.gem_record.specs.Stored.{Stored}
 use Rattle.gem_record.specs.declared.record.Entry.{Entry}
 use Rattle.gem_keeper.specs.Found.{Found, found_object, StandsFor}
 use Rattle.kernel_image.specs.Objects.{kernel_image}
 use Rattle.shell_words.specs.ScriptGrammar.{ReadsScript}
-use Rattle.stone_store.specs.declared.fault.StoreFlaw.{StoreFlaw}
 use Rattle.stone_store.specs.Store.{Held, root_number, misfit, held_unless, held_over, held_by, store_of, image_of, number_of, found_in, found_by, found_of}
-use Rattle.stone_store.specs.Opening.{IsFound}
 use Rattle.stone_store.specs.Resting.{IsStoredIn}
 use Rattle.stone_store.proofs.Images.{settled_is_found}
 use Rattle.stone_store.proofs.Opens.{no_record}
@@ -29,22 +28,27 @@ use Rattle.load_maker.specs.Numbers.{load_sum}
 use Rattle.load_maker.specs.Scripts.{setup_text, load_text, tally_text}
 use Rattle.gem_replies.specs.Report.{report_of}
 use Rattle.gem_replies.specs.declared.reply.RunBook.{RunBook}
-use Rattle.gem_meaning.specs.declared.event.What.TheVariants.{Placed, Held as Locked, Dropped, Left, Checked, Halted}
+use Rattle.gem_replies.specs.declared.reply.Line.{Line}
+use Rattle.gem_replies.specs.declared.reply.Line.TheVariants.{NoMemory as NoMemoryLine, DiskFault as DiskFaultLine}
+use Rattle.gem_replies.specs.declared.reply.Reply.{Reply}
+use Rattle.gem_replies.specs.declared.reply.Transcript.{Transcript}
+use Rattle.gem_meaning.specs.Legal.{WasServed, AlwaysServed}
+use Rattle.gem_server.proofs.SetupOnce.{setup_once}
+use Rattle.gem_meaning.specs.declared.event.What.TheVariants.{Placed}
 use Rattle.gem_meaning.specs.Opened.{Opened}
-use Rattle.gem_meaning.specs.Events.{Event, Told, entries_of, after_events}
+use Rattle.gem_meaning.specs.Events.{Event, Told, after_events}
 use Rattle.gem_meaning.specs.After.{stored_after}
-use Rattle.stone_core.specs.Crashes.{StandsAfter}
 use Rattle.gem_server.specs.declared.demo.Part.{Part}
 use Rattle.gem_server.specs.declared.status.Status.{Status}
 use Rattle.gem_server.specs.declared.status.Status.TheVariants.{Done, Usage, Script, NotStore, SerialsUsed, NotEmpty, ReadFault, DiskFault, WriteFault, NoMemory}
-use Rattle.gem_server.specs.Devices.{Seen, HasFailed, IsUnused}
+use Rattle.gem_server.specs.Devices.{Seen, IsUnused}
 use Rattle.gem_server.specs.Writing.{HasWritten}
 use Rattle.gem_server.specs.Server.{IsBlank}
 use Rattle.gem_server.specs.Course.{IsOpenedOn}
 use Rattle.gem_server.specs.Serving.{HasRun, ServesStore}
-use Rattle.gem_server.specs.Demo.{IsLoad, commits_of, demo_lines, tally_report, IsServedOver, new_opening, IsServedSetup, IsLoadOver, IsServedTally, IsServedLoad, DemosSo, Demos}
+use Rattle.gem_server.specs.Demo.{IsLoad, commits_of, demo_lines, tally_report, IsServedOver, new_opening, IsServedSetup, IsLoadOver, IsServedLoad, DemosSo, Demos}
 use Rattle.gem_server.specs.Completeness.{DemoCompletes}
-use Rattle.gem_server.specs.DemoParts.{IsPart, OnlyCommits}
+use Rattle.gem_server.specs.DemoParts.{IsPart, OnlyCommits, is_served_line, are_served}
 use Rattle.gem_server.proofs.StoreCompletes.{ok_is, whole_text}
 use Rattle.gem_server.proofs.Making.{nothing_held, empty_store}
 
@@ -58,8 +62,8 @@ module _ (text written : Bytes) (source sink : Seen (Option Bytes)) (disk : Seen
     pub served : IsServedOver text (as_read disk.before) (as_read disk.after) (record { opened = opened; events = events }) book
     pub report : written ≡ report_of book
 
-  has_run : HasRun true source sink disk Done events book → IsDone
-  has_run has =
+  has_run : AlwaysServed book → HasRun true source sink disk Done events book → IsDone
+  has_run always has =
       let same : text ≡ has.text =
       whole_text text has.text source.after (subst (λ (b : Option Bytes). Consumes b source.after has.text) given has.given) has.at_end in
       record {
@@ -69,6 +73,7 @@ module _ (text written : Bytes) (source sink : Seen (Option Bytes)) (disk : Seen
           opened_on = has.opened_on;
           legal = has.ended.0;
           running = has.ended.1;
+          always = always;
           stands = has.kept.reads refl has.ended.1;
           stored = has.kept.stored refl has.ended.1;
         };
@@ -76,11 +81,47 @@ module _ (text written : Bytes) (source sink : Seen (Option Bytes)) (disk : Seen
             (subst (λ (a : Option Bytes). Appends a sink.after (report_of book)) nothing has.ended.2);
       }
 
-  pub is_done : ServesStore true source sink disk Done events book → IsDone
-  is_done serves = elim serves.course [
+  pub is_done : ServesStore true source sink disk Done events book → AlwaysServed book → IsDone
+  is_done serves always = elim serves.course [
     | inl none ↦ absurd none.why
-    | inr has ↦ has_run has
+    | inr has ↦ has_run always has
   ]
+
+both_true : (first second : Bool) → (first && second) ≡ true → (first ≡ true) × (second ≡ true)
+both_true true second both = (refl, both)
+both_true false second both = absurd cc
+
+-- what was tested of the replies
+served_line : (line : Line) → is_served_line line ≡ true → (line ≢ NoMemoryLine) × (line ≢ DiskFaultLine)
+served_line line served = (
+  λ same. let never : true ≡ false = sym served ∙ ap is_served_line same in absurd cc,
+  λ same. let never : true ≡ false = sym served ∙ ap is_served_line same in absurd cc,
+)
+
+served_replies : (replies : List Reply) → list_all (λ (reply : Reply). is_served_line reply.line) replies ≡ true
+    → AllByRecursion WasServed replies
+served_replies [] served = tt
+served_replies (reply ∷ replies) served =
+    let each = both_true (is_served_line reply.line) (list_all (λ (reply : Reply). is_served_line reply.line) replies) served in
+    (served_line reply.line each.0, served_replies replies each.1)
+
+served_transcripts : (transcripts : List Transcript) → are_served transcripts ≡ true
+    → AllByRecursion (λ transcript. AllByRecursion WasServed transcript.replies) transcripts
+served_transcripts [] served = tt
+served_transcripts (transcript ∷ transcripts) served =
+    let each = both_true (list_all (λ (reply : Reply). is_served_line reply.line) transcript.replies) (are_served transcripts) served in
+    (served_replies transcript.replies each.0, served_transcripts transcripts each.1)
+
+pub always_served : (test : Bool) (book : RunBook) → test ≡ are_served book.transcripts → test ≡ true → AlwaysServed book
+always_served test book tells passed = served_transcripts book.transcripts (sym tells ∙ passed)
+
+-- a part that was served whole
+pub part_served : {E : Type 0} (result : Result Part E) (text : Bytes) (before : Files) (part : Part)
+    → (AlwaysServed part.book → IsPart text before part) → IfOk result (λ it. it ≡ part)
+    → IfOk result (λ it. AlwaysServed it.book) → IfOk result (IsPart text before)
+part_served (Ok it) text before part is same always =
+    subst (IsPart text before) (sym same) (is (subst (λ (p : Part). AlwaysServed p.book) same always))
+part_served (Err e) text before part is same always = tt
 
 -- the part that was looked at is the one that was served
 pub same_part : {E : Type 0} (result : Result Part E) (text : Bytes) (before : Files) (part : Part) → IsPart text before part
@@ -116,35 +157,21 @@ opened_new o on =
     let counts = on.counts in
     λ i. record { image = image i; number = number i; script = o.script; stored = stored i; counts_pages = counts i }
 
--- the one event of a run that is one commit
-record IsOneCommit (events : List Event) : Type 0 where
-  pub session : ℕ
-  pub entry : Entry
-  pub is : events ≡ (session, Placed entry) ∷ []
-
-one_commit : (events : List Event) → length events ≡ 1 → length (entries_of events) ≡ 1 → IsOneCommit events
-one_commit [] one commit = absurd (omega (arith, one))
-one_commit ((session, Placed entry) ∷ []) one commit = record { session = session; entry = entry; is = refl }
-one_commit ((session, Locked oid kind) ∷ []) one commit = absurd (omega (arith, commit))
-one_commit ((session, Dropped oid) ∷ []) one commit = absurd (omega (arith, commit))
-one_commit ((session, Left) ∷ []) one commit = absurd (omega (arith, commit))
-one_commit ((session, Checked) ∷ []) one commit = absurd (omega (arith, commit))
-one_commit ((session, Halted number entry) ∷ []) one commit = absurd (omega (arith, commit))
-one_commit (event ∷ other ∷ events) one commit = absurd (omega (arith, one))
-
-setup_served : (part : Part) → IsPart setup_text no_files part → OnlyCommits 1 part
+setup_served : (part : Part) → IsPart setup_text no_files part
     → (opened : Opened) × IsServedSetup (as_read part.disk.past) (record { opened = opened; events = part.events })
-setup_served part is only =
-    let history = is.served.legal.history in
-    let commit = one_commit part.events only.events (sym (ap length history) ∙ only.history) in (
+setup_served part is =
+    let opened = opened_new is.opened is.served.opened_on in
+    let commit = setup_once (record { opened = is.opened; events = part.events }) part.book is.served.legal is.served.always
+    is.served.reads (ap (λ (o : Opened). o.image) opened) (ap (λ (o : Opened). o.number) opened)
+    (ap (λ (o : Opened). o.stored.log_length) opened) in (
       is.opened,
       record {
         book = part.book;
         served = is.served;
-        opened_is = opened_new is.opened is.served.opened_on;
-        session = commit.session;
-        entry = commit.entry;
-        events_are = commit.is;
+        opened_is = opened;
+        session = 1;
+        entry = commit.0;
+        events_are = commit.1;
       },
     )
 
@@ -252,12 +279,12 @@ module _ (files : Files) (t : Told) (setup : IsServedSetup files t) where
       }
 
 -- the three of them
-pub all_served : (seed sessions rounds : ℕ) (setup loaded tally : Part) → IsPart setup_text no_files setup → OnlyCommits 1 setup
+pub all_served : (seed sessions rounds : ℕ) (setup loaded tally : Part) → IsPart setup_text no_files setup
     → IsPart (load_text seed sessions rounds) (as_read setup.disk.past) loaded → OnlyCommits (commits_of sessions rounds) loaded
     → IsPart tally_text (as_read loaded.disk.past) tally → tally.report.written ≡ tally_report seed sessions rounds
     → IsServedLoad seed sessions rounds loaded.events loaded.book
-all_served seed sessions rounds setup loaded tally first one load all last printed =
-    let begun = setup_served setup first one in
+all_served seed sessions rounds setup loaded tally first load all last printed =
+    let begun = setup_served setup first in
     record {
       after_setup = as_read setup.disk.past;
       setup = record { opened = begun.0; events = setup.events };

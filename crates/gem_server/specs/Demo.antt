@@ -1,5 +1,5 @@
 -- A generated load that is served between its set-up and its tally, and what is told of it.
-use Rattle.std.specs.Prelude.{◌≡◌, ◌≢◌, ◌++◌, ◌∷◌, [], ◌+◌, ◌*◌, ◌<◌, ◌≤◌, ℕ, true, codes, List, length, Option, None}
+use Rattle.std.specs.Prelude.{◌≡◌, ◌++◌, ◌∷◌, [], ◌+◌, ◌*◌, ◌<◌, ◌≤◌, ℕ, true, codes, List, length, Option, None}
 use Rattle.std.specs.Fmt.{decimal}
 use Rattle.gem_object.specs.texts.Bytes.{Bytes}
 use Rattle.gem_disk.specs.Disk.{Files}
@@ -17,7 +17,7 @@ use Rattle.gem_meaning.specs.declared.event.What.TheVariants.{Placed}
 use Rattle.gem_meaning.specs.Opened.{Opened}
 use Rattle.gem_meaning.specs.Events.{Event, Told, standing, IsRunning}
 use Rattle.gem_meaning.specs.After.{stored_after}
-use Rattle.gem_meaning.specs.Legal.{IsLegal}
+use Rattle.gem_meaning.specs.Legal.{IsLegal, AlwaysServed}
 use Rattle.stone_core.specs.Crashes.{StandsAfter}
 use Rattle.gem_server.specs.declared.status.Status.{Status}
 use Rattle.gem_server.specs.declared.status.Status.TheVariants.{Done, WriteFault, NoMemory}
@@ -57,14 +57,15 @@ tally_report seed sessions rounds =
 -- ---- What was served.
 
 -- The script was served over files that held this before, and hold that after: a Stone was opened
--- with what they held, the book is that of a legal run, nothing failed, and the files stand for what
--- the run left, and have stored it.
+-- with what they held, the book is that of a legal run, nothing failed, no session found too little
+-- memory, and the files stand for what the run left, and have stored it.
 pub record IsServedOver (text : Bytes) (before after : Files) (t : Told) (book : RunBook)
     : Type 0 where
   pub reads : ReadsScript text t.opened.script
   pub opened_on : IsOpenedOn true before t.opened
   pub legal : IsLegal t book
   pub running : IsRunning t.events
+  pub always : AlwaysServed book
   pub stands : StandsAfter t.opened t.events (found_of after)
   pub stored : IsStoredIn after (stored_after t.opened t.events)
 

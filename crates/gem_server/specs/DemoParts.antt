@@ -1,8 +1,12 @@
 -- The parts of a demo, as they come back.
-use Rattle.std.specs.Prelude.{◌≡◌, ℕ, length}
+use Rattle.std.specs.Prelude.{◌≡◌, ℕ, Bool, true, false, List, length}
+use Rattle.std.specs.List.{list_all}
 use Rattle.gem_object.specs.texts.Bytes.{Bytes}
 use Rattle.gem_disk.specs.Disk.{Files, as_read}
 use Rattle.gem_replies.specs.Report.{report_of}
+use Rattle.gem_replies.specs.declared.reply.Line.{Line}
+use Rattle.gem_replies.specs.declared.reply.Line.TheVariants.{NoMemory, DiskFault}
+use Rattle.gem_replies.specs.declared.reply.Transcript.{Transcript}
 use Rattle.gem_meaning.specs.Opened.{Opened}
 use Rattle.gem_server.specs.declared.demo.Part.{Part}
 use Rattle.gem_server.specs.Demo.{IsServedOver}
@@ -18,3 +22,14 @@ pub record IsPart (text : Bytes) (before : Files) (part : Part) : Type 0 where
 pub record OnlyCommits (commits : ℕ) (part : Part) : Type 0 where
   pub history : length part.book.history ≡ commits
   pub events : length part.events ≡ commits
+
+-- whether a line says neither that memory ran out nor that the disk failed
+abbrev pub is_served_line : Line → Bool
+is_served_line NoMemory = false
+is_served_line DiskFault = false
+is_served_line _ = true
+
+-- whether no reply of the transcripts says so
+abbrev pub are_served : List Transcript → Bool
+are_served transcripts = list_all
+    (λ transcript. list_all (λ reply. is_served_line reply.line) transcript.replies) transcripts

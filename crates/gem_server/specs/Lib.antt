@@ -7,6 +7,7 @@ pub mod Serving
 pub mod Looking
 pub mod Demo
 pub mod DemoParts
+pub mod Rounds
 pub mod DiskFaults
 pub mod Completeness
 pub mod Starting

@@ -5,14 +5,16 @@ ghost use Rattle.load_maker.specs.Numbers.{load_sum};
 ghost use Rattle.load_maker.specs.Scripts.{setup_text, load_text, tally_text};
 ghost use Rattle.gem_server.specs.Devices.{seen};
 ghost use Rattle.gem_server.specs.Demo.{IsLoad, demo_lines, tally_report, IsServedLoad, Demos};
-ghost use Rattle.gem_server.specs.DemoParts.{IsPart, OnlyCommits};
+ghost use Rattle.std.specs.List.{list_all};
+ghost use Rattle.gem_meaning.specs.Legal.{AlwaysServed};
+ghost use Rattle.gem_server.specs.DemoParts.{IsPart, OnlyCommits, is_served_line, are_served};
 
 use crate::output::write_out;
 use crate::serving::serve_store;
 use crate::status::{Ended, Events, Status};
 use gem_disk::MemDisk;
 use gem_io::{Gate, MemSink, MemSource, OpenGate, Sink};
-use gem_replies::RunBook;
+use gem_replies::{Line, Reply, RunBook, Transcript};
 use load_maker::{load_script, load_sum, setup_script, tally_script};
 use std::alloc::{AllocError, Global};
 use std::sync::Wait;
@@ -41,9 +43,9 @@ struct Part {
 /// Serves the load between its set-up and its tally, all three over one disk in memory, and writes to
 /// the sink what came of it. The disk that is handed in is only handed back.
 ///
-/// What was committed and what the tally printed is compared with what is written. Where it differs
-/// the status is `NoMemory`, as where a session or a disk in memory found no memory. No clause says
-/// that nothing else makes it differ.
+/// Where a session or a disk in memory found no memory, the status is `NoMemory`. So it is where what
+/// the load committed or what the tally printed differs from what is written. No clause says that
+/// neither ever does; that the set-up commits once follows from what its chunk means.
 pub(crate) fn serve_demo<R: Threads + Wait + Sync, K: Sink, D: Drop, G: Gate + Sync>(
     rt: &R,
     alloc: Global,
@@ -96,13 +98,11 @@ fn serve_parts<R: Threads + Wait + Sync, G: Gate + Sync>(
 
 // Serves the set-up over an empty disk. It has one session, which no gate has to hold.
 fn serve_setup<R: Threads + Wait + Sync>(rt: &R, alloc: Global) -> Result<Part, AllocError>
-    ensures part { IfOk result (IsPart setup_text (record { extent = []; log = [] })) }
-    ensures commits { IfOk result (OnlyCommits 1) }
+    ensures { IfOk result (IsPart setup_text (record { extent = []; log = [] })) }
 {
     let script = setup_script(alloc)?;
     let disk = MemDisk::new(Vec::new(alloc), Vec::new(alloc));
-    let part = serve_part(rt, alloc, script, disk, &OpenGate)?;
-    commits_only(part, 1)
+    serve_part(rt, alloc, script, disk, &OpenGate)
 }
 
 // Serves the load over what the set-up left.
@@ -137,7 +137,7 @@ fn serve_part<R: Threads + Wait + Sync, G: Gate + Sync>(
     let mut report = MemSink::new(Vec::new(alloc));
     let ended = serve_store(rt, alloc, &mut source, disk, gate, &mut report);
     match ended.status {
-        Status::Done => Ok(Part {
+        Status::Done => served_whole(Part {
             book: ended.book,
             events: ended.events,
             report,
@@ -145,6 +145,37 @@ fn serve_part<R: Threads + Wait + Sync, G: Gate + Sync>(
         }),
         _ => Err(AllocError),
     }
+}
+
+// The part, where no session found too little memory, and no disk in memory did.
+fn served_whole(part: Part) -> Result<Part, AllocError>
+    ensures same { IfOk result (λ it. it ≡ part) }
+    ensures served { IfOk result (λ it. AlwaysServed it.book) }
+{
+    if !are_served(part.book.transcripts.as_slice()) {
+        return Err(AllocError);
+    }
+    Ok(part)
+}
+
+fn are_served(transcripts: &[Transcript]) -> bool
+    ensures { result ≡ are_served transcripts.now }
+{
+    transcripts
+        .iter()
+        .all(|transcript| are_done(transcript.replies.as_slice()))
+}
+
+fn are_done(replies: &[Reply]) -> bool
+    ensures { result ≡ list_all (λ reply. is_served_line reply.line) replies.now }
+{
+    replies.iter().all(|reply| is_served(&reply.line))
+}
+
+fn is_served(line: &Line) -> bool
+    ensures { result ≡ is_served_line line.now }
+{
+    !matches!(line, Line::NoMemory | Line::DiskFault)
 }
 
 // The part, where it committed so often, and nothing else happened.

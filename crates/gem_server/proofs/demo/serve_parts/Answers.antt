@@ -9,5 +9,5 @@ returns g c =
     (tally_report c.args.load.seed c.args.load.sessions c.args.load.rounds) c.ne.ensures c.if-ne.false c.written.ensures
     (c.as_bytes.ensures.value ∙ c.in_ok-expected.ensures) in
     all_served c.args.load.seed c.args.load.sessions c.args.load.rounds c.in_ok-setup.setup c.in_ok-loaded.loaded c.in_ok-tally.tally
-    c.in_ok-setup.ensures.part c.in_ok-setup.ensures.commits c.in_ok-loaded.ensures.part c.in_ok-loaded.ensures.commits
+    c.in_ok-setup.ensures c.in_ok-loaded.ensures.part c.in_ok-loaded.ensures.commits
     (rw c.in_ok-script.ensures at c.in_ok-tally.ensures) printed
