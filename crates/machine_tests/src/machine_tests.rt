@@ -123,6 +123,80 @@ run R ownerAuthorization: #write => ok
 print A at: 1 put: 13. A at: 2 put: 14 => error E4 index
 print A at: 1 put: 15. A at: 1 => 15";
 
+/// A script in which instance variables and elements are read and written again, by methods of a
+/// class and of one below it, of objects with named slots and without, and after a change of a right,
+/// a segment or a method.
+const PLACES: &str = "\
+run Object subclass: #Cup instVarNames: #(fill size) inDictionary: UserGlobals => ok
+run Cup subclass: #Mug instVarNames: #(grip) inDictionary: UserGlobals => ok
+run Array subclass: #Row instVarNames: #(name next) inDictionary: UserGlobals => ok
+run UserGlobals at: #S put: Segment new. UserGlobals at: #C put: Cup new => ok
+run UserGlobals at: #M put: Mug new. UserGlobals at: #A put: (Array new: 2) => ok
+run UserGlobals at: #R put: (Row new: 2). UserGlobals at: #grip put: 40 => ok
+method Cup fill ^fill => method fill
+method Cup fill: n fill := n => method fill:
+method Cup grip ^grip => method grip
+method Cup grip: n grip := n => method grip:
+method Mug grip ^grip => method grip
+method Mug grip: n grip := n => method grip:
+method Mug last ^size => method last
+method Mug last: n size := n => method last:
+class Mug fill ^fill => method fill
+method Row name ^name => method name
+method Row name: n name := n => method name:
+print C fill: 1. C fill: 2. C fill => 2
+print M fill: 3. M last: 4. M grip: 5. M fill: 6. M fill * 100 + (M last * 10) + M grip => 645
+print C grip => 40
+print C grip: 3 => error E2 undefined variable: grip
+print C grip + C grip => 80
+print M grip => 5
+print Mug fill => error E2 undefined variable: fill
+run UserGlobals at: #fill put: 7 => ok
+print Mug fill + Mug fill => 14
+print C fill => 2
+run grip := 41. UserGlobals at: #grip put: 41 => error E2 undefined variable: grip
+print R name: 8. R at: 1 put: 9. R at: 2 put: 10. R at: 1 put: 11. R name: 12. (R at: 1) + R \
+    name => 23
+print R size + A size + (R at: 2) => 14
+print R at: 3 => error E4 index
+print R at: 0 put: 1 => error E4 index
+print A at: 1 put: 3. A at: 1 put: [4] => error E12 block stored
+print A at: 1 put: R. A at: 1 put: 5. A at: nil put: 6 => error E5 argument kind
+print (A at: 1) + R size => 7
+run UserGlobals at: #T put: Segment new. C assignToSegment: S. A assignToSegment: S => ok
+print C fill + C fill. S ownerAuthorization: #none. C fill => error E10 no read right: 1:8
+run S ownerAuthorization: #write => ok
+print C fill: 3. S ownerAuthorization: #read. C fill: 4 => error E11 no write right: 1:8
+print C fill => 3
+run S ownerAuthorization: #write => ok
+print A size + A size. S ownerAuthorization: #none. A size => error E10 no read right: 1:10
+run S ownerAuthorization: #write => ok
+print (A at: 1) + (A at: 1). S ownerAuthorization: #none. A at: 1 => error E10 no read right: 1:10
+run S ownerAuthorization: #write => ok
+print A at: 1 put: 6. A at: 1 put: 7. S ownerAuthorization: #read. A at: 1 put: 8 => error \
+    E11 no write right: 1:10
+print A at: 1 => 7
+run S ownerAuthorization: #write => ok
+print C fill: 5. C assignToSegment: T. C fill: 6. T ownerAuthorization: #read. C fill: 7 => \
+    error E11 no write right: 1:8
+print C fill => 6
+print C fill. T ownerAuthorization: #none. C fill => error E10 no read right: 1:8
+run T ownerAuthorization: #write => ok
+print A at: 1 put: 9. A assignToSegment: T. T ownerAuthorization: #read. A at: 1 put: 8 => \
+    error E11 no write right: 1:10
+print (A at: 1) + C fill => 15
+print A at: 1. T ownerAuthorization: #none. A at: 1 => error E10 no read right: 1:10
+run T ownerAuthorization: #write => ok
+run Cup assignToSegment: S => ok
+print M fill + C fill. S ownerAuthorization: #none. M grip => error E10 no read right: 1:2
+run S ownerAuthorization: #write => ok
+print M grip: 6. M fill: 2. M grip * 10 + M fill => 62
+print M fill. Cup removeSelector: #fill. M fill => error E1 not understood: fill
+method Mug fill ^size => method fill
+print M last: 3. M fill => 3
+print C fill => error E1 not understood: fill
+print M fill + M grip => 9";
+
 /// Objects on which the machine runs.
 pub(crate) type Known<S> = KnownObjects<S, SharedCode>;
 
@@ -361,6 +435,7 @@ fn wrong_lines<S: Begins, L: Ledger>(alloc: Global, blank: Blank) -> Result<Stri
     check_names::<S, L>(alloc, &mut cache, &mut steps, &mut wrong)?;
     check_remembered::<S, L>(alloc, &mut cache, CHANGES, &mut steps, &mut wrong)?;
     check_remembered::<S, L>(alloc, &mut cache, WRITES, &mut steps, &mut wrong)?;
+    check_remembered::<S, L>(alloc, &mut cache, PLACES, &mut steps, &mut wrong)?;
     Ok(wrong)
 }
 

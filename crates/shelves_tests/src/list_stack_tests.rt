@@ -143,3 +143,26 @@ fn opens_with_items(rt: HostRuntime) -> Result<(), Fail> {
     assert!(rt; is_list(&stack, 3, b"ef") && is_list(&stack, 1, b"cd"));
     Ok(())
 }
+
+// Opens a list of the last three of these items, and one of none; the item that is left.
+fn take_three(stack: &mut ListStack<u8>, items: &mut Vec<u8>) -> Result<Option<u8>, AllocError> {
+    if items.len() < 3 {
+        return Ok(None);
+    }
+    stack.open_taking(items, 3)?;
+    stack.open_taking(items, 0)?;
+    Ok(items.pop())
+}
+
+#[test]
+fn opens_with_the_last_items(rt: HostRuntime) -> Result<(), Fail> {
+    let alloc = rt.alloc();
+    let mut stack = two_pairs(alloc)?;
+    let mut items = b"efgh".to_vec(alloc)?;
+    assert_eq!(rt; take_three(&mut stack, &mut items)?, Some(b'e'));
+    assert!(rt; items.is_empty());
+    assert_eq!(rt; stack.len(), 5);
+    assert!(rt; is_list(&stack, 3, b"fgh") && is_list(&stack, 4, b""));
+    assert!(rt; is_list(&stack, 0, b"ab") && is_list(&stack, 1, b"cd"));
+    Ok(())
+}

@@ -6,6 +6,7 @@ use radix_pages::{Pages, Steps};
 use std::alloc::{AllocError, Global};
 use std::marker::Brand;
 use std::process::Abort;
+use std::sync::Arc;
 use std::sync::ledger::{Blank, Ledger};
 use std::test::Fail;
 
@@ -90,6 +91,23 @@ fn finds_each(map: &Map) -> bool {
     map.next_from(from).is_none()
 }
 
+/// The value at the key, kept beside the map.
+fn kept(map: &Map, key: u64) -> Result<Option<Arc<u64>>, AllocError> {
+    match map.leaf(key) {
+        Some(value) => Ok(Some(value.clone()?)),
+        None => Ok(None),
+    }
+}
+
+/// Whether a value stays that is kept, once the map is gone.
+fn keeps<L: Ledger>(alloc: Global, steps: &mut Steps<L>) -> Result<bool, AllocError> {
+    let map = filled(alloc, FEW, steps)?;
+    let value = kept(&map, key_at(7))?;
+    let none = kept(&map, key_at(7) + 1)?;
+    drop(map);
+    Ok(none.is_none() && value.map(|value| *value) == Some(value_at(7)))
+}
+
 /// Takes what threads may share.
 fn goes_to_threads<T: Send + Sync>(_shared: &T) {}
 
@@ -114,6 +132,21 @@ fn set_greatest<R: Abort, L: Ledger>(rt: &R, alloc: Global, blank: Blank) -> Res
 #[test]
 fn greatest_key(rt: HostRuntime) -> Result<(), Fail> {
     set_greatest::<HostRuntime, Brand>(&rt, rt.alloc(), Blank::new(1))
+}
+
+fn keep_one<R: Abort, L: Ledger>(rt: &R, alloc: Global, blank: Blank) -> Result<(), Fail>
+    requires name { blank.name ≡ L.name }
+    requires parts { blank.parts ≡ L.parts }
+    requires some_parts { 0 < L.parts }
+{
+    let mut steps = Steps::<L>::start(blank);
+    assert!(rt; keeps(alloc, &mut steps)?);
+    Ok(())
+}
+
+#[test]
+fn kept_value(rt: HostRuntime) -> Result<(), Fail> {
+    keep_one::<HostRuntime, Brand>(&rt, rt.alloc(), Blank::new(1))
 }
 
 /// Inserts the key at this place, which comes next. Where memory is refused the map is as it was,
