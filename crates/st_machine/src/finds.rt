@@ -187,8 +187,9 @@ impl<O: Objects> FindsMethods for KnownObjects<O, SharedCode> {
         class_side: bool,
         value: &Value,
     ) -> Option<Result<(), Lack>> {
-        let ended =
-            KnownObjects::set_known_variable(self, name, receiver, holder, class_side, value)?;
+        let ended = KnownObjects::set_known_variable(
+            self, name, receiver, holder, class_side, value,
+        )?;
         Some(lacking(ended))
     }
 
