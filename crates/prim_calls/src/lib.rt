@@ -51,6 +51,7 @@ pub fn call<O: Objects>(
 /// alone: where both are integers, and it is one of `==`, `=`, `+`, `-`, `*`, `//`, `\\`, `<`, `>`,
 /// `<=`, `>=` and `bitAnd:` and ends without an error. It takes no memory. None anywhere else; of
 /// None the contract says nothing.
+#[inline(always)]
 pub fn ready(number: u8, receiver: &Value, arguments: &[Value]) -> Option<Value>
     ensures { IfSome result (λ value.
         Computes (rule_of number receiver.now arguments.now) (Ok (Gives value))) }

@@ -15,6 +15,7 @@ use running_objects::Stop;
 const MOST_SHIFT: u64 = 61;
 
 /// What the operation comes to.
+#[inline(always)]
 pub(crate) fn operate(operation: Operation, number: i64, other: i64) -> Result<Value, Stop>
     ensures { Computes (operation_rule operation number other) result }
 {
@@ -32,6 +33,7 @@ pub(crate) fn operate(operation: Operation, number: i64, other: i64) -> Result<V
 }
 
 // The integer, or E6 where it isn't one of the language's.
+#[inline(always)]
 fn in_range(number: i128) -> Result<Value, Stop>
     ensures { Computes (in_range number) result }
 {
@@ -41,6 +43,7 @@ fn in_range(number: i128) -> Result<Value, Stop>
     Err(Stop::Fails(Fault::IntegerRange))
 }
 
+#[inline(always)]
 fn add(number: i64, other: i64) -> Result<Value, Stop>
     ensures { Computes (in_range (number +ℤ other)) result }
 {
@@ -50,6 +53,7 @@ fn add(number: i64, other: i64) -> Result<Value, Stop>
     in_range(i128::from(sum))
 }
 
+#[inline(always)]
 fn subtract(number: i64, other: i64) -> Result<Value, Stop>
     ensures { Computes (in_range (number -ℤ other)) result }
 {
@@ -59,6 +63,7 @@ fn subtract(number: i64, other: i64) -> Result<Value, Stop>
     in_range(i128::from(difference))
 }
 
+#[inline(never)]
 fn multiply(number: i64, other: i64) -> Result<Value, Stop>
     ensures { Computes (in_range (number *ℤ other)) result }
 {
@@ -68,6 +73,7 @@ fn multiply(number: i64, other: i64) -> Result<Value, Stop>
     in_range(i128::from(product))
 }
 
+#[inline(never)]
 fn shift(number: i64, count: i64) -> Result<Value, Stop>
     ensures { Computes (in_range (shifted number count)) result }
 {
@@ -75,6 +81,7 @@ fn shift(number: i64, count: i64) -> Result<Value, Stop>
 }
 
 // E7 where the divisor is 0.
+#[inline(never)]
 fn divide(division: Division, number: i64, divisor: i64) -> Result<Value, Stop>
     ensures { Computes (divided (division_result division) number divisor) result }
 {
@@ -127,6 +134,7 @@ fn floor_remainder(number: i64, divisor: i64) -> i128
     }
 }
 
+#[inline(always)]
 fn compares(comparison: Comparison, number: i64, other: i64) -> bool
     ensures { result ≡ compares comparison number other }
 {

@@ -15,6 +15,7 @@ use prim_parts::truth;
 /// The answer of the primitive of this number, where it is one of `==`, `=`, `+`, `-`, `*`, `//`,
 /// `\\`, `<`, `>`, `<=`, `>=` and `bitAnd:` of two integers, and ends without an error. It looks at
 /// nothing else, and takes no memory. None anywhere else; of None the contract says nothing.
+#[inline(always)]
 pub fn ready(number: u8, receiver: &Value, arguments: &[Value]) -> Option<Value>
     ensures { IfSome result (λ value.
         Computes (rule_of number receiver.now arguments.now) (Ok (Gives value))) }
@@ -29,6 +30,7 @@ pub fn ready(number: u8, receiver: &Value, arguments: &[Value]) -> Option<Value>
 }
 
 // The same of these two integers.
+#[inline(always)]
 fn ready_answer(number: u8, first: i64, second: i64) -> Option<Value>
     ensures { IfSome result (λ value.
         Computes (rule_of number (Int first) (Int second ∷ [])) (Ok (Gives value))) }
@@ -55,6 +57,7 @@ fn ready_answer(number: u8, first: i64, second: i64) -> Option<Value>
 }
 
 // Whether both are the same integer.
+#[inline(always)]
 fn same(first: i64, second: i64) -> Value
     ensures { Computes (same_rule (Int first) (Int second)) (Ok result) }
 {
@@ -62,8 +65,12 @@ fn same(first: i64, second: i64) -> Value
 }
 
 // What the operation comes to, where that is no error.
+#[inline(always)]
 fn result_of(operation: Operation, first: i64, second: i64) -> Option<Value>
     ensures { IfSome result (λ value. Computes (operation_rule operation first second) (Ok value)) }
 {
-    operate(operation, first, second).ok()
+    match operate(operation, first, second) {
+        Ok(value) => Some(value),
+        Err(_) => None,
+    }
 }

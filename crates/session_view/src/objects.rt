@@ -67,6 +67,7 @@ impl Objects for View {
         self.state.put(oid, body)
     }
 
+    #[inline(always)]
     fn set_slot(&mut self, oid: Oid, at: usize, value: Value) -> Result<(), Stop> {
         self.state.set_slot(oid, at, value)
     }

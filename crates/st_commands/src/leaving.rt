@@ -9,6 +9,7 @@ use tree_meaning::Mark;
 
 /// A method's end: its activation lives no more, and what came since it began is given back. A
 /// value that returns to it is its answer.
+#[inline(always)]
 pub fn leave_method<O: Objects, L: Activations>(
     objects: &O,
     locals: &mut L,
@@ -34,6 +35,7 @@ pub fn leave_method<O: Objects, L: Activations>(
 }
 
 /// A block's end: its scope is given back.
+#[inline(always)]
 pub fn leave_block<O: Objects, L: Activations>(
     objects: &O,
     locals: &mut L,
