@@ -21,6 +21,7 @@ use Rattle.look_up_cache.specs.Lasting.{lasting_of}
 use Rattle.look_up_cache.specs.Calm.{Calm, Begins}
 use Rattle.look_up_cache.specs.Table.{AllHeld}
 use Rattle.look_up_cache.specs.Memory.{start_at, IsMet, IsFound, IsPlaced, IsCounted, IsCoded, Holds, Where, IsKnown}
+use Rattle.look_up_cache.specs.Operators.{IsAnswered}
 use Rattle.look_up_cache.specs.declared.memory.Beginning.{Beginning}
 use Rattle.look_up_cache.specs.declared.memory.Memory.{Memory}
 use Rattle.look_up_cache.proofs.Calms.{Taken, taken, start_lasts, calm_touches}
@@ -96,11 +97,13 @@ still_ok true now (Err ended) is holds = absurd (false≢true (sym is ∙ holds)
 pub learned : {T : Type 0} (held : Bool) (old new : Memory T) (seen : Seen)
     → (AllHeld (IsMet seen) old.receivers.items → AllHeld (IsMet seen) new.receivers.items)
     → new.methods.items ≡ old.methods.items → new.variables.items ≡ old.variables.items
-    → new.counts.items ≡ old.counts.items → Where held (Holds old seen) → Where held (Holds new seen)
-learned false old new seen learns same alike equal holds = tt
-learned true old new seen learns same alike equal holds = record {
+    → new.counts.items ≡ old.counts.items → new.operators.items ≡ old.operators.items
+    → Where held (Holds old seen) → Where held (Holds new seen)
+learned false old new seen learns same alike equal like holds = tt
+learned true old new seen learns same alike equal like holds = record {
   receivers = learns holds.receivers;
   methods = subst (λ methods. AllHeld (IsFound seen) methods) (sym same) holds.methods;
   variables = subst (λ variables. AllHeld (IsPlaced seen) variables) (sym alike) holds.variables;
   counts = subst (λ counts. AllHeld (IsCounted seen) counts) (sym equal) holds.counts;
+  operators = subst (λ operators. AllHeld (IsAnswered seen) operators) (sym like) holds.operators;
 }

@@ -24,6 +24,8 @@ use Rattle.look_up_cache.specs.Remembered.{Finds}
 use Rattle.look_up_cache.specs.Remains.{Remains}
 use Rattle.look_up_cache.specs.Table.{AllHeld}
 use Rattle.look_up_cache.specs.Memory.{start_at, IsMet, IsFound, IsPlaced, IsCounted, Holds, Where, IsKnown}
+use Rattle.look_up_cache.specs.Operators.{operator_selector, integer_start, IsAnswered}
+use Rattle.look_up_cache.specs.declared.operator.IntegerOperator.{IntegerOperator}
 use Rattle.look_up_cache.specs.declared.memory.Receiver.{Receiver}
 use Rattle.look_up_cache.specs.declared.memory.Entry.{Entry}
 use Rattle.look_up_cache.specs.declared.memory.Variable.{Variable}
@@ -77,12 +79,22 @@ module _ (before after : Seen) (remains : Remains before after) where
       Counted setting after.world chain_limit count.class count.named) (sym remains.setting)
       (counted_stays before.setting before.world after.world remains.still chain_limit count.class count.named counted)
 
+  pub answered_remains : (operator : IntegerOperator) → IsAnswered before operator → IsAnswered after operator
+  answered_remains operator answered = record {
+    found = answered.found;
+    finds = subst (λ (setting : Setting). Finds integer_start (operator_selector operator) (Some answered.found)
+        setting after.world) (sym remains.setting) (finds_stay before.setting before.world after.world remains.still
+        integer_start (operator_selector operator) (Some answered.found) answered.finds);
+    code = answered.code;
+  }
+
   pub holds_remain : {T : Type 0} (memory : Memory T) → Holds memory before → Holds memory after
   holds_remain memory holds = record {
     receivers = λ at receiver here. met_remains receiver (holds.receivers at receiver here);
     methods = λ at entry here. found_remains entry (holds.methods at entry here);
     variables = λ at variable here. placed_remains variable (holds.variables at variable here);
     counts = λ at count here. counted_remains count (holds.counts at count here);
+    operators = λ at operator here. answered_remains operator (holds.operators at operator here);
   }
 
 ok_by : {A : Type 0} (result : Result A Stop) (Q : Type 0) → is_ok result ≡ true → ((answer : A) → result ≡ Ok answer → Q) → Q
@@ -197,11 +209,22 @@ known_receivers {T} is_of true memory seen known is = known.holds.receivers
 known_receivers {T} is_of false memory seen known is = absurd (false≢true is)
 
 -- in a new chunk, whose budget is whole
+answered_whole : (operator : IntegerOperator) (seen : Seen) → IsAnswered seen operator
+    → IsAnswered (with_whole_budget seen) operator
+answered_whole operator seen answered =
+    record { found = answered.found; finds = answered.finds; code = answered.code }
+
 pub chunk_known : {T : Type 0} (is_of : T → MethodCode → Type 0) (held : Bool) (memory : Memory T) (seen : Seen)
     → IsKnown is_of held memory seen → IsKnown is_of held memory (with_whole_budget seen)
 chunk_known {T} is_of held memory seen known = record {
   holds = where_still held (Holds memory seen) (Holds memory (with_whole_budget seen))
-      (λ holds. record { receivers = holds.receivers; methods = holds.methods; variables = holds.variables; counts = holds.counts })
+      (λ holds. record {
+        receivers = holds.receivers;
+        methods = holds.methods;
+        variables = holds.variables;
+        counts = holds.counts;
+        operators = λ at operator here. answered_whole operator seen (holds.operators at operator here);
+      })
       known.holds;
   coded = known.coded;
 }

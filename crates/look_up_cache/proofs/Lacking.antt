@@ -1,16 +1,14 @@
 -- For want of what a unit and a put into a slot may end.
-use Rattle.std.proofs.Common.{◌≡◌, refl, ap, subst, ℕ, zero, suc, Bool, true, false, Some, is_some, nat_le, Result, Ok, Err, arith}
+use Rattle.std.proofs.Common.{◌≡◌, ap, subst, ℕ, zero, suc, Bool, true, false, is_some, nat_le, Result, Ok, Err, arith}
 use Rattle.std.proofs.lemmas.Bool.{false≢true, le-leb}
 use Rattle.gem_object.specs.declared.body.Body.{Body}
-use Rattle.gem_object.specs.declared.value.Value.{Value}
 use Rattle.running_objects.specs.gem_image.Image.{Contents}
 use Rattle.running_objects.specs.gem_world.World.{Setting, World}
 use Rattle.running_objects.specs.gem_world.Changes.{with_body}
 use Rattle.running_objects.specs.object_programs.Atom.{Answer, says, refuses, Done, Room, Put, Tick, ticked, spent_where}
 use Rattle.running_objects.specs.object_programs.Budget.{Budget, is_within_limits}
-use Rattle.running_objects.specs.object_programs.Run.{Run, atom, and_then, Ending, gives, returns, fails, State, Outcome, outcome_of, onward, perform}
+use Rattle.running_objects.specs.object_programs.Run.{atom, and_then, Ending, gives, returns, fails, State, Outcome, outcome_of, onward, perform}
 use Rattle.running_objects.specs.object_programs.Programs.{check, replace_body}
-use Rattle.running_objects.specs.object_programs.declared.fault.Fault.{Fault}
 use Rattle.running_objects.specs.object_programs.declared.fault.Fault.TheVariants as fault
 use Rattle.running_objects.specs.Acted.{Acted}
 use Rattle.running_objects.specs.Seen.{Seen, object_at, with_local}

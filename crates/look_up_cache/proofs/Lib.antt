@@ -11,6 +11,7 @@ mod Replaced
 mod Keeps
 mod Places
 mod Again
+pub mod Operators
 mod There
 pub mod AfterReads
 mod AfterWrites

@@ -2,6 +2,8 @@ pub mod Lasting
 pub mod Calm
 pub mod Remembered
 pub mod Remains
+pub mod Budgets
+pub mod Operators
 pub mod Table
 pub mod Variables
 pub mod Counted

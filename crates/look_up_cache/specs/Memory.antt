@@ -4,7 +4,6 @@ use Rattle.gem_object.specs.texts.Bytes.{Bytes as Text}
 use Rattle.gem_object.specs.declared.value.Value.{Value}
 use Rattle.gem_object.specs.declared.value.Value.TheVariants.{Ref}
 use Rattle.gem_object.specs.declared.body.MethodCode.{MethodCode}
-use Rattle.running_objects.specs.object_programs.Budget.{Budget}
 use Rattle.gem_language.specs.declared.found.Found.{Found}
 use Rattle.gem_language.specs.LookUp.{Start}
 use Rattle.running_objects.specs.gem_world.Access.{a_read}
@@ -17,6 +16,8 @@ use Rattle.look_up_cache.specs.Calm.{Begins, Writable, plain_start}
 use Rattle.look_up_cache.specs.Remembered.{Finds}
 use Rattle.look_up_cache.specs.Variables.{Stands}
 use Rattle.look_up_cache.specs.Counted.{Counted}
+use Rattle.look_up_cache.specs.Operators.{IsAnswered}
+pub use Rattle.look_up_cache.specs.Budgets.{with_budget}
 use Rattle.look_up_cache.specs.Table.{held_at, AllHeld}
 use Rattle.look_up_cache.specs.declared.memory.Beginning.{Beginning}
 use Rattle.look_up_cache.specs.declared.memory.Receiver.{Receiver}
@@ -71,6 +72,7 @@ pub record Holds {T : Type 0} (memory : Memory T) (seen : Seen) : Type 0 where
   pub methods : AllHeld (IsFound seen) memory.methods.items
   pub variables : AllHeld (IsPlaced seen) memory.variables.items
   pub counts : AllHeld (IsCounted seen) memory.counts.items
+  pub operators : AllHeld (IsAnswered seen) memory.operators.items
 
 -- What is remembered holds, where it isn't forgotten; and the code that is kept is that of its
 -- method.
@@ -105,7 +107,3 @@ abbrev pub Met : Value → Seen → Result (Unit {0}) Stop → Seen → Type 0
 Met (Ref name) before result after = Accessed a_read name before result after
 Met value before (Ok met) after = after ≡ before
 Met value before (Err ended) after = ⊥
-
--- what is seen, with another budget
-abbrev pub with_budget : Budget → Seen → Seen
-with_budget budget seen = record seen { budget = budget }

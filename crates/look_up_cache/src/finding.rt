@@ -34,9 +34,11 @@ pub(crate) fn renew<T: MethodCodeKept>(memory: &mut Memory<T>, held: bool)
     empty_all(&mut memory.methods);
     empty_all(&mut memory.variables);
     empty_all(&mut memory.counts);
+    empty_all(&mut memory.operators);
 }
 
 /// The place of what a look-up for this receiver is known to find.
+#[inline(always)]
 pub(crate) fn known_place<T>(memory: &Memory<T>, receiver: &Value, selector: &Text) -> Option<usize>
     ensures { (seen : Seen) → Holds memory.now seen → IfSome result (λ at.
         FindsFor receiver.now selector.now (held_at (founds memory.now.methods.items) at) seen) }
@@ -47,6 +49,7 @@ pub(crate) fn known_place<T>(memory: &Memory<T>, receiver: &Value, selector: &Te
 
 // Where a look-up for this receiver is known to begin.
 #[tactic(auto, using(crate::proofs::Again::plain_begins))]
+#[inline(always)]
 fn known_start<T>(memory: &Memory<T>, receiver: &Value) -> Option<Beginning>
     ensures { (seen : Seen) → Holds memory.now seen
         → IfSome result (λ start. BeginsFor receiver.now (start_at start) seen) }
@@ -57,8 +60,9 @@ fn known_start<T>(memory: &Memory<T>, receiver: &Value) -> Option<Beginning>
     }
 }
 
-// The same for a value that is no reference.
-fn start_of_plain(receiver: &Value) -> Option<Beginning>
+/// The same for a value that is no reference.
+#[inline(always)]
+pub(crate) fn start_of_plain(receiver: &Value) -> Option<Beginning>
     ensures { option_map start_at result ≡ plain_start receiver.now }
 {
     let class = class_of_plain(receiver)?;
@@ -69,6 +73,7 @@ fn start_of_plain(receiver: &Value) -> Option<Beginning>
 }
 
 /// The same for an object.
+#[inline(always)]
 pub(crate) fn object_start(receivers: &Vec<Option<Receiver>>, name: Oid) -> Option<Beginning>
     ensures { (seen : Seen) → AllHeld (IsMet seen) receivers.now.items
         → IfSome result (λ start. Begins name (start_at start) seen.setting seen.world) }
@@ -78,6 +83,7 @@ pub(crate) fn object_start(receivers: &Vec<Option<Receiver>>, name: Oid) -> Opti
 }
 
 /// What is remembered of the object of this name. It takes no memory.
+#[inline(always)]
 pub(crate) fn receiver_of(receivers: &Vec<Option<Receiver>>, name: Oid) -> Option<&Receiver>
     ensures name { IfSome result (λ receiver. receiver.now.name ≡ name) }
     ensures met { (seen : Seen) → AllHeld (IsMet seen) receivers.now.items
@@ -90,6 +96,7 @@ pub(crate) fn receiver_of(receivers: &Vec<Option<Receiver>>, name: Oid) -> Optio
     }
 }
 
+#[inline(always)]
 fn receiver_at(receivers: &Vec<Option<Receiver>>, at: usize, name: Oid) -> Option<&Receiver>
     ensures name { IfSome result (λ receiver. receiver.now.name ≡ name) }
     ensures met { (seen : Seen) → AllHeld (IsMet seen) receivers.now.items
@@ -104,6 +111,7 @@ fn receiver_at(receivers: &Vec<Option<Receiver>>, at: usize, name: Oid) -> Optio
 }
 
 // The place of a look-up that is known.
+#[inline(always)]
 fn place_of<T>(memory: &Memory<T>, start: &Beginning, selector: &Text) -> Option<usize>
     ensures { (seen : Seen) → Holds memory.now seen → IfSome result (λ at.
         Finds (start_at start.now) selector.now (held_at (founds memory.now.methods.items) at)
@@ -121,6 +129,7 @@ fn place_of<T>(memory: &Memory<T>, start: &Beginning, selector: &Text) -> Option
 }
 
 // Whether this look-up stands at a place.
+#[inline(always)]
 fn is_at<T>(methods: &Vec<Option<Entry<T>>>, at: usize, start: &Beginning, selector: &Text) -> bool
     ensures { result ≡ true → (seen : Seen) → AllHeld (IsFound seen) methods.now.items
         → Finds (start_at start.now) selector.now (held_at (founds methods.now.items) at)
@@ -132,20 +141,23 @@ fn is_at<T>(methods: &Vec<Option<Entry<T>>>, at: usize, start: &Beginning, selec
     }
 }
 
-// Whether a look-up is this one.
-fn is_for<T>(entry: &Entry<T>, start: &Beginning, selector: &Text) -> bool
+/// Whether a look-up is this one.
+#[inline(always)]
+pub(crate) fn is_for<T>(entry: &Entry<T>, start: &Beginning, selector: &Text) -> bool
     ensures start { result ≡ true → start_at entry.now.start ≡ start_at start.now }
     ensures selector { result ≡ true → entry.now.selector ≡ selector.now }
 {
     same_start(&entry.start, start) && same_text(&entry.selector, selector)
 }
 
+#[inline(always)]
 pub(crate) fn same_text(one: &Text, other: &Text) -> bool
     ensures { result ≡ true → one.now ≡ other.now }
 {
     one.bytes() == other.bytes()
 }
 
+#[inline(always)]
 fn same_start(one: &Beginning, other: &Beginning) -> bool
     ensures { result ≡ true → start_at one.now ≡ start_at other.now }
 {
@@ -183,6 +195,7 @@ fn is_free_for(receivers: &Vec<Option<Receiver>>, at: usize, name: Oid) -> bool 
 }
 
 // The first place at which a look-up may stand.
+#[inline(always)]
 fn method_place(start: &Beginning, selector: &Text) -> usize {
     let class = match start.class {
         Some(class) => class.number() % 1024,

@@ -1,5 +1,5 @@
 //! Objects that remember look-ups.
-ghost use Rattle.std.specs.Prelude.{◌≡◌, false, Ok, None, IfSome, option_copied};
+ghost use Rattle.std.specs.Prelude.{◌≡◌, true, false, Ok, None, IfSome, option_copied};
 ghost use Rattle.gem_object.specs.Edits.{with_slot};
 ghost use Rattle.running_objects.specs.object_programs.Atom.{Tick};
 ghost use Rattle.running_objects.specs.object_programs.Budget.{Budget};
@@ -15,6 +15,7 @@ ghost use Rattle.prim_parts.specs.Edits.{Replaces};
 ghost use Rattle.look_up_cache.specs.Table.{held_at};
 ghost use Rattle.look_up_cache.specs.Variables.{Stands, bare_frame, SlotIsLeft};
 ghost use Rattle.look_up_cache.specs.Memory.{FindsFor, Met, told_by, with_budget};
+ghost use Rattle.look_up_cache.specs.Operators.{IntegersAnswer};
 ghost use Rattle.look_up_cache.specs.Lacking.{LacksAtMost};
 ghost use Rattle.look_up_cache.specs.Elements.{AlwaysGives, ended_by, PutIsLeft, UnitAndPut};
 
@@ -24,6 +25,7 @@ use crate::finding::{keep_at, known_place, remember, renew};
 use crate::kept::MethodCodeKept;
 use crate::memory::Memory;
 use crate::objects::{is_shown, still};
+use crate::operator::{IntegerOperator, is_answered, remember_operator};
 use crate::table::held_at;
 use crate::variables::{copy_of, known_index, known_variable, remember_variable, slot_to_set};
 use gem_language::Found;
@@ -130,6 +132,15 @@ impl<O: Objects, T: MethodCodeKept> KnownObjects<O, T> {
         Some(at)
     }
 
+    /// Whether it is known, without a look at any object, that integers answer this operator by the
+    /// primitive of its number. It takes no memory.
+    #[inline(always)]
+    pub fn answers_integers(&self, operator: IntegerOperator) -> bool
+        ensures { result ≡ true → IntegersAnswer operator (O.seen self.now.0) }
+    {
+        self.holds && is_answered(&self.memory.operators, operator)
+    }
+
     /// What the primitive of this number answers, where that is known without a change of anything,
     /// whatever the budget is: the size (33) and an element (34) of a sequence that is read so. None
     /// doesn't say that there is no answer. It takes no memory but for the text of a symbol, and
@@ -171,6 +182,7 @@ impl<O: Objects, T: MethodCodeKept> KnownObjects<O, T> {
     /// whatever the budget is: for a method of this class and side, where the slot of this name is
     /// remembered and the receiver is known to be read. None doesn't say that there is no such
     /// variable. It takes no memory but for the text of a symbol, and without that it is None.
+    #[inline(always)]
     pub fn known_variable(
         &self,
         name: &Text,
@@ -200,6 +212,7 @@ impl<O: Objects, T: MethodCodeKept> KnownObjects<O, T> {
     /// class and side, where the slot of this name is remembered, the receiver is known to be
     /// written, and the value is no block. An error is E17. None doesn't say that it would fail; then
     /// nothing is done. It takes no memory but for the text of a symbol, and without that it is None.
+    #[inline(always)]
     pub fn set_known_variable(
         &mut self,
         name: &Text,
@@ -221,6 +234,7 @@ impl<O: Objects, T: MethodCodeKept> KnownObjects<O, T> {
     }
 
     // The slot into which an assignment puts this value.
+    #[inline(always)]
     fn slot_to_set(
         &self,
         name: &Text,
@@ -354,6 +368,7 @@ impl<O: Objects, T: MethodCodeKept> KnownObjects<O, T> {
     }
 
     // Puts a value in a slot of an object that was written, and keeps what is remembered.
+    #[inline(always)]
     fn put_in_slot(&mut self, slot: Slot, value: Value) -> Result<(), Stop>
         ensures put { Replaces (λ body. 0) slot.name (with_slot slot.at value)
             (O.seen self.old.0) result (O.seen self.new.0) }
@@ -380,6 +395,7 @@ impl<O: Objects, T: MethodCodeKept> KnownObjects<O, T> {
     }
 
     // The place of what is known to be found.
+    #[inline(always)]
     fn known_place(&self, receiver: &Value, selector: &Text) -> Option<usize>
         ensures { IfSome result (λ at.
             FindsFor receiver.now selector.now (held_at self.now.1 at) (O.seen self.now.0)) }
@@ -401,6 +417,7 @@ impl<O: Objects, T: MethodCodeKept> KnownObjects<O, T> {
         let found = st_outside::find_method(&mut self.objects, false, frame, receiver, selector)?;
         let at = remember(&mut self.memory, &self.objects, receiver, selector, found)?;
         remember_count(&mut self.memory, &self.objects, receiver, at);
+        remember_operator(&mut self.memory, receiver, selector, at);
         self.holds = true;
         Ok(at)
     }

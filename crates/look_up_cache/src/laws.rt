@@ -27,6 +27,8 @@ ghost use Rattle.look_up_cache.specs.Calm.{Calm, Begins};
 ghost use Rattle.look_up_cache.specs.Remembered.{Finds};
 ghost use Rattle.look_up_cache.specs.Variables.{Stands};
 ghost use Rattle.look_up_cache.specs.Counted.{Counted};
+ghost use Rattle.look_up_cache.specs.Operators.{IsAnswered, IntegersAnswer};
+ghost use Rattle.look_up_cache.specs.declared.operator.IntegerOperator.{IntegerOperator};
 ghost use Rattle.look_up_cache.specs.Memory.{FindsFor};
 ghost use Rattle.look_up_cache.specs.Remains.{Remains};
 
@@ -86,6 +88,15 @@ pub fn slots_are_remembered()
         → Does (and_then (instance_names holder) (λ names. give (index_of name names))) before
         (Ok found) after
         → Remains before after × Stands holder name found after.setting after.world }
+{}
+
+/// What is remembered of an operator is that integers answer it by the primitive of its number, and
+/// it remains.
+pub fn operators_are_remembered()
+    ensures answers { (operator : IntegerOperator) (seen : Seen) → IsAnswered seen operator
+        → IntegersAnswer operator seen }
+    ensures remains { (operator : IntegerOperator) (before after : Seen) → Remains before after
+        → IsAnswered before operator → IsAnswered after operator }
 {}
 
 /// What calls leave that say what an atom does, where they end well: nothing happened that look-ups

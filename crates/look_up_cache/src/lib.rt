@@ -1,7 +1,8 @@
 //! Room: running. Gives objects that remember look-ups: which method answers a message, in which
-//! slot an instance variable stands, and how many slots a class names, is found once and then known,
-//! until something changes on which it depends. Knows nothing of how a tree is run, of the Stone and
-//! of other sessions. Its tests stand in `machine_tests`.
+//! slot an instance variable stands, how many slots a class names, and which operators integers
+//! answer by primitives, is found once and then known, until something changes on which it depends.
+//! Knows nothing of how a tree is run, of the Stone and of other sessions. Its tests stand in
+//! `machine_tests`.
 #![tactic(auto)]
 
 mod counts;
@@ -12,6 +13,7 @@ mod known;
 pub mod laws;
 mod memory;
 mod objects;
+mod operator;
 mod table;
 mod variables;
 mod writes;
@@ -19,3 +21,4 @@ mod writes;
 pub use kept::MethodCodeKept;
 pub use known::KnownObjects;
 pub use memory::Memory;
+pub use operator::IntegerOperator;

@@ -1,6 +1,7 @@
 //! What is remembered, without what is claimed of it.
 ghost use Rattle.std.specs.Prelude.{◌≡◌, []};
 
+use crate::operator::IntegerOperator;
 use gem_language::Found;
 use gem_object::{Oid, Text};
 use std::alloc::Global;
@@ -59,12 +60,14 @@ pub(crate) struct Count {
 
 /// Receivers, look-ups, instance variables and classes, each at a place that its name, or its class
 /// and selector or name, tell; all but classes at one of two. At a place stands what came there last.
+/// And operators that integers answer by their primitives, each at the place of its number.
 #[derive(Drop)]
 pub struct Memory<T> {
     pub(crate) receivers: Vec<Option<Receiver>>,
     pub(crate) methods: Vec<Option<Entry<T>>>,
     pub(crate) variables: Vec<Option<Variable>>,
     pub(crate) counts: Vec<Option<Count>>,
+    pub(crate) operators: Vec<Option<IntegerOperator>>,
 }
 
 impl<T> Memory<T> {
@@ -74,12 +77,14 @@ impl<T> Memory<T> {
         ensures methods { result.methods.items ≡ [] }
         ensures variables { result.variables.items ≡ [] }
         ensures counts { result.counts.items ≡ [] }
+        ensures operators { result.operators.items ≡ [] }
     {
         Memory {
             receivers: Vec::new(alloc),
             methods: Vec::new(alloc),
             variables: Vec::new(alloc),
             counts: Vec::new(alloc),
+            operators: Vec::new(alloc),
         }
     }
 }

@@ -20,6 +20,7 @@ use running_objects::Objects;
 use std::alloc::AllocError;
 
 /// The value of an instance variable, where that is known without a change of anything.
+#[inline(always)]
 pub(crate) fn known_variable<O: Objects, T>(
     memory: &Memory<T>,
     objects: &O,
@@ -53,6 +54,7 @@ fn value_in(body: &Body, at: usize) -> Option<&Value>
 }
 
 /// A copy of a value; None where memory ran out.
+#[inline(always)]
 pub(crate) fn copy_of(value: &Value) -> Option<Value>
     ensures { IfSome result (λ copy. copy ≡ value.now) }
 {
@@ -61,6 +63,7 @@ pub(crate) fn copy_of(value: &Value) -> Option<Value>
 
 /// The slot of the receiver into which an assignment puts this value, where all else of it is known
 /// to change nothing.
+#[inline(always)]
 pub(crate) fn slot_to_set<O: Objects, T>(
     memory: &Memory<T>,
     objects: &O,
@@ -103,6 +106,7 @@ fn has_slot(body: &Body, at: usize) -> bool
 }
 
 // The slot of the instance variable of this name, in a method of this class and side.
+#[inline(always)]
 fn known_slot<T>(memory: &Memory<T>, name: &Text, holder: Oid, class_side: bool) -> Option<usize>
     ensures { (seen : Seen) → Holds memory.now seen → IfSome result (λ slot.
         HasVariable name.now holder class_side slot seen) }
@@ -115,6 +119,7 @@ fn known_slot<T>(memory: &Memory<T>, name: &Text, holder: Oid, class_side: bool)
 
 /// In which slot the instance variable of this name of a class stands, or that there is none, where
 /// that is remembered.
+#[inline(always)]
 pub(crate) fn known_index<T>(memory: &Memory<T>, holder: Oid, name: &Text) -> Option<Option<usize>>
     ensures { (seen : Seen) → Holds memory.now seen → IfSome result (λ found.
         Stands holder name.now found seen.setting seen.world) }
@@ -126,6 +131,7 @@ pub(crate) fn known_index<T>(memory: &Memory<T>, holder: Oid, name: &Text) -> Op
     }
 }
 
+#[inline(always)]
 fn index_at(
     variables: &Vec<Option<Variable>>,
     at: usize,

@@ -26,4 +26,5 @@ returns-clause-holds g c = λ holds.
           c.requires.finds)) holds.methods;
       variables = holds.variables;
       counts = holds.counts;
+      operators = holds.operators;
     }

@@ -10,5 +10,6 @@ returns-then-held-clause-holds g c before reached holds =
       methods = c.args.memory.now.methods;
       variables = c.args.memory.now.variables;
       counts = c.args.memory.now.counts;
+      operators = c.args.memory.now.operators;
     })
-    (g.O.Objects.seen c.args.objects.now) (c.remember_object_written.ensures before reached) refl refl refl holds
+    (g.O.Objects.seen c.args.objects.now) (c.remember_object_written.ensures before reached) refl refl refl refl holds

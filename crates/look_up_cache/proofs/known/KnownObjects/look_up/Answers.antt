@@ -1,4 +1,4 @@
-use Rattle.std.proofs.Common.{sym, subst, ℕ, false, Result}
+use Rattle.std.proofs.Common.{◌∙◌, sym, subst, ℕ, false, Result}
 use Rattle.running_objects.specs.Seen.{Seen, Keeps}
 use Rattle.running_objects.specs.declared.stop.Stop.{Stop}
 use Rattle.running_objects.specs.declared.stop.Stop.TheVariants as stop
@@ -37,8 +37,9 @@ invariant_of-self-2 g c =
     let told = method_told c.args.frame.now c.args.receiver.now c.args.selector.now c.in_ok-found.found
     before after c.in_ok-found.ensures in
     record {
-      holds = c.remember_count.ensures.holds (c.in_ok-at.ensures.holds (holds_remain before after told.0 c.renew.new.memory
-          (c.renew.ensures.holds before c.self.invariant.holds)));
-      coded = subst (λ methods. AllHeld (IsCoded g.T.MethodCodeKept.is_of) methods) (sym c.remember_count.ensures.methods)
+      holds = c.remember_operator.ensures.holds after (c.remember_count.ensures.holds (c.in_ok-at.ensures.holds
+          (holds_remain before after told.0 c.renew.new.memory (c.renew.ensures.holds before c.self.invariant.holds))));
+      coded = subst (λ methods. AllHeld (IsCoded g.T.MethodCodeKept.is_of) methods)
+          (sym (c.remember_operator.ensures.methods ∙ c.remember_count.ensures.methods))
           (c.remember.ensures.coded (c.renew.ensures.coded c.self.invariant.coded));
     }

@@ -1,6 +1,5 @@
-use Rattle.std.proofs.Common.{◌≡◌, ◌∙◌, sym, true, is_some}
+use Rattle.std.proofs.Common.{◌∙◌, sym}
 use Rattle.gem_object.specs.Edits.{with_slot}
-use Rattle.running_objects.specs.Seen.{object_at}
 use Rattle.look_up_cache.proofs.Keeps.{replaced_known}
 use Rattle.look_up_cache.proofs.Edits.{with_slot_lasts}
 use Rattle.look_up_cache.proofs.Lacking.{put_lacks}
