@@ -99,7 +99,7 @@ put_by_name es k o = same_keys _ _ (λ q.
     ∙ sym (get_either (contents_by_name es) k q (contents_of o)))
 
 -- an object that is written in place is as one that is put
-set_is_put : (es : List (ℕ × Object)) (k : ℕ) (o old : Object) → lookup (nat_eq k) es ≡ Some old
+pub set_is_put : (es : List (ℕ × Object)) (k : ℕ) (o old : Object) → lookup (nat_eq k) es ≡ Some old
     → set_value (nat_eq k) es o ≡ insert_entry nat_eq es k o
 set_is_put [] k o old there = cc
 set_is_put (e ∷ es) k o old there = by (set_is_put es k o old) (nat_eq k e.0) there

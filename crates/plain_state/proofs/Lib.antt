@@ -19,3 +19,5 @@ pub mod Listing
 mod Grouping
 mod Costs
 mod AtHand
+mod EntryPlaces
+mod SlotPuts

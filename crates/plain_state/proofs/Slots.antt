@@ -245,7 +245,7 @@ module _ (x : Seen) (name at : ℕ) (value : Value) (sound : IsSoundState x) whe
   set_past : (values : List Value) (at : ℕ) → nat_lt at (length values) ≡ false → slice_set values at value ≡ values
   set_past values at past = list_set_past values at value (ltb-false at (length values) past)
 
-  no_slot_in : (one : Body) → nat_lt at (plain_slots one) ≡ false → with_slot at value one ≡ one
+  pub no_slot_in : (one : Body) → nat_lt at (plain_slots one) ≡ false → with_slot at value one ≡ one
   no_slot_in (body.Plain values) past = ap body.Plain (set_past values at past)
   no_slot_in (body.Bytes bytes) past = refl
   no_slot_in (body.Dict pairs) past = refl

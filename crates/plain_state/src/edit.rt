@@ -12,8 +12,6 @@ use std::alloc::AllocError;
 /// A change of one object.
 #[derive(Debug, Drop)]
 pub(crate) enum Edit {
-    /// A value comes into a slot, where there is that slot.
-    SetSlot(usize, Value),
     /// A slot more comes at a place, or at the end.
     InsertSlot(usize, Value),
     /// A slot goes away, where there is that slot.
@@ -44,7 +42,6 @@ impl Edit {
         ensures unchanged { OnErr result (object.new ≡ object.old) }
     {
         match self {
-            Edit::SetSlot(at, value) => Ok(Some(set_slot(&mut object.body, at, value))),
             Edit::InsertSlot(at, value) => Ok(Some(insert_slot(&mut object.body, at, value)?)),
             Edit::RemoveSlot(at) => Ok(Some(remove_slot(&mut object.body, at))),
             Edit::SetByte(at, byte) => Ok(Some(set_byte(&mut object.body, at, byte))),
@@ -62,7 +59,9 @@ impl Edit {
     }
 }
 
-fn set_slot(body: &mut Body, at: usize, value: Value) -> Change
+/// A value comes into a slot, where there is that slot; how the body changed.
+#[inline(always)]
+pub(crate) fn set_slot(body: &mut Body, at: usize, value: Value) -> Change
     ensures set { body.new ≡ with_slot at value body.old }
     ensures changed { Changes result body.old body.new }
 {

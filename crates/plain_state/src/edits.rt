@@ -1,14 +1,14 @@
 //! What the parts of a state do at edits in place.
-ghost use Rattle.std.specs.Prelude.{◌≡◌, nat_lt, OnOk, OnErr};
+ghost use Rattle.std.specs.Prelude.{◌≡◌, nat_lt, OnOk, OnErr, None};
 ghost use Rattle.std.specs.FinMap.{get};
 ghost use Rattle.gem_object.specs.Edits.{plain_slots, body_bytes, with_slot, with_slot_more, without_slot, with_byte, without_value_at};
 ghost use Rattle.object_programs.specs.Fixed.{fixed_by};
 ghost use Rattle.object_programs.specs.Guard.{holds_of};
-ghost use Rattle.running_objects.specs.Seen.{IsSoundState};
+ghost use Rattle.running_objects.specs.Seen.{object_at, IsSoundState};
 ghost use Rattle.running_objects.specs.Acted.{Edited};
 ghost use Rattle.running_objects.specs.Fitting.{may_enter, is_known_value};
 ghost use Rattle.plain_state.specs.Parts.{missed_value, edited_in, SameObjects};
-ghost use Rattle.plain_state.specs.Edit.{edited_by};
+ghost use Rattle.plain_state.specs.Edit.{edited_by, with_slot_put};
 ghost use Rattle.plain_state.specs.Classes.{slots_in, may_insert, has_pairs};
 ghost use Rattle.plain_state.specs.declared.edit.Edit.TheVariants as edit;
 
@@ -87,17 +87,26 @@ impl Parts {
     /// Puts a value in a slot.
     pub(crate) fn set_slot(&mut self, oid: Oid, at: usize, value: Value) -> Result<(), Stop>
         requires { IsSoundState self.old.seen }
-        ensures { Edited oid (with_slot at value) self.old.seen result self.new.seen }
+        ensures edited { Edited oid (with_slot at value) self.old.seen result self.new.seen }
+        ensures absent { object_at oid self.old.seen ≡ None → self.new.seen ≡ self.old.seen }
     {
-        if !self.has_slot(oid, at) {
+        if self.may_enter(&value) {
+            self.put_slot(oid, at, value);
             return Ok(());
         }
-        if self.may_enter(&value) {
-            self.change(oid, Edit::SetSlot(at, value))?;
+        if !self.has_slot(oid, at) {
             return Ok(());
         }
         self.miss_value(&value)?;
         Ok(())
+    }
+
+    // Puts a value in a slot of a written object, where there is that slot.
+    #[inline(always)]
+    fn put_slot(&mut self, oid: Oid, at: usize, value: Value)
+        ensures { self.new.seen ≡ edited_in oid (with_slot_put at value) self.old.seen }
+    {
+        self.shown.put_slot(oid.number(), at, value);
     }
 
     /// Whether a written object of this name has a byte at this place.
@@ -114,7 +123,8 @@ impl Parts {
     /// Puts a byte at a place.
     pub(crate) fn set_byte(&mut self, oid: Oid, at: usize, byte: u8) -> Result<(), Stop>
         requires { IsSoundState self.old.seen }
-        ensures { Edited oid (with_byte at byte) self.old.seen result self.new.seen }
+        ensures edited { Edited oid (with_byte at byte) self.old.seen result self.new.seen }
+        ensures absent { object_at oid self.old.seen ≡ None → self.new.seen ≡ self.old.seen }
     {
         if !self.has_byte(oid, at) {
             return Ok(());
@@ -152,7 +162,8 @@ impl Parts {
     /// Puts a slot at a place.
     pub(crate) fn insert_slot(&mut self, oid: Oid, at: usize, value: Value) -> Result<(), Stop>
         requires { IsSoundState self.old.seen }
-        ensures { Edited oid (with_slot_more at value) self.old.seen result self.new.seen }
+        ensures edited { Edited oid (with_slot_more at value) self.old.seen result self.new.seen }
+        ensures absent { object_at oid self.old.seen ≡ None → self.new.seen ≡ self.old.seen }
     {
         let Some(slots) = self.slots_at(oid) else {
             return Ok(());
@@ -168,7 +179,8 @@ impl Parts {
     /// Takes a slot away.
     pub(crate) fn remove_slot(&mut self, oid: Oid, at: usize) -> Result<(), Stop>
         requires { IsSoundState self.old.seen }
-        ensures { Edited oid (without_slot at) self.old.seen result self.new.seen }
+        ensures edited { Edited oid (without_slot at) self.old.seen result self.new.seen }
+        ensures absent { object_at oid self.old.seen ≡ None → self.new.seen ≡ self.old.seen }
     {
         let Some(slots) = self.slots_at(oid) else {
             return Ok(());
@@ -200,7 +212,8 @@ impl Parts {
     /// Takes a key's pair away.
     pub(crate) fn remove_at(&mut self, oid: Oid, key: &Value) -> Result<(), Stop>
         requires { IsSoundState self.old.seen }
-        ensures { Edited oid (without_value_at key.now) self.old.seen result self.new.seen }
+        ensures edited { Edited oid (without_value_at key.now) self.old.seen result self.new.seen }
+        ensures absent { object_at oid self.old.seen ≡ None → self.new.seen ≡ self.old.seen }
     {
         if !self.has_pairs(oid) {
             return Ok(());

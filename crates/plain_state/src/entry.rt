@@ -3,13 +3,13 @@ ghost use Rattle.std.specs.Prelude.{◌≡◌, IfOk, IfSome, OnErr, OnOk};
 ghost use Rattle.body_growth.specs.Changes.{Changes, bytes_of};
 ghost use Rattle.gem_object.specs.declared.body.Body.{Body};
 ghost use Rattle.gem_image.specs.Image.{contents_of};
-ghost use Rattle.plain_state.specs.Edit.{edited_by};
+ghost use Rattle.plain_state.specs.Edit.{edited_by, with_slot_put};
 ghost use Rattle.plain_state.specs.Updates.{takes, with_update};
 
-use crate::edit::Edit;
+use crate::edit::{Edit, set_slot};
 use crate::updates::take_update;
 use body_growth::{Change, body_updated};
-use gem_object::{Body, Object};
+use gem_object::{Body, Object, Value};
 use gem_update::Update;
 use std::alloc::AllocError;
 use std::marker::Model;
@@ -78,6 +78,15 @@ impl Entry {
         Ok(())
     }
 
+    /// Puts a value into a slot, where there is that slot. The bytes are known from the slot.
+    #[inline(always)]
+    pub(crate) fn put_slot(&mut self, at: usize, value: Value)
+        ensures { contents_of self.new ≡ with_slot_put at value (contents_of self.old) }
+    {
+        let change = set_slot(&mut self.object.body, at, value);
+        self.bytes = bytes_after(Some(change), self.bytes, &self.object.body);
+    }
+
     /// Updates the object; whether it took the update. The bytes are known from what the update
     /// changes.
     ///
@@ -101,6 +110,7 @@ impl Entry {
 
 // The bytes of the body after a change, where they were so many before. They are counted where
 // another body came, and where their number stood at 2^64 - 1.
+#[inline(always)]
 fn bytes_after(told: Option<Change>, bytes: u64, body: &Body) -> u64
     ensures { (old : Body) → IfSome told (λ change. Changes change old body.now)
         → bytes ≡ bytes_of old → result ≡ bytes_of body.now }

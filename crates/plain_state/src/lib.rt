@@ -16,6 +16,7 @@ mod lists;
 mod makes;
 mod many;
 mod moves;
+mod near;
 mod overlay;
 mod pairs;
 mod parts;

@@ -2,7 +2,7 @@
 ghost use Rattle.std.specs.Prelude.{◌≡◌, ◌≤◌, ◌+◌, ◌^◌, length, option_map, option_copied, is_some, IfSome, IfOk, OnOk, OnErr, Some};
 ghost use Rattle.std.specs.FinMap as map;
 ghost use Rattle.gem_image.specs.Image.{contents_of};
-ghost use Rattle.plain_state.specs.Edit.{edited_by};
+ghost use Rattle.plain_state.specs.Edit.{edited_by, with_slot_put};
 ghost use Rattle.object_programs.specs.Guard.{holds_of};
 ghost use Rattle.running_objects.specs.Acted.{stored_bytes};
 ghost use Rattle.plain_state.specs.Overlay.{changed};
@@ -12,7 +12,8 @@ ghost use Rattle.plain_state.specs.Updates.{takes, with_update};
 use crate::edit::Edit;
 use crate::entry::Entry;
 use crate::many::insert_all;
-use gem_object::Object;
+use crate::near::place_near;
+use gem_object::{Object, Value};
 use gem_update::Update;
 use indexmap::IndexMap;
 use std::alloc::{AllocError, Global};
@@ -95,12 +96,14 @@ impl Overlay {
         self.entries.len()
     }
 
-    /// The bytes that the fields of this name's object take where it is stored, if there is one.
-    /// They are known without a look at the contents.
-    pub(crate) fn stored_bytes(&self, number: u64) -> Option<u64>
+    /// The bytes that the fields of this name's object take where it is stored, if there is one; it
+    /// mostly stands at this place. They are known without a look at the contents.
+    #[inline(always)]
+    pub(crate) fn stored_bytes(&self, at: usize, number: u64) -> Option<u64>
         ensures { result ≡ option_map stored_bytes (map.get self.now number) }
     {
-        Some(self.entries.get(&number)?.stored_bytes())
+        let place = place_near(&self.entries, at, number)?;
+        Some(self.entries[place].stored_bytes())
     }
 
     /// Whether there is an object of this name.
@@ -138,35 +141,54 @@ impl Overlay {
         Ok(())
     }
 
-    /// Edits the object of this name, if there is one.
+    /// Edits the object of this name, if there is one; it mostly stands at this place.
     ///
     /// # Errors
     ///
     /// `AllocError` where memory ran out. All is as before.
-    pub(crate) fn edit(&mut self, number: u64, edit: Edit) -> Result<(), AllocError>
+    #[inline(always)]
+    pub(crate) fn edit(&mut self, at: usize, number: u64, edit: Edit) -> Result<(), AllocError>
         ensures edited { OnOk result (self.new ≡ changed number (edited_by edit) self.old) }
         ensures unchanged { OnErr result (self.new ≡ self.old) }
     {
-        let Some(entry) = self.entries.get_mut(&number) else {
+        let Some(place) = place_near(&self.entries, at, number) else {
             return Ok(());
         };
-        entry.edit(edit)
+        self.entries[place].edit(edit)
     }
 
-    /// Updates the object of this name, if there is one; whether it took the update.
+    /// Puts a value into a slot of the object of this name, where there is that slot. The object
+    /// mostly stands at this place.
+    #[inline(always)]
+    pub(crate) fn put_slot(&mut self, near: usize, number: u64, at: usize, value: Value)
+        ensures { self.new ≡ changed number (with_slot_put at value) self.old }
+    {
+        let Some(place) = place_near(&self.entries, near, number) else {
+            return;
+        };
+        self.entries[place].put_slot(at, value);
+    }
+
+    /// Updates the object of this name, if there is one; whether it took the update. It mostly
+    /// stands at this place.
     ///
     /// # Errors
     ///
     /// `AllocError` where memory ran out. All is as before.
-    pub(crate) fn update(&mut self, number: u64, update: Update) -> Result<bool, AllocError>
+    pub(crate) fn update(
+        &mut self,
+        at: usize,
+        number: u64,
+        update: Update,
+    ) -> Result<bool, AllocError>
         ensures taken { IfOk result (λ taken.
             taken ≡ holds_of (takes update) (map.get self.old number)) }
         ensures updated { OnOk result (self.new ≡ changed number (with_update update) self.old) }
         ensures unchanged { OnErr result (self.new ≡ self.old) }
     {
-        let Some(entry) = self.entries.get_mut(&number) else {
+        let Some(place) = place_near(&self.entries, at, number) else {
             return Ok(false);
         };
-        entry.update(update)
+        self.entries[place].update(update)
     }
 }

@@ -1,11 +1,11 @@
 //! What the parts of a state do where a value comes at a key of a dictionary.
-ghost use Rattle.std.specs.Prelude.{◌≡◌};
+ghost use Rattle.std.specs.Prelude.{◌≡◌, None};
 ghost use Rattle.std.specs.FinMap.{get};
 ghost use Rattle.gem_object.specs.Edits.{with_value_at};
 ghost use Rattle.object_programs.specs.Fixed.{fixed_by};
 ghost use Rattle.object_programs.specs.Guard.{holds_of};
 ghost use Rattle.object_programs.specs.Spelled.{is_nil};
-ghost use Rattle.running_objects.specs.Seen.{IsSoundState};
+ghost use Rattle.running_objects.specs.Seen.{object_at, IsSoundState};
 ghost use Rattle.running_objects.specs.Acted.{Edited};
 ghost use Rattle.plain_state.specs.Keys.{has_room_for, may_put};
 
@@ -18,7 +18,8 @@ impl Parts {
     /// Puts a value at a key.
     pub(crate) fn put_at(&mut self, oid: Oid, key: Value, value: Value) -> Result<(), Stop>
         requires { IsSoundState self.old.seen }
-        ensures { Edited oid (with_value_at key value) self.old.seen result self.new.seen }
+        ensures edited { Edited oid (with_value_at key value) self.old.seen result self.new.seen }
+        ensures absent { object_at oid self.old.seen ≡ None → self.new.seen ≡ self.old.seen }
     {
         if !self.has_pairs(oid) {
             return Ok(());

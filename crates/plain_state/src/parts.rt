@@ -146,6 +146,7 @@ impl Parts {
     }
 
     /// Whether there is an object of this name.
+    #[inline(always)]
     pub(crate) fn is_there(&self, oid: Oid) -> bool
         ensures { result ≡ is_some (object_at oid self.now.seen) }
     {

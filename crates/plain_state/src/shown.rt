@@ -6,7 +6,7 @@ ghost use Rattle.gem_world.specs.World.{are_shared};
 ghost use Rattle.object_programs.specs.Guard.{holds_of};
 ghost use Rattle.running_objects.specs.Acted.{stored_bytes};
 ghost use Rattle.plain_state.specs.AtHand.{over, before_in, shown_in, with_changes, IsSpot};
-ghost use Rattle.plain_state.specs.Edit.{edited_by};
+ghost use Rattle.plain_state.specs.Edit.{edited_by, with_slot_put};
 ghost use Rattle.plain_state.specs.Overlay.{changed};
 ghost use Rattle.plain_state.specs.Puts.{with_all};
 ghost use Rattle.plain_state.specs.Updates.{takes, with_update};
@@ -16,7 +16,7 @@ use crate::before::{are_shared, object_before, spot_before};
 use crate::edit::Edit;
 use crate::overlay::Overlay;
 use gem_image::Image;
-use gem_object::{Object, Oid};
+use gem_object::{Object, Oid, Value};
 use gem_update::Update;
 use std::alloc::{AllocError, Global};
 use std::marker::Model;
@@ -128,6 +128,15 @@ impl Shown {
         }
     }
 
+    // Where the changed object of this name mostly stands. Any place will do.
+    #[inline(always)]
+    fn place_near(&self, number: u64) -> usize {
+        match self.hand.find(number) {
+            Some(Spot::Changed(at)) => *at,
+            _ => usize::MAX,
+        }
+    }
+
     /// Whether the object of this name was changed.
     pub(crate) fn has(&self, number: u64) -> bool
         ensures { result ≡ is_some (map.get self.now.changes number) }
@@ -140,7 +149,7 @@ impl Shown {
     pub(crate) fn stored_bytes(&self, number: u64) -> Option<u64>
         ensures { result ≡ option_map stored_bytes (map.get self.now.changes number) }
     {
-        self.changes.stored_bytes(number)
+        self.changes.stored_bytes(self.place_near(number), number)
     }
 
     /// The object of this name before anything was changed: a reduced-conflict one as of the view,
@@ -229,7 +238,18 @@ impl Shown {
             (changed number (edited_by edit) self.old.changes)) }
         ensures unchanged { OnErr result (self.new ≡ self.old) }
     {
-        self.changes.edit(number, edit)
+        let at = self.place_near(number);
+        self.changes.edit(at, number, edit)
+    }
+
+    /// Puts a value into a slot of the changed object of this name, where there is that slot.
+    #[inline(always)]
+    pub(crate) fn put_slot(&mut self, number: u64, at: usize, value: Value)
+        ensures { self.new ≡ with_changes self.old
+            (changed number (with_slot_put at value) self.old.changes) }
+    {
+        let near = self.place_near(number);
+        self.changes.put_slot(near, number, at, value);
     }
 
     /// Updates the changed object of this name, if there is one; whether it took the update.
@@ -244,6 +264,7 @@ impl Shown {
             (changed number (with_update update) self.old.changes)) }
         ensures unchanged { OnErr result (self.new ≡ self.old) }
     {
-        self.changes.update(number, update)
+        let at = self.place_near(number);
+        self.changes.update(at, number, update)
     }
 }

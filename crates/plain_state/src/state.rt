@@ -154,44 +154,26 @@ impl Objects for PlainState {
     }
 
     fn set_slot(&mut self, oid: Oid, at: usize, value: Value) -> Result<(), Stop> {
-        if !self.parts.is_there(oid) {
-            return Ok(());
-        }
         self.parts.set_slot(oid, at, value)
     }
 
     fn insert_slot(&mut self, oid: Oid, at: usize, value: Value) -> Result<(), Stop> {
-        if !self.parts.is_there(oid) {
-            return Ok(());
-        }
         self.parts.insert_slot(oid, at, value)
     }
 
     fn remove_slot(&mut self, oid: Oid, at: usize) -> Result<(), Stop> {
-        if !self.parts.is_there(oid) {
-            return Ok(());
-        }
         self.parts.remove_slot(oid, at)
     }
 
     fn set_byte(&mut self, oid: Oid, at: usize, byte: u8) -> Result<(), Stop> {
-        if !self.parts.is_there(oid) {
-            return Ok(());
-        }
         self.parts.set_byte(oid, at, byte)
     }
 
     fn put_at(&mut self, oid: Oid, key: Value, value: Value) -> Result<(), Stop> {
-        if !self.parts.is_there(oid) {
-            return Ok(());
-        }
         self.parts.put_at(oid, key, value)
     }
 
     fn remove_at(&mut self, oid: Oid, key: &Value) -> Result<(), Stop> {
-        if !self.parts.is_there(oid) {
-            return Ok(());
-        }
         self.parts.remove_at(oid, key)
     }
 

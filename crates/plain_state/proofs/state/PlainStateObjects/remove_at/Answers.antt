@@ -1,14 +1,14 @@
-use Rattle.std.proofs.Common.{◌∙◌, sym, subst}
+use Rattle.std.proofs.Common.{subst}
 use Rattle.gem_object.specs.Edits.{without_value_at}
 use Rattle.plain_state.specs.Room.{SeenWithRoom}
 use Rattle.running_objects.specs.Acted.{Edited}
-use Rattle.plain_state.proofs.Sound.{edited_sound}
+use Rattle.plain_state.proofs.Sound.{edited_or_same}
 use Rattle.plain_state.proofs.state.PlainStateObjects.remove_at.Goals as goal
 
 pub invariant_of-self : goal.invariant_of-self
-invariant_of-self c = edited_sound c.args.oid (without_value_at c.args.key.now) c.self.inside.parts.seen c.remove_at.new.self.seen c.remove_at.result
-    (sym c.is_there.ensures ∙ c.if-not-is_there.false) c.self.invariant c.remove_at.ensures
+invariant_of-self c = edited_or_same c.args.oid (without_value_at c.args.key.now) c.self.inside.parts.seen
+    c.remove_at.new.self.seen c.remove_at.result c.self.invariant c.remove_at.ensures.edited c.remove_at.ensures.absent
 
 pub returns : goal.returns
 returns c = subst (λ (s : SeenWithRoom). Edited c.args.oid (without_value_at c.args.key.now) s.seen c.remove_at.result c.remove_at.new.self.seen)
-    c.self.view_is c.remove_at.ensures
+    c.self.view_is c.remove_at.ensures.edited

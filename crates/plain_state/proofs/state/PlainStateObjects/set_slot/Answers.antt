@@ -1,14 +1,14 @@
-use Rattle.std.proofs.Common.{◌∙◌, sym, subst}
+use Rattle.std.proofs.Common.{subst}
 use Rattle.gem_object.specs.Edits.{with_slot}
 use Rattle.plain_state.specs.Room.{SeenWithRoom}
 use Rattle.running_objects.specs.Acted.{Edited}
-use Rattle.plain_state.proofs.Sound.{edited_sound}
+use Rattle.plain_state.proofs.Sound.{edited_or_same}
 use Rattle.plain_state.proofs.state.PlainStateObjects.set_slot.Goals as goal
 
 pub invariant_of-self : goal.invariant_of-self
-invariant_of-self c = edited_sound c.args.oid (with_slot c.args.at c.args.value) c.self.inside.parts.seen c.set_slot.new.self.seen c.set_slot.result
-    (sym c.is_there.ensures ∙ c.if-not-is_there.false) c.self.invariant c.set_slot.ensures
+invariant_of-self c = edited_or_same c.args.oid (with_slot c.args.at c.args.value) c.self.inside.parts.seen
+    c.set_slot.new.self.seen c.set_slot.result c.self.invariant c.set_slot.ensures.edited c.set_slot.ensures.absent
 
 pub returns : goal.returns
 returns c = subst (λ (s : SeenWithRoom). Edited c.args.oid (with_slot c.args.at c.args.value) s.seen c.set_slot.result c.set_slot.new.self.seen)
-    c.self.view_is c.set_slot.ensures
+    c.self.view_is c.set_slot.ensures.edited
