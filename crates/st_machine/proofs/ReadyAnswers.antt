@@ -1,5 +1,5 @@
 -- What is put in place of a receiver and its arguments is what the message is answered.
-use Rattle.std.proofs.Common.{◌≡◌, ◌∙◌, sym, subst, ℕ, suc, ◌<◌, false, List, ◌∷◌, reverse, length, take, drop, get_or, slice_get, Option, Some, Ok}
+use Rattle.std.proofs.Common.{◌≡◌, ◌∙◌, refl, sym, subst, ℕ, ℤ, suc, ◌<◌, false, List, ◌∷◌, reverse, length, take, drop, get_or, slice_get, Option, Some, Ok}
 use Rattle.std.proofs.lemmas.Option.{same_Some, slice_get-get_or}
 use Rattle.gem_object.specs.texts.Bytes.{Bytes as Text}
 use Rattle.gem_object.specs.declared.value.Value.{Value}
@@ -18,18 +18,15 @@ use Rattle.gem_language.specs.Sends.{Callee, callee, primitive_value, call_code,
 use Rattle.running_objects.specs.Seen.{Seen}
 use Rattle.running_objects.specs.Ran.{Ran}
 use Rattle.running_objects.proofs.Running.{ran_then}
-use Rattle.prim_parts.specs.Does.{Does, Computes}
-use Rattle.prim_parts.proofs.Does.{does_give, does_compute, does_ran}
+use Rattle.prim_parts.specs.Does.{Does}
+use Rattle.prim_parts.proofs.Does.{does_give, does_ran}
 use Rattle.look_up_cache.specs.Memory.{with_budget}
+use Rattle.look_up_cache.specs.Operators.{operator_selector, operator_number, IntegersAnswer}
+use Rattle.look_up_cache.specs.declared.operator.IntegerOperator.{IntegerOperator}
 use Rattle.st_machine.specs.AtOnce.{IsReady}
 use Rattle.st_machine.specs.Ready.{ReadyPut, PutBy, by_push, by_primitive}
 use Rattle.st_machine.specs.Targets.{found_by, Answered}
 use Rattle.st_machine.proofs.KnownAnswers.{known_answered}
-
--- A primitive that computes its answer is ready.
-pub computes_ready : (number : ℕ) (receiver : Value) (arguments : List Value) (seen : Seen) (answer : Value)
-    → Computes (rule_of number receiver arguments) (Ok (Gives answer)) → IsReady number receiver arguments seen answer
-computes_ready number receiver arguments seen answer computes = λ budget. does_compute (with_budget budget seen) computes
 
 -- A primitive that gives a value is what its call comes to.
 ready_called : (callee : Callee) (selector : Text) (receiver : Value) (arguments : List Value) (held : Found) (number : ℕ)
@@ -82,3 +79,21 @@ module _ (depth : ℕ) (some : 0 < depth) (selector : Text) (frame : Frame) (own
             held number by_code put.answer here (put.ready budget) local));
         stands = put.stands;
       }
+
+-- An operator that integers answer by its primitive is answered so, where that is ready.
+module _ (depth : ℕ) (some : 0 < depth) (selector : Text) (frame : Frame) (own : List Value) (count : ℕ)
+    (operator : IntegerOperator) (named : operator_selector operator ≡ selector) (number : ℤ)
+    (receiver_is : get_or own count value.Nil ≡ value.Int number) (seen : Seen)
+    (known : IntegersAnswer operator seen) (budget : Budget) (local : Local MadeBlock) where
+  pub operator_answered : (left : List Value) → ReadyPut (operator_number operator) (get_or own count value.Nil)
+      (reverse (take count own)) seen (drop (suc count) own) left
+      → Answered (found_by (callee depth) selector frame (get_or own count value.Nil) (take count own))
+      (with_budget budget seen) local (drop (suc count) own) left
+  operator_answered left put =
+      let here : Seen = with_budget budget seen in
+      let held = known number frame budget in
+      let AtReceiver : Value → Type 0 = λ at. Ran (find_method false frame at selector) here local (Ok (Some held.0)) here local in
+      let AtSelector : Text → Type 0 = λ at. Ran (find_method false frame (value.Int number) at) here local (Ok (Some held.0)) here local in
+      put_answered depth some selector frame own count (Some held.0) left seen budget
+      (subst AtReceiver (sym receiver_is) (subst AtSelector named (does_ran held.2 local)))
+      (by_primitive held.0 (operator_number operator) refl held.1 put)

@@ -1,10 +1,11 @@
 //! Objects that remember which methods answer which messages, and what is known to be done to them.
-ghost use Rattle.std.specs.Prelude.{◌≡◌, false, List, Option, None, Ok, IfSome, option_copied};
+ghost use Rattle.std.specs.Prelude.{◌≡◌, false, true, List, Option, None, Ok, IfSome, option_copied};
 ghost use Rattle.tree_meaning.specs.object_programs.Budget.{Budget};
 ghost use Rattle.gem_language.specs.declared.found.Found.{Found as AFound};
 ghost use Rattle.gem_language.specs.LookUp.{find_method};
 ghost use Rattle.gem_language.specs.OutOfScope.{read_out_of_scope, write_out_of_scope};
 ghost use Rattle.prim_parts.specs.Does.{Does};
+ghost use Rattle.look_up_cache.specs.Operators.{IntegersAnswer};
 ghost use Rattle.look_up_cache.specs.Table.{held_at};
 ghost use Rattle.look_up_cache.specs.Memory.{told_by, with_budget};
 ghost use Rattle.look_up_cache.specs.Lacking.{LacksAtMost};
@@ -17,7 +18,7 @@ use crate::lack::Lack;
 use crate::shared_code::SharedCode;
 use gem_language::Found;
 use gem_object::{Oid, Text, Value};
-use look_up_cache::{KnownObjects, MethodCodeKept};
+use look_up_cache::{IntegerOperator, KnownObjects, MethodCodeKept};
 use running_objects::{Fault, Objects, Stop};
 use st_locals::Frame;
 
@@ -53,6 +54,11 @@ pub trait FindsMethods: Objects {
     fn code(&self, at: usize) -> Option<&SharedCode>
         ensures { IfSome result (λ code.
             IfSome (held_at (founds self.now) at) (λ found. IsCodeOf code.now found.code)) };
+
+    /// Whether it is known that integers answer this operator by its primitive, whatever the budget
+    /// is. It takes no memory. Of false the contract says nothing.
+    fn answers_integers(&self, operator: IntegerOperator) -> bool
+        ensures { result ≡ true → IntegersAnswer operator (Self.seen self.now) };
 
     /// Keeps the code of the method that stands at a place. It takes no memory.
     fn keep_code(&mut self, at: usize, code: SharedCode)
@@ -151,6 +157,11 @@ impl<O: Objects> FindsMethods for KnownObjects<O, SharedCode> {
         KnownObjects::code(self, at)
     }
 
+    #[inline(always)]
+    fn answers_integers(&self, operator: IntegerOperator) -> bool {
+        KnownObjects::answers_integers(self, operator)
+    }
+
     fn keep_code(&mut self, at: usize, code: SharedCode) {
         KnownObjects::keep_code(self, at, code);
     }
@@ -169,6 +180,7 @@ impl<O: Objects> FindsMethods for KnownObjects<O, SharedCode> {
         Some(lacking(ended))
     }
 
+    #[inline(always)]
     fn known_variable(
         &self,
         name: &Text,

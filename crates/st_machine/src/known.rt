@@ -1,11 +1,12 @@
 //! Messages whose answers are known: the method that answers is remembered, and it is a primitive
 //! that is ready, or its code is remembered too and answers by one push that asks no objects.
-ghost use Rattle.std.specs.Prelude.{◌≡◌, ◌<◌, ◌∷◌, true, false, suc, length, get_or, take, drop, reverse, IfOk, IfSome};
-ghost use Rattle.gem_object.specs.declared.value.Value.TheVariants.{Nil};
+ghost use Rattle.std.specs.Prelude.{◌≡◌, ◌<◌, ◌∷◌, ℤ, true, false, suc, length, get_or, take, drop, reverse, IfOk, IfSome};
+ghost use Rattle.gem_object.specs.declared.value.Value.TheVariants.{Nil, Int};
 ghost use Rattle.tree_meaning.specs.object_programs.Budget.{Budget};
 ghost use Rattle.gem_language.specs.Sends.{outside, callee};
 ghost use Rattle.running_objects.specs.Seen.{Keeps};
 ghost use Rattle.look_up_cache.specs.Memory.{with_budget};
+ghost use Rattle.look_up_cache.specs.Operators.{operator_selector};
 ghost use Rattle.look_up_cache.specs.Table.{held_at};
 ghost use Rattle.st_compiler.specs.Emitted.{instruction_of};
 ghost use Rattle.st_compiler.specs.Instruction.{PushName, Send};
@@ -29,6 +30,7 @@ use crate::quick::quick_instr;
 use crate::shared_code::SharedCode;
 use crate::units::spend_unit;
 use gem_object::{MethodCode, Oid, Text, Value};
+use look_up_cache::IntegerOperator;
 use st_compiler::Instr;
 use tree_meaning::Mark;
 
@@ -61,17 +63,68 @@ pub(crate) fn send_known<O: FindsMethods>(
     if stack.height() <= count {
         return Turned::Left(None);
     }
+    if answer_integers(objects, locals, stack, chain, frame, selector, count, depth) {
+        return Turned::Done(spend_unit(objects, place));
+    }
+    if count == 2 {
+        let at = place_of_answer(objects, locals, stack, chain, frame, selector, count);
+        return send_changing(
+            objects, locals, stack, chain, frame, code, selector, count, at, place, depth,
+        );
+    }
     match answer_known(objects, locals, stack, chain, frame, selector, count, depth) {
         Known::Answered => Turned::Done(spend_unit(objects, place)),
-        Known::Unanswered(at) => {
-            if count == 2 {
-                return send_changing(
-                    objects, locals, stack, chain, frame, code, selector, count, at, place, depth,
-                );
-            }
-            Turned::Left(at)
-        }
+        Known::Unanswered(at) => Turned::Left(at),
     }
+}
+
+/// Puts the answer to an operator in place of its receiver and its argument, where it is known that
+/// integers answer it by a primitive that is ready. Its unit isn't taken yet. Else false, and all is
+/// as before.
+#[inline(always)]
+fn answer_integers<O: FindsMethods>(
+    objects: &O,
+    locals: &Locals,
+    stack: &mut Layers<Value>,
+    chain: &Layers<Mark>,
+    frame: &Outline,
+    selector: &Text,
+    count: usize,
+    depth: u32,
+) -> bool
+    requires { count < length stack.old.own }
+    ensures answered { result ≡ true → (budget : Budget) → Answered
+        (found_by (callee depth) selector.now (framed chain.now.own frame.now)
+        (get_or stack.old.own count Nil) (take count stack.old.own))
+        (with_budget budget (O.seen objects.now)) locals.now (drop (suc count) stack.old.own)
+        stack.new.own }
+    ensures unchanged { result ≡ false → stack.new.own ≡ stack.old.own }
+    ensures below { stack.new.below ≡ stack.old.below }
+{
+    if count != 1 || depth == 0 {
+        return false;
+    }
+    let Some(operator) = operator_for(stack, selector, count) else {
+        return false;
+    };
+    if !objects.answers_integers(operator) {
+        return false;
+    }
+    put_ready(objects, stack, operator.number(), count)
+}
+
+/// The operator with this selector, where its receiver, below so many arguments, is an integer.
+#[inline(always)]
+fn operator_for(stack: &Layers<Value>, selector: &Text, count: usize) -> Option<IntegerOperator>
+    requires { count < length stack.now.own }
+    ensures selector { IfSome result (λ operator. operator_selector operator ≡ selector.now) }
+    ensures receiver { IfSome result (λ _. (number : ℤ)
+        × (get_or stack.now.own count Nil ≡ Int number)) }
+{
+    let Some(Value::Int(_)) = stack.item(count) else {
+        return None;
+    };
+    IntegerOperator::of(selector)
 }
 
 /// What is known of a message.
@@ -85,6 +138,7 @@ enum Known {
 
 /// Puts the answer to a message in place of its receiver and of so many arguments, which stand on
 /// the stack above it, where the answer is known. Its unit isn't taken yet. Else all is as before.
+#[inline(never)]
 fn answer_known<O: FindsMethods>(
     objects: &O,
     locals: &Locals,
@@ -166,6 +220,7 @@ fn put_at<O: FindsMethods>(objects: &O, stack: &mut Layers<Value>, at: usize, co
 
 /// Puts the answer of a primitive in place of the receiver and of so many arguments above it, where
 /// it is ready. Else false, and all is as before.
+#[inline(always)]
 fn put_ready<O: FindsMethods>(
     objects: &O,
     stack: &mut Layers<Value>,
@@ -190,6 +245,7 @@ fn put_ready<O: FindsMethods>(
 
 /// The answer of a primitive, where it is ready: of integers it is computed, and of the parts of an
 /// object it may be known.
+#[inline(always)]
 fn answer_ready<O: FindsMethods>(
     objects: &O,
     number: u8,
@@ -199,13 +255,10 @@ fn answer_ready<O: FindsMethods>(
     ensures { IfSome result (λ value.
         IsReady number receiver.now arguments.now (O.seen objects.now) value) }
 {
-    if let Some(value) = prim_calls::ready(number, receiver, arguments) {
-        return Some(value);
-    }
     if number == 33 || number == 34 {
         known_part(objects, number, receiver, arguments)
     } else {
-        None
+        prim_calls::ready(number, receiver, arguments)
     }
 }
 
@@ -220,8 +273,7 @@ fn known_part<O: FindsMethods>(
     ensures { IfSome result (λ value.
         IsReady number receiver.now arguments.now (O.seen objects.now) value) }
 {
-    let value = objects.known_answer(number, receiver, arguments)?;
-    Some(value)
+    objects.known_answer(number, receiver, arguments)
 }
 
 /// What puts the answer of the method that stands at a place, where its code is kept and it answers
@@ -318,6 +370,7 @@ fn put_constant(stack: &mut Layers<Value>, instr: &Instr, count: usize) -> bool
 }
 
 /// Puts a value in place of the receiver and of so many arguments above it. Always true.
+#[inline(always)]
 pub(crate) fn put_over(stack: &mut Layers<Value>, count: usize, value: Value) -> bool
     requires { count < length stack.old.own }
     ensures done { result ≡ true }

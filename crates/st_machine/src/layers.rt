@@ -121,7 +121,9 @@ impl<T: Drop> Layers<T> {
         ensures own { self.new.own ≡ drop count self.old.own }
         ensures below { self.new.below ≡ self.old.below }
     {
-        if count > 0 {
+        if count == 1 {
+            let _ = self.items.pop();
+        } else if count > 0 {
             let left = self.items.len() - count;
             self.items.truncate(left);
         }

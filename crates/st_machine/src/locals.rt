@@ -85,6 +85,7 @@ impl Locals {
 
     /// Opens a scope with these variables, and so many more that are nil. Where it finds no memory
     /// all is as before.
+    #[inline(always)]
     pub(crate) fn open_scope(&mut self, values: Vec<Value>, nils: usize) -> Result<(), AllocError>
         ensures opened { OnOk result
             (self.new ≡ open_scope (values.items ++ replicate nils Nil) self.old) }
@@ -96,6 +97,7 @@ impl Locals {
     /// Begins an activation, which lives. The variables of its scope are so many of the uppermost
     /// values of the stack, the uppermost one last, which are taken from there, and so many more
     /// that are nil. Where it finds no memory the variables are as before.
+    #[inline(always)]
     pub(crate) fn begin_method(
         &mut self,
         stack: &mut Layers<Value>,
@@ -125,6 +127,7 @@ impl Locals {
     /// Opens a scope. Its variables are so many of the uppermost values of the stack, the uppermost
     /// one last, which are taken from there, and so many more that are nil. Where it finds no memory
     /// the variables are as before.
+    #[inline(always)]
     pub(crate) fn open_taking(
         &mut self,
         stack: &mut Layers<Value>,
@@ -184,6 +187,7 @@ impl Locals {
 
 /// A scope more, of these variables and so many that are nil. Where it finds no memory all is as
 /// before.
+#[inline(always)]
 fn open_in(scopes: &mut ListStack<Value>, values: Vec<Value>, nils: usize) -> Result<(), AllocError>
     ensures opened { OnOk result
         (scopes.new ≡ scopes.old ++ (values.items ++ replicate nils Nil) ∷ []) }
@@ -196,6 +200,7 @@ fn open_in(scopes: &mut ListStack<Value>, values: Vec<Value>, nils: usize) -> Re
 
 /// The same of so many of the uppermost values of the stack, the uppermost one last, which are taken
 /// from there. Where it finds no memory the scopes are as before.
+#[inline(always)]
 fn open_moving(
     scopes: &mut ListStack<Value>,
     stack: &mut Layers<Value>,
@@ -216,6 +221,7 @@ fn open_moving(
 
 /// So many variables more, which are nil, come into the innermost scope, that of this number. Where
 /// it finds no memory the scope is closed.
+#[inline(always)]
 fn fill(scopes: &mut ListStack<Value>, count: usize, nils: usize) -> Result<(), AllocError>
     requires { count < length scopes.old }
     ensures added { OnOk result (scopes.new ≡ more_nils nils scopes.old) }
@@ -230,6 +236,7 @@ fn fill(scopes: &mut ListStack<Value>, count: usize, nils: usize) -> Result<(), 
 
 /// So many variables more, which are nil, come into the innermost scope. Where it finds no memory
 /// some of them came.
+#[inline(always)]
 fn add_nils(scopes: &mut ListStack<Value>, nils: usize) -> Result<(), AllocError>
     requires { 0 < length scopes.old }
     ensures added { OnOk result (scopes.new ≡ more_nils nils scopes.old) }

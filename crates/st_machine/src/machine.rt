@@ -132,7 +132,7 @@ fn instr_at(instrs: &[Instr], at: usize) -> Option<&Instr>
 /// Carries out an instruction that `turn` leaves. What answers a message stands at a place that may
 /// be known.
 #[cycle(machine)]
-#[inline(never)]
+#[inline(always)]
 fn step<O: FindsMethods>(
     alloc: Global,
     objects: &mut O,
@@ -230,6 +230,7 @@ fn send<O: FindsMethods>(
 
 /// The same of a message where the place of what answers it is known.
 #[cycle(machine)]
+#[inline(always)]
 fn send_found<O: FindsMethods>(
     alloc: Global,
     objects: &mut O,
@@ -304,6 +305,7 @@ fn answer_of<O: FindsMethods>(
 
 /// The same where the place of what answers it is known.
 #[cycle(machine)]
+#[inline(always)]
 fn answer_found<O: FindsMethods>(
     alloc: Global,
     objects: &mut O,
@@ -336,6 +338,7 @@ fn answer_found<O: FindsMethods>(
 
 /// What answers the message is called: E1 where nothing does.
 #[cycle(machine)]
+#[inline(always)]
 fn call_target<O: FindsMethods>(
     alloc: Global,
     objects: &mut O,
@@ -480,6 +483,7 @@ fn call_with<O: FindsMethods>(
 
 /// A method with code is called: E14 where no activation may begin.
 #[cycle(machine)]
+#[inline(always)]
 fn call_method<O: FindsMethods>(
     alloc: Global,
     objects: &mut O,
@@ -536,6 +540,7 @@ fn call_method<O: FindsMethods>(
 
 /// The activation of a method, in which so many more may begin.
 #[cycle(machine)]
+#[inline(always)]
 fn activate<O: FindsMethods>(
     alloc: Global,
     objects: &mut O,

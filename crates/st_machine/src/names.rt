@@ -111,6 +111,7 @@ pub(crate) fn push_known<O: FindsMethods>(
 }
 
 /// Puts this value, for which a name out of scope stands.
+#[inline(always)]
 fn push_variable<O: Objects>(
     objects: &O,
     locals: &Locals,

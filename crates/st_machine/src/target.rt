@@ -97,6 +97,7 @@ fn target_known<O: FindsMethods>(
 
 /// What answers by the method that stands at a place, and then the unit of the message.
 #[tactic(auto, using(running_objects::proofs::Running::acted_nothing))]
+#[inline(always)]
 pub(crate) fn target_with_unit<O: FindsMethods>(
     alloc: Global,
     objects: &mut O,
@@ -134,6 +135,7 @@ fn target_for(
 }
 
 /// What answers by the method that stands at a place, whose code is kept there.
+#[inline(always)]
 fn target_at<O: FindsMethods>(
     alloc: Global,
     objects: &mut O,
