@@ -1,5 +1,5 @@
 -- What keeps a script from its report where there is no store.
-use Rattle.std.proofs.Common.{◌≡◌, ◌⊎◌, ℕ, ◌<◌, ◌≤◌, Option, Some, None, List, [], ◌++◌, length, refl, ap, sym, subst, ◌∙◌, inl, inr, arith, append-nil, length-append, IfSome}
+use Rattle.std.proofs.Common.{◌≡◌, ◌⊎◌, ℕ, Option, Some, None, List, ◌++◌, length, refl, ap, sym, subst, ◌∙◌, inl, inr, arith, append-nil, length-append, IfSome}
 use Rattle.std.specs.Io.KnownBytes.{Consumes}
 use Rattle.gem_object.specs.texts.Bytes.{Bytes}
 use Rattle.shell_words.specs.Script.{SessionCommands}
@@ -10,11 +10,11 @@ use Rattle.gem_replies.specs.declared.reply.RunBook.{RunBook}
 use Rattle.gem_replies.specs.Report.{report_of}
 use Rattle.gem_server.specs.declared.status.Status.{Status}
 use Rattle.gem_server.specs.declared.status.Status.TheVariants.{Done, Usage, Script, NotStore, SerialsUsed, NotEmpty, ReadFault, DiskFault, WriteFault, NoMemory}
-use Rattle.gem_server.specs.Devices.{Seen, HasFailed, IsUnused, IsWritten, IsPartWritten}
+use Rattle.gem_server.specs.Devices.{Seen, HasFailed, IsUnused}
 use Rattle.gem_server.specs.Writing.{HasWritten}
-use Rattle.gem_server.specs.Server.{WasRead, IsWhole, IsRead, IsBlank, GivesScript, GivesNone, TellsOfSource}
+use Rattle.gem_server.specs.Server.{IsWhole, IsRead, IsBlank, GivesScript, GivesNone, TellsOfSource}
 use Rattle.gem_server.specs.Alone.{RanAlone, IsOfAlone, IsRun, IsRunOfScript, ServesAlone}
-use Rattle.gem_server.proofs.ScriptRules.{IsSilent, script_read}
+use Rattle.gem_server.proofs.ScriptRules.{script_read}
 
 -- a text that is a script isn't one that was given and breaks a rule
 pub no_rule : (text given : Bytes) (left : Option Bytes) (script : List SessionCommands) (line rule : ℕ) → Consumes (Some text) left given → IsWhole left given

@@ -1,36 +1,32 @@
 -- What becomes of a script that is to be served over a store.
-use Rattle.std.proofs.Common.{◌≡◌, ◌≢◌, ◌⊎◌, ℕ, ◌+◌, ◌<◌, ◌≤◌, Bool, true, IsTrue, List, [], length, Option, Some, None, Result, Ok, Err, IfOk, OnErr, is_some, refl, sym, ap, subst, ◌∙◌, inl, inr, arith}
+use Rattle.std.proofs.Common.{◌≡◌, ◌≢◌, ◌⊎◌, ℕ, ◌<◌, ◌≤◌, Bool, true, IsTrue, List, [], Option, Some, None, Result, Ok, Err, IfOk, OnErr, is_some, refl, sym, ap, subst, ◌∙◌, inl, inr, arith}
 use Rattle.std.specs.Option.{option_to_list}
 use Rattle.gem_io.specs.Faults.{HasRisen}
 use Rattle.gem_object.specs.texts.Bytes.{Bytes}
-use Rattle.gem_disk.specs.Disk.{Files, Past, as_read, moment, CrashImages, CrashImagesSince}
+use Rattle.gem_disk.specs.Disk.{Files, Past, as_read, moment}
 use Rattle.gem_disk.proofs.Moments.{now_counts}
-use Rattle.gem_image.specs.Image.{Image}
-use Rattle.gem_record.specs.Stored.{Stored}
 use Rattle.shell_words.specs.Script.{SessionCommands}
 use Rattle.gem_keeper.specs.Found.{Found, StandsFor}
 use Rattle.gem_replies.specs.Report.{report_of}
 use Rattle.gem_replies.specs.declared.reply.RunBook.{RunBook}
 use Rattle.gem_replies.specs.declared.reply.Transcript.{Transcript}
 use Rattle.stone_store.specs.declared.parts.Parts.{Parts}
-use Rattle.stone_store.specs.declared.fault.StoreFlaw.{StoreFlaw}
 use Rattle.stone_store.specs.Store.{store_of, found_by, found_of}
 use Rattle.stone_store.specs.Left.{FilesStandFor, StandsInAll}
-use Rattle.stone_store.specs.Opening.{IsFound, IsFlawed, ReadsSame}
+use Rattle.stone_store.specs.Opening.{IsFound}
 use Rattle.stone_store.specs.Resting.{stored_by, IsStoredIn}
 use Rattle.stone_store.specs.Whole.{StoreOf, StoresBy, store_moment, store_stands, store_left}
 use Rattle.stone_store.proofs.Opens.{same_store}
 use Rattle.gem_meaning.specs.Opened.{Opened, base_serial}
 use Rattle.gem_meaning.specs.Events.{Event, Told, entries_of, halts_in, IsRunning, after_events}
-use Rattle.gem_meaning.specs.After.{stored_after}
 use Rattle.gem_meaning.specs.Legal.{IsLegal, AreTranscripts}
-use Rattle.gem_meaning.specs.Serial.{IsConsistent, most_at_opening, serial_limit}
+use Rattle.gem_meaning.specs.Serial.{IsConsistent}
 use Rattle.stone_store.specs.declared.parts.FoundImage.{FoundImage}
 use Rattle.stone_core.specs.Kept.{IsKept}
-use Rattle.stone_core.specs.Crashes.{StandsAfter, MayBeLeft, MayHaveBeenLeft}
+use Rattle.stone_core.specs.Crashes.{MayHaveBeenLeft}
 use Rattle.script_run.specs.declared.run.Start.{Start}
 use Rattle.script_run.specs.declared.run.Ran.{Ran}
-use Rattle.script_run.specs.Run.{opened_by, told_by, CanRun, HasRunOver}
+use Rattle.script_run.specs.Run.{opened_by, told_by, HasRunOver}
 use Rattle.gem_server.specs.declared.status.Status.{Status}
 use Rattle.gem_server.specs.declared.status.Status.TheVariants.{Done, Usage, Script, NotStore, SerialsUsed, NotEmpty, ReadFault, DiskFault, WriteFault, NoMemory}
 use Rattle.gem_server.specs.declared.status.Ended.{Ended}
@@ -38,10 +34,10 @@ use Rattle.gem_server.specs.declared.opening.Refused.{Refused}
 use Rattle.gem_server.specs.Devices.{Seen, seen, HasFailed, IsUnused, IsWritten, IsPartWritten}
 use Rattle.gem_server.specs.Writing.{HasWritten}
 use Rattle.gem_server.specs.Server.{IsRead, IsBlank, IsBlankOver, GivesScript, GivesNone, TellsOfSource}
-use Rattle.gem_server.specs.Course.{IsHonest, Stays, IsOpenedOn, IsKeptOn}
-use Rattle.gem_server.specs.Serving.{HasNoRoom, IsWhyNot, IsBlankBy, HasNotRun, HasEnded, HasRun, ServesStore}
+use Rattle.gem_server.specs.Course.{IsHonest, Stays, IsKeptOn}
+use Rattle.gem_server.specs.Serving.{IsWhyNot, IsBlankBy, HasEnded, ServesStore}
 use Rattle.gem_server.specs.Starting.{IsFull, IsStarted, IsRefused, IsWhyRefused, kept_in, is_open}
-use Rattle.gem_server.specs.Finishing.{WritesSo, TellsRun, IsFinished}
+use Rattle.gem_server.specs.Finishing.{TellsRun, IsFinished}
 use Rattle.gem_server.proofs.ScriptRules.{IsSilent, script_read}
 use Rattle.gem_server.proofs.Starting.{stays_unused}
 

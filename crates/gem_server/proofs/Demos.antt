@@ -1,32 +1,21 @@
 -- A generated load, from what each of its scripts leaves to how the call ends.
-use Rattle.std.proofs.Common.{◌≡◌, ◌≢◌, ◌⊎◌, ℕ, zero, suc, ◌+◌, ◌*◌, ◌<◌, ◌≤◌, Bool, true, false, ◌&&◌, not, List, [], ◌∷◌, ◌++◌, Option, Some, None, option_map, Result, Ok, Err, IfOk, refl, sym, ap, ap₂, subst, codes, ◌∙◌, inl, inr, append_assoc, arith}
+use Rattle.std.proofs.Common.{◌≡◌, ◌≢◌, ◌⊎◌, ℕ, pos, length, ◌+◌, Bool, true, false, ◌&&◌, List, [], ◌∷◌, Option, Some, None, Result, Ok, Err, IfOk, refl, sym, ap, subst, ◌∙◌, inl, inr, arith}
 use Rattle.std.specs.List.{AllByRecursion, list_all}
-use Rattle.std.specs.Fmt.{decimal}
-use Rattle.std.specs.Str.{bytes_eq}
-use Rattle.std.proofs.lemmas.Slice.Eq.{bytes_eq-Decides}
-use Rattle.std.specs.Io.KnownBytes.{Consumes, Appends}
-use Rattle.std.specs.FinMap.{get}
-use Rattle.std.proofs.lemmas.Nat.{mul-le}
-use Rattle.radix_pages.proofs.Tables.{same_keys}
+use Rattle.std.specs.Io.KnownBytes.{Consumes}
 use Rattle.gem_object.specs.texts.Bytes.{Bytes}
-use Rattle.gem_object.specs.declared.object.Object.{Object}
 use Rattle.gem_disk.specs.Disk.{Files, Past, as_read}
 use Rattle.gem_image.specs.Image.{Image}
 use Rattle.gem_record.specs.Stored.{Stored}
 use Rattle.gem_record.specs.declared.record.Entry.{Entry}
-use Rattle.gem_keeper.specs.Found.{Found, found_object, StandsFor}
 use Rattle.kernel_image.specs.Objects.{kernel_image}
 use Rattle.shell_words.specs.ScriptGrammar.{ReadsScript}
-use Rattle.stone_store.specs.Store.{Held, root_number, misfit, held_unless, held_over, held_by, store_of, image_of, number_of, found_in, found_by, found_of}
+use Rattle.stone_store.specs.Store.{image_of, number_of}
 use Rattle.stone_store.specs.Resting.{IsStoredIn}
-use Rattle.stone_store.proofs.Images.{settled_is_found}
 use Rattle.stone_store.proofs.Opens.{no_record}
 use Rattle.program_words.specs.Asked.{Asked, serve_load}
 use Rattle.program_words.specs.WordsGrammar.{ReadsWords}
 use Rattle.program_words.proofs.Ranges.{demo_in_range}
-use Rattle.load_maker.specs.Numbers.{load_sum}
 use Rattle.load_maker.specs.Scripts.{setup_text, load_text, tally_text}
-use Rattle.gem_replies.specs.Report.{report_of}
 use Rattle.gem_replies.specs.declared.reply.RunBook.{RunBook}
 use Rattle.gem_replies.specs.declared.reply.Line.{Line}
 use Rattle.gem_replies.specs.declared.reply.Line.TheVariants.{NoMemory as NoMemoryLine, DiskFault as DiskFaultLine}
@@ -34,6 +23,12 @@ use Rattle.gem_replies.specs.declared.reply.Reply.{Reply}
 use Rattle.gem_replies.specs.declared.reply.Transcript.{Transcript}
 use Rattle.gem_meaning.specs.Legal.{WasServed, AlwaysServed}
 use Rattle.gem_server.proofs.SetupOnce.{setup_once}
+use Rattle.gem_server.proofs.SetupLeaves.{setup_leaves}
+use Rattle.gem_server.proofs.LoadCommits.{load_commits, entries_of_all}
+use Rattle.gem_server.proofs.StoreBehind.{IsOver, opened_over}
+use Rattle.gem_server.proofs.TallyBehind.{printed_behind}
+use Rattle.gem_server.proofs.LogLengths.{log_lengths}
+use Rattle.gem_server.specs.Rounds.{IsLoaded, IsSetUp}
 use Rattle.gem_meaning.specs.declared.event.What.TheVariants.{Placed}
 use Rattle.gem_meaning.specs.Opened.{Opened}
 use Rattle.gem_meaning.specs.Events.{Event, Told, after_events}
@@ -46,21 +41,20 @@ use Rattle.gem_server.specs.Writing.{HasWritten}
 use Rattle.gem_server.specs.Server.{IsBlank}
 use Rattle.gem_server.specs.Course.{IsOpenedOn}
 use Rattle.gem_server.specs.Serving.{HasRun, ServesStore}
-use Rattle.gem_server.specs.Demo.{IsLoad, commits_of, demo_lines, tally_report, IsServedOver, new_opening, IsServedSetup, IsLoadOver, IsServedLoad, DemosSo, Demos}
+use Rattle.gem_server.specs.Demo.{IsLoad, demo_lines, IsServedOver, new_opening, IsServedSetup, IsLoadOver, IsServedLoad, DemosSo, Demos}
 use Rattle.gem_server.specs.Completeness.{DemoCompletes}
-use Rattle.gem_server.specs.DemoParts.{IsPart, OnlyCommits, is_served_line, are_served}
+use Rattle.gem_server.specs.DemoParts.{IsPart, is_served_line, are_served}
 use Rattle.gem_server.proofs.StoreCompletes.{ok_is, whole_text}
 use Rattle.gem_server.proofs.Making.{nothing_held, empty_store}
 
 -- ---- One script.
 
-module _ (text written : Bytes) (source sink : Seen (Option Bytes)) (disk : Seen Past) (events : List Event) (book : RunBook)
-    (given : source.before ≡ Some text) (nothing : sink.before ≡ Some []) (took : sink.after ≡ Some written) where
+module _ (text : Bytes) (source sink : Seen (Option Bytes)) (disk : Seen Past) (events : List Event) (book : RunBook)
+    (given : source.before ≡ Some text) where
   -- what a script leaves that was served with `Done`
   pub record IsDone : Type 0 where
     pub opened : Opened
     pub served : IsServedOver text (as_read disk.before) (as_read disk.after) (record { opened = opened; events = events }) book
-    pub report : written ≡ report_of book
 
   has_run : AlwaysServed book → HasRun true source sink disk Done events book → IsDone
   has_run always has =
@@ -77,8 +71,6 @@ module _ (text written : Bytes) (source sink : Seen (Option Bytes)) (disk : Seen
           stands = has.kept.reads refl has.ended.1;
           stored = has.kept.stored refl has.ended.1;
         };
-        report = subst (λ (b : Option Bytes). Appends (Some []) b (report_of book)) took
-            (subst (λ (a : Option Bytes). Appends a sink.after (report_of book)) nothing has.ended.2);
       }
 
   pub is_done : ServesStore true source sink disk Done events book → AlwaysServed book → IsDone
@@ -134,15 +126,9 @@ same_part (Err e) text before part is same = tt
 abbrev no_files : Files
 no_files = record { extent = []; log = [] }
 
-ok_same : {A E : Type 0} (x y : A) → ◌≡◌ {A = Result A E} (Ok x) (Ok y) → x ≡ y
-ok_same x y e = cc
-
-never_ok : {A E G : Type 0} (x : A) (e : E) → ◌≡◌ {A = Result A E} (Err e) (Ok x) → G
-never_ok x e same = absurd cc
-
 new_stored : (stored : Stored) → IsStoredIn no_files stored → stored ≡ record { log_length = 1; root = None }
 new_stored stored is =
-    let root : is.root ≡ None = ok_same is.root None (sym is.extent) in
+    let root : is.root ≡ None = ok_is is.root None (sym is.extent) in
     let log_length : stored.log_length ≡ 1 = no_record [] stored.log_length (omega arith) is.log_length in
     let no_root : stored.root ≡ None = rw root at is.root_is in
     λ i. record { log_length = log_length i; root = no_root i }
@@ -175,73 +161,7 @@ setup_served part is =
       },
     )
 
--- ---- What a store holds that no checkpoint was made of.
-
-held_unless_is : (root : _) (logged : _) (fit : Option _) (held : Held) → held_unless root logged fit ≡ Ok held → held.root ≡ root
-held_unless_is root logged None held is =
-    ap (λ (h : Held). h.root) (sym (ok_is (record { root = root; records = _ }) held is))
-held_unless_is root logged (Some one) held is = never_ok held _ is
-
-held_over_is : (root : _) (log : Result _ _) (held : Held) → held_over root log ≡ Ok held → held.root ≡ root
-held_over_is root (Err fault) held is = never_ok held _ is
-held_over_is root (Ok logged) held is = held_unless_is root logged (misfit (root_number root) logged) held is
-
-held_by_none : (extent : _) (log : _) (held : Held) → extent ≡ Ok None → held_by extent log ≡ Ok held → held.root ≡ None
-held_by_none extent log held none is =
-    held_over_is None log held (sym (ap (λ (r : _). held_by r log) none) ∙ is)
-
-some_stored : {A : Type 0} (root : A) → ◌≡◌ {A = Option A} None (Some root) → ⊥
-some_stored root same = absurd cc
-
--- the root of the files, where nothing is stored but a log
-no_extent : (files : Files) (stored : Stored) (is : IsStoredIn files stored) (root : Option _) → is.root ≡ root → stored.root ≡ None
-    → root ≡ None
-no_extent files stored is None same none = refl
-no_extent files stored is (Some extent) same none = absurd (some_stored _ (sym none ∙ (rw same at is.root_is)))
-
-held_root : (files : Files) (stored : Stored) (held : Held) (is : IsStoredIn files stored) → is.root ≡ None → store_of files ≡ Ok held
-    → held.root ≡ None
-held_root files stored held is none same = held_by_none _ _ held (is.extent ∙ ap (λ (r : Option _). Ok r) none) same
-
-zero_or_more : (n : ℕ) → (n ≡ 0) ⊎ (0 < n)
-zero_or_more zero = inl refl
-zero_or_more (suc n) = inr (omega arith)
-
-found_whole : (found : Option Object) → option_map (found_object 0) found ≡ found
-found_whole None = refl
-found_whole (Some object) = ap (λ (o : Object). Some o) (settled_is_found 0 object (zero_or_more object.changed))
-
--- what is found over no root is the image itself
-same_image : (held : Held) (image : Image) (number : ℕ) → root_number held.root ≡ 0 → StandsFor image number (Some (found_in held))
-    → (image_of held ≡ image) × (number_of held ≡ number)
-same_image held image number none stands = (
-  same_keys (image_of held) image (λ name. ap (λ (f : Found). f.objects name) stands
-      ∙ ap (λ (root : ℕ). option_map (found_object root) (get image name)) none ∙ found_whole (get image name)),
-  ap (λ (f : Found). f.number) stands,
-)
-
--- what a Stone is opened with over files that stand for an image
-record IsOver (image : Image) (number : ℕ) (o : Opened) : Type 0 where
-  pub image_is : o.image ≡ image
-  pub number_is : o.number ≡ number
-  pub no_root : o.stored.root ≡ None
-
-opened_over : (files : Files) (stored : Stored) (image : Image) (number : ℕ) (o : Opened) → IsStoredIn files stored → stored.root ≡ None
-    → StandsFor image number (found_of files) → IsOpenedOn true files o → IsOver image number o
-opened_over files stored image number o is none stands on =
-    let found = on.found refl in
-    let no_root : is.root ≡ None = no_extent files stored is is.root refl none in
-    let root = held_root files stored found.held is no_root found.store_is in
-    let same = same_image found.held image number (ap root_number root) (subst (StandsFor image number) (ap found_by found.store_is) stands) in
-    let has = on.stored refl in
-    let empty : has.root ≡ None = ok_same has.root None (sym has.extent ∙ is.extent ∙ ap (λ (r : Option _). Ok r) no_root) in
-    record {
-      image_is = found.image_is ∙ same.0;
-      number_is = found.number_is ∙ same.1;
-      no_root = rw empty at has.root_is;
-    }
-
--- ---- The load.
+-- ---- The load, and the tally.
 
 -- what one commit over a new store leaves
 one_stored : (o : Opened) (session : ℕ) (e : Entry) → (stored_after o ((session, Placed e) ∷ [])).root ≡ o.stored.root
@@ -265,40 +185,62 @@ module _ (files : Files) (t : Told) (setup : IsServedSetup files t) where
   opened_behind o on = subst (λ (n : ℕ). IsOver (after_events t.opened t.events).image n o) first_number
       (opened_over files (stored_after t.opened t.events) _ _ o setup.served.stored no_root_stored setup.served.stands on)
 
+  -- what a Stone is opened with behind the set-up
+  opened_set_up : (o : Opened) → IsOpenedOn true files o → IsSetUp o
+  opened_set_up o on =
+      let left = setup_leaves t setup.book setup.served.legal setup.served.always setup.served.reads
+      (ap (λ (o : Opened). o.image) setup.opened_is) (ap (λ (o : Opened). o.number) setup.opened_is)
+      (ap (λ (o : Opened). o.stored.log_length) setup.opened_is) in
+      let most = log_lengths files.log (stored_after t.opened t.events).log_length o.stored.log_length setup.served.stored.log_length
+      (on.stored refl).log_length in
+      let size = left.log in
+      record {
+        loaded = subst (λ (i : Image). IsLoaded i (pos 0) []) (sym (opened_behind o on).image_is) left.loaded;
+        unchanged = on.can_serve.changed;
+        short = omega (arith, most, size);
+      }
+
   load_served : (seed sessions rounds : ℕ) (part : Part) (is : IsPart (load_text seed sessions rounds) files part)
-      → OnlyCommits (commits_of sessions rounds) part
+      → IsLoad seed sessions rounds
       → IsLoadOver seed sessions rounds t files (as_read part.disk.past) (record { opened = is.opened; events = part.events }) part.book
-  load_served seed sessions rounds part is only =
+  load_served seed sessions rounds part is load =
       let over = opened_behind is.opened is.served.opened_on in
+      let told : Told = record { opened = is.opened; events = part.events } in
+      let commits = load_commits told part.book seed sessions rounds load is.served.legal is.served.always is.served.reads
+      (opened_set_up is.opened is.served.opened_on) in
       record {
         served = is.served;
         image_is = over.image_is;
         number_is = over.number_is;
         no_root = over.no_root;
-        commits_are = only.history;
+        commits = commits;
+        commits_are = ap length is.served.legal.history ∙ entries_of_all part.events commits.only ∙ commits.count;
       }
 
 -- the three of them
 pub all_served : (seed sessions rounds : ℕ) (setup loaded tally : Part) → IsPart setup_text no_files setup
-    → IsPart (load_text seed sessions rounds) (as_read setup.disk.past) loaded → OnlyCommits (commits_of sessions rounds) loaded
-    → IsPart tally_text (as_read loaded.disk.past) tally → tally.report.written ≡ tally_report seed sessions rounds
-    → IsServedLoad seed sessions rounds loaded.events loaded.book
-all_served seed sessions rounds setup loaded tally first load all last printed =
+    → IsPart (load_text seed sessions rounds) (as_read setup.disk.past) loaded → IsLoad seed sessions rounds
+    → IsPart tally_text (as_read loaded.disk.past) tally → IsServedLoad seed sessions rounds loaded.events loaded.book
+all_served seed sessions rounds setup loaded tally first load all last =
     let begun = setup_served setup first in
+    let told : Told = record { opened = begun.0; events = setup.events } in
+    let over = load_served (as_read setup.disk.past) told begun.1 seed sessions rounds loaded load all in
+    let behind : Told = record { opened = last.opened; events = tally.events } in
     record {
       after_setup = as_read setup.disk.past;
-      setup = record { opened = begun.0; events = setup.events };
+      setup = told;
       setup_served = begun.1;
       after_load = as_read loaded.disk.past;
       opened = load.opened;
-      load_served = load_served (as_read setup.disk.past) (record { opened = begun.0; events = setup.events }) begun.1
-          seed sessions rounds loaded load all;
+      load_served = over;
       tally_served = record {
         after = as_read tally.disk.past;
-        told = record { opened = last.opened; events = tally.events };
+        told = behind;
         book = tally.book;
         served = last.served;
-        printed = sym last.report ∙ printed;
+        printed = printed_behind seed sessions rounds told (as_read setup.disk.past) (as_read loaded.disk.past)
+            (as_read tally.disk.past) (record { opened = load.opened; events = loaded.events }) behind loaded.book
+            tally.book all over last.served;
       };
     }
 
@@ -321,75 +263,12 @@ pub of_same_load : (P : (seed sessions rounds : ℕ) → Type 0) (seed sessions 
     → P seed sessions rounds → P a b c
 of_same_load P seed sessions rounds a b c same = subst (λ (asked : Asked). P (seed_in asked) (sessions_in asked) (rounds_in asked)) same
 
-pub few_commits : (seed sessions rounds : ℕ) → IsLoad seed sessions rounds → sessions * rounds ≤ 16000
-few_commits seed sessions rounds load = mul-le sessions rounds 16 1000 load.sessions_are.1 load.rounds_are.1
-
 -- the numbers of the words are those of a load
 pub load_in_words : (words : List Bytes) (seed sessions rounds : ℕ) → ReadsWords words (serve_load seed sessions rounds)
     → IsLoad seed sessions rounds
 load_in_words words seed sessions rounds reads =
     let in_range = demo_in_range words seed sessions rounds reads in
     record { seed_is = in_range.seed_is; sessions_are = in_range.sessions_are; rounds_are = in_range.rounds_are }
-
--- ---- What is written.
-
-never_not : (same : Bool) → not same ≡ false → same ≡ true
-never_not true is = refl
-never_not false is = absurd cc
-
--- what was tested not to differ is the same
-pub not_differing : (test : Bool) (shown expected written report : Bytes) → test ≡ not (bytes_eq shown expected) → test ≡ false
-    → shown ≡ written → expected ≡ report → written ≡ report
-not_differing test shown expected written report tells passed shows is =
-    sym shows ∙ (bytes_eq-Decides shown expected).0 (never_not (bytes_eq shown expected) (sym tells ∙ passed)) ∙ is
-
--- pieces that are joined from the left
-twelve_pieces : (a b c d e f g h i j k l : Bytes)
-    → a ++ b ++ c ++ d ++ e ++ f ++ g ++ h ++ i ++ j ++ k ++ l ≡ a ++ (b ++ (c ++ (d ++ (e ++ (f ++ (g ++ (h ++ (i ++ (j ++ (k ++ l))))))))))
-twelve_pieces a b c d e f g h i j k l =
-    append_assoc (a ++ b ++ c ++ d ++ e ++ f ++ g ++ h ++ i ++ j) k l
-    ∙ append_assoc (a ++ b ++ c ++ d ++ e ++ f ++ g ++ h ++ i) j (k ++ l)
-    ∙ append_assoc (a ++ b ++ c ++ d ++ e ++ f ++ g ++ h) i (j ++ (k ++ l))
-    ∙ append_assoc (a ++ b ++ c ++ d ++ e ++ f ++ g) h (i ++ (j ++ (k ++ l)))
-    ∙ append_assoc (a ++ b ++ c ++ d ++ e ++ f) g (h ++ (i ++ (j ++ (k ++ l))))
-    ∙ append_assoc (a ++ b ++ c ++ d ++ e) f (g ++ (h ++ (i ++ (j ++ (k ++ l)))))
-    ∙ append_assoc (a ++ b ++ c ++ d) e (f ++ (g ++ (h ++ (i ++ (j ++ (k ++ l))))))
-    ∙ append_assoc (a ++ b ++ c) d (e ++ (f ++ (g ++ (h ++ (i ++ (j ++ (k ++ l)))))))
-    ∙ append_assoc (a ++ b) c (d ++ (e ++ (f ++ (g ++ (h ++ (i ++ (j ++ (k ++ l))))))))
-    ∙ append_assoc a b (c ++ (d ++ (e ++ (f ++ (g ++ (h ++ (i ++ (j ++ (k ++ l)))))))))
-
-thirteen_pieces : (a b c d e f g h i j k l m : Bytes)
-    → a ++ b ++ c ++ d ++ e ++ f ++ g ++ h ++ i ++ j ++ k ++ l ++ m ≡ a ++ (b ++ (c ++ (d ++ (e ++ (f ++ (g ++ (h ++ (i ++ (j ++ (k ++ (l ++ m)))))))))))
-thirteen_pieces a b c d e f g h i j k l m =
-    append_assoc (a ++ b ++ c ++ d ++ e ++ f ++ g ++ h ++ i ++ j ++ k) l m
-    ∙ append_assoc (a ++ b ++ c ++ d ++ e ++ f ++ g ++ h ++ i ++ j) k (l ++ m)
-    ∙ append_assoc (a ++ b ++ c ++ d ++ e ++ f ++ g ++ h ++ i) j (k ++ (l ++ m))
-    ∙ append_assoc (a ++ b ++ c ++ d ++ e ++ f ++ g ++ h) i (j ++ (k ++ (l ++ m)))
-    ∙ append_assoc (a ++ b ++ c ++ d ++ e ++ f ++ g) h (i ++ (j ++ (k ++ (l ++ m))))
-    ∙ append_assoc (a ++ b ++ c ++ d ++ e ++ f) g (h ++ (i ++ (j ++ (k ++ (l ++ m)))))
-    ∙ append_assoc (a ++ b ++ c ++ d ++ e) f (g ++ (h ++ (i ++ (j ++ (k ++ (l ++ m))))))
-    ∙ append_assoc (a ++ b ++ c ++ d) e (f ++ (g ++ (h ++ (i ++ (j ++ (k ++ (l ++ m)))))))
-    ∙ append_assoc (a ++ b ++ c) d (e ++ (f ++ (g ++ (h ++ (i ++ (j ++ (k ++ (l ++ m))))))))
-    ∙ append_assoc (a ++ b) c (d ++ (e ++ (f ++ (g ++ (h ++ (i ++ (j ++ (k ++ (l ++ m)))))))))
-    ∙ append_assoc a b (c ++ (d ++ (e ++ (f ++ (g ++ (h ++ (i ++ (j ++ (k ++ (l ++ m))))))))))
-
--- the last piece stands behind the twelve before it
-with_last : (a b c d e f g h i j k l m : Bytes)
-    → (a ++ (b ++ (c ++ (d ++ (e ++ (f ++ (g ++ (h ++ (i ++ (j ++ (k ++ l))))))))))) ++ m ≡ a ++ (b ++ (c ++ (d ++ (e ++ (f ++ (g ++ (h ++ (i ++ (j ++ (k ++ (l ++ m)))))))))))
-with_last a b c d e f g h i j k l m =
-    ap (λ (t : Bytes). t ++ m) (sym (twelve_pieces a b c d e f g h i j k l)) ∙ thirteen_pieces a b c d e f g h i j k l m
-
--- the lines with the numbers as they were counted
-pub lines_are : (seed sessions rounds bag counter : ℕ) → bag ≡ commits_of sessions rounds → counter ≡ load_sum seed sessions rounds
-    → (codes "demo seed " ++ (decimal seed ++ (codes " sessions " ++ (decimal sessions ++ (codes " rounds " ++ (decimal rounds
-    ++ (codes "\ncommits " ++ (decimal (1 + bag) ++ (codes "\ncounter " ++ (decimal counter ++ (codes "\nbag " ++ decimal bag)))))))))))
-    ++ codes "\n" ≡ demo_lines seed sessions rounds
-lines_are seed sessions rounds bag counter commits sum =
-    with_last (codes "demo seed ") (decimal seed) (codes " sessions ") (decimal sessions) (codes " rounds ") (decimal rounds)
-    (codes "\ncommits ") (decimal (1 + bag)) (codes "\ncounter ") (decimal counter) (codes "\nbag ") (decimal bag) (codes "\n")
-    ∙ ap₂ (λ (b n : ℕ). codes "demo seed " ++ (decimal seed
-    ++ (codes " sessions " ++ (decimal sessions ++ (codes " rounds " ++ (decimal rounds ++ (codes "\ncommits " ++ (decimal (1 + b)
-    ++ (codes "\ncounter " ++ (decimal n ++ (codes "\nbag " ++ (decimal b ++ codes "\n")))))))))))) commits sum
 
 -- ---- How it ends.
 

@@ -11,8 +11,8 @@ use Rattle.script_run.proofs.session_laws_lemmas.Faults.{none_of_running, some_o
 use Rattle.gem_server.specs.declared.status.Status.{Status}
 use Rattle.gem_server.specs.declared.status.Status.TheVariants.{Done, Usage, Script, NotStore, SerialsUsed, NotEmpty, ReadFault, DiskFault, WriteFault, NoMemory}
 use Rattle.gem_server.specs.Devices.{Seen, HasFailed}
-use Rattle.gem_server.specs.Alone.{RanAlone, ServesAlone, told_from_kernel}
-use Rattle.gem_server.specs.Serving.{HasRun, ServesStore, IsWhyNot, IsBlankBy}
+use Rattle.gem_server.specs.Alone.{RanAlone, told_from_kernel}
+use Rattle.gem_server.specs.Serving.{HasRun, IsWhyNot, IsBlankBy}
 use Rattle.gem_server.specs.DiskFaults.{FaultsHaveCause, FaultsAreTold, NoFaultAlone}
 
 -- a book without a transcript has none

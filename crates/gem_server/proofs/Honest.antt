@@ -1,7 +1,6 @@
 -- A disk with nothing pending is one of its crash images, and the only one.
-use Rattle.std.proofs.Common.{◌≡◌, ℕ, List, [], refl, sym, subst}
+use Rattle.std.proofs.Common.{◌≡◌, [], refl, sym, subst}
 use Rattle.gem_disk.specs.Disk.{Files, Past, as_read, CrashImages}
-use Rattle.gem_image.specs.Image.{Image}
 use Rattle.stone_store.specs.Left.{FilesStandFor}
 use Rattle.gem_server.specs.Course.{IsHonest}
 

@@ -1,25 +1,22 @@
 -- How looking at a store ends, and making one.
-use Rattle.std.proofs.Common.{◌≡◌, ◌≢◌, ◌⊎◌, ℕ, ◌<◌, ◌≤◌, Bool, true, IsTrue, List, [], length, Option, Some, None, refl, sym, ap, subst, ◌∙◌, inl, inr, arith}
-use Rattle.std.specs.FinMap.{get}
+use Rattle.std.proofs.Common.{◌≡◌, ◌≢◌, ◌⊎◌, ℕ, ◌<◌, ◌≤◌, Bool, IsTrue, length, Option, refl, ap, ◌∙◌, inl, inr, arith}
 use Rattle.gem_io.specs.Faults.{HasRisen}
 use Rattle.gem_object.specs.texts.Bytes.{Bytes}
 use Rattle.gem_disk.specs.Disk.{Files, Past, as_read, moment, CrashImagesSince}
-use Rattle.gem_disk.specs.Runs.{LeavesOnly}
-use Rattle.gem_image.specs.Image.{Image}
 use Rattle.kernel_image.specs.Objects.{kernel_image}
 use Rattle.stone_store.specs.declared.parts.FoundImage.{FoundImage}
 use Rattle.stone_store.specs.declared.fault.StoreFault.{StoreFault}
 use Rattle.stone_store.specs.declared.fault.StoreFault.TheVariants as fault
 use Rattle.stone_store.specs.Store.{store_of}
 use Rattle.stone_store.specs.Left.{FilesStandFor, StandsInAll}
-use Rattle.stone_store.specs.Opening.{IsFound, OpensNot, ReadsSame}
+use Rattle.stone_store.specs.Opening.{IsFound, OpensNot}
 use Rattle.gem_server.specs.declared.status.Status.{Status}
 use Rattle.gem_server.specs.declared.status.Status.TheVariants.{Done, Usage, Script, NotStore, SerialsUsed, NotEmpty, ReadFault, DiskFault, WriteFault, NoMemory}
-use Rattle.gem_server.specs.Devices.{Seen, HasFailed, IsUnused, IsWritten, IsPartWritten}
+use Rattle.gem_server.specs.Devices.{Seen, HasFailed, IsUnused}
 use Rattle.gem_server.specs.Writing.{HasWritten, HasWrittenOrNot}
 use Rattle.gem_server.specs.Course.{Stays}
 use Rattle.gem_server.specs.Serving.{status_of_store}
-use Rattle.gem_server.specs.Looking.{store_line, IsTold, ChecksSo, Checks, AreEmpty, AreLengths, IsNewStore, IsMade, IsWhyNotEmpty, IsWhyNotStored, InitsSo, Inits}
+use Rattle.gem_server.specs.Looking.{store_line, ChecksSo, Checks, AreEmpty, IsMade, IsWhyNotEmpty, IsWhyNotStored, InitsSo, Inits}
 
 -- ---- the sink, by how writing a line ended
 

@@ -1,7 +1,7 @@
 -- A store that is made of two empty files.
-use Rattle.std.proofs.Common.{◌≡◌, ◌≢◌, ◌⊎◌, ℕ, ◌<◌, ◌≤◌, Bool, true, IsTrue, List, [], length, Option, Some, None, Result, Ok, Err, refl, sym, ap, ap₂, subst, ◌∙◌, inl, inr, arith}
+use Rattle.std.proofs.Common.{◌≡◌, ℕ, ◌<◌, ◌≤◌, Bool, true, IsTrue, [], Option, Some, None, Ok, refl, sym, ap, ap₂, subst, ◌∙◌, inl, inr, arith}
 use Rattle.gem_io.specs.Faults.{HasRisen}
-use Rattle.gem_disk.specs.Disk.{Files, Past, as_read, moment, CrashImages, CrashImagesSince}
+use Rattle.gem_disk.specs.Disk.{Files, Past, as_read, moment, CrashImagesSince}
 use Rattle.gem_disk.specs.Runs.{LeavesOnly}
 use Rattle.gem_disk.proofs.Moments.{only_now}
 use Rattle.gem_image.specs.Image.{Image}
@@ -20,8 +20,8 @@ use Rattle.stone_store.specs.Left.{FilesStandFor, StandsInAll}
 use Rattle.stone_store.specs.Opening.{IsFound, OpensNot}
 use Rattle.stone_store.specs.Resting.{stored_by, IsStoredIn}
 use Rattle.stone_store.specs.Whole.{StoreOf, StoresBy, store_moment, store_stands, store_left}
-use Rattle.gem_server.specs.Devices.{Seen, seen, HasFailed}
-use Rattle.gem_server.specs.Looking.{AreEmpty, IsNewStore, IsMade}
+use Rattle.gem_server.specs.Devices.{Seen}
+use Rattle.gem_server.specs.Looking.{AreEmpty, IsMade}
 use Rattle.gem_server.proofs.Looks.{LeavesKernel}
 use Rattle.gem_server.proofs.StoreCompletes.{ok_is, no_flaw}
 

@@ -30,7 +30,7 @@ pub record MayStand (parts : Parts) (name : ℕ) (object : Contents) : Type 0 wh
   pub methods : methods_fit name object.body ≡ true
   pub spelled : is_spelled object.body ≡ true
 
-may_stand : (parts : Parts) (name : ℕ) (object : Contents) → MayStand parts name object → fits parts name object ≡ true
+pub may_stand : (parts : Parts) (name : ℕ) (object : Contents) → MayStand parts name object → fits parts name object ≡ true
 unfolding fits
 may_stand parts name object may = both _ _ may.numbered (both _ _ may.known (both _ _ may.in_segment (both _ _ may.accepted
     (both _ _ may.named (both _ _ may.of_kernel (both _ _ may.placed (both _ _ may.methods may.spelled)))))))

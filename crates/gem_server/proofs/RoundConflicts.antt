@@ -68,18 +68,18 @@ not_later (Some object) view below = le-ltb view object.changed below
 
 -- ---- merges
 
-counter_merged_is : (view place : ℤ) (number : ℕ) → is_small_integer (place +ℤ total (pos number ∷ [])) ≡ true
+pub counter_merged_is : (view place : ℤ) (number : ℕ) → is_small_integer (place +ℤ total (pos number ∷ [])) ≡ true
     → merged (hits_contents view).body (hits_contents place).body (change.Counter (pos number) ∷ [])
     ≡ Some (hits_contents (place +ℤ total (pos number ∷ []))).body
 counter_merged_is view place number small = ap (λ (b : Bool). option_map body.Counter (result_ok (counter_or_range
     (if b then Some (place +ℤ total (pos number ∷ [])) else None)))) small
 
-bag_merged_is : (view place : List (Value × ℕ)) (number : ℕ)
+pub bag_merged_is : (view place : List (Value × ℕ)) (number : ℕ)
     → merged (names_contents view).body (names_contents place).body (change.Bag (Add (round_name number)) ∷ [])
     ≡ Some (names_contents (with_name number place)).body
 bag_merged_is view place number = refl
 
-some_is : {A : Type 0} (x y : A) → Some x ≡ Some y → x ≡ y
+pub some_is : {A : Type 0} (x y : A) → Some x ≡ Some y → x ≡ y
 some_is x y same = cc
 
 -- where the objects hold bodies that merge, there is no refusal
@@ -152,7 +152,7 @@ module _ (number : ℕ) (image place : Image) (value : ℤ) (pairs : List (Value
 
 -- ---- the record of a run
 
-record_base : (entry : Entry) (s : Setting) (w : World) → (record_of entry s w).base ≡ s.view
+pub record_base : (entry : Entry) (s : Setting) (w : World) → (record_of entry s w).base ≡ s.view
 unfolding record_of
 record_base entry s w = refl
 

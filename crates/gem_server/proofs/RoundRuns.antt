@@ -74,21 +74,23 @@ none_drawn setting = fun_ext (λ name. none_between _ name _ refl)
 
 -- ---- the outcome
 
-module _ (number : ℕ) (image : Image) (value : ℤ) (pairs : List (Value × ℕ)) (serial first : ℕ)
-    (from : 1 ≤ number) (to : number ≤ 9) (loaded : IsLoaded image value pairs) (room : HasRoom number value pairs) where
+module _ (number : ℕ) (image : Image) (value : ℤ) (pairs : List (Value × ℕ)) (place : Image) (placed : ℤ) (others : List (Value × ℕ))
+    (serial first : ℕ) (from : 1 ≤ number) (to : number ≤ 9) (loaded : IsLoaded image value pairs) (there : IsLoaded place placed others)
+    (room : HasRoom number value pairs) where
   abbrev digits : Bytes
   digits = codes "n" ++ decimal number
 
   abbrev setting : Setting
-  setting = begun_at image image 32 serial first
+  setting = begun_at place image 32 serial first
 
   abbrev outcome : Outcome MadeBlock Reply
   outcome = command_outcome (run_chunk false (round_text number)) setting (untouched first)
 
-  setting_shown : plain_setting setting ≡ load_setting serial first value pairs
+  setting_shown : plain_setting setting ≡ load_setting serial first value pairs placed others
   setting_shown =
       let objects : objects_in image ≡ load_objects value pairs = fun_ext loaded in
-      λ i. record { place = objects i; view = objects i; user = 32; serial = serial; first = first }
+      let standing : objects_in place ≡ load_objects placed others = fun_ext there in
+      λ i. record { place = standing i; view = objects i; user = 32; serial = serial; first = first }
 
   outcome_read : outcome ≡ perform (chunk_reply false (tree_with number (decimal number))) setting (begin_untouched first)
   unfolding command_reply
@@ -96,18 +98,19 @@ module _ (number : ℕ) (image : Image) (value : ℤ) (pairs : List (Value × �
       (read_each number from to)
 
   abbrev after : PlainOutcome MadeBlock Reply
-  after = after_round serial first value (pos number) pairs digits
+  after = after_round serial first value (pos number) pairs placed others digits
 
   outcome_is : IsOutcome setting outcome after
   outcome_is = subst (λ (o : Outcome MadeBlock Reply). IsOutcome setting o after) (sym outcome_read)
       (same_begun (chunk_reply false (tree_with number (decimal number))) setting first
-      (load_setting serial first value pairs) setting_shown (λ name. false) (none_drawn (load_setting serial first value pairs)))
+      (load_setting serial first value pairs placed others) setting_shown (λ name. false)
+      (none_drawn (load_setting serial first value pairs placed others)))
 
   both : (one other : Bool) → one ≡ true → other ≡ true → (one && other) ≡ true
   both one other first_is second_is = ap (λ (b : Bool). b && other) first_is ∙ second_is
 
-  round_done : IsRound serial first value (pos number) pairs digits after
-  round_done = round_is serial first value (pos number) pairs digits (record {
+  round_done : IsRound serial first value (pos number) pairs placed others digits after
+  round_done = round_is serial first value (pos number) pairs placed others digits (record {
     small = room.small;
     fits = both (is_within_limits (names_contents pairs)) (is_within_limits (names_contents (with_name number pairs))) room.before room.after;
     refers = room.refers;

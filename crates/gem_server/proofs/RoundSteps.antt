@@ -38,9 +38,10 @@ use Rattle.gem_server.proofs.NotedUpdates.{MayStand, is_updated}
 use Rattle.gem_meaning.specs.gem_sound.Sound.{names_in}
 use Rattle.gem_meaning.specs.object_programs.Guard.{fits}
 
-abbrev pub load_setting : (serial first : ℕ) → ℤ → List (Value × ℕ) → PlainSetting
-load_setting serial first value pairs = record {
-  place = load_objects value pairs;
+-- The counter and the bag have the first value and pairs at the view, and the others at the place.
+abbrev pub load_setting : (serial first : ℕ) → ℤ → List (Value × ℕ) → ℤ → List (Value × ℕ) → PlainSetting
+load_setting serial first value pairs placed others = record {
+  place = load_objects placed others;
   view = load_objects value pairs;
   user = 32;
   serial = serial;
@@ -62,9 +63,9 @@ before_round first by name = record {
   state = begin_plain (nothing_done first (λ name. false));
 }
 
-module _ (serial first : ℕ) (value by : ℤ) (pairs : List (Value × ℕ)) (name : Text) where
+module _ (serial first : ℕ) (value by : ℤ) (pairs : List (Value × ℕ)) (placed : ℤ) (others : List (Value × ℕ)) (name : Text) where
   abbrev setting : PlainSetting
-  setting = load_setting serial first value pairs
+  setting = load_setting serial first value pairs placed others
 
   abbrev start : Config MadeBlock Reply
   start = before_round first by name

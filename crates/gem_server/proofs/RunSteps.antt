@@ -77,7 +77,7 @@ module _ {B A : Type 0} (setting : PlainSetting) where
   ended_is (returns value home) state = refl
   ended_is (fails fault) state = refl
 
-  popped_is : {C : Type 0} (stack : Stack B A C) (end : Ending C) (state : PlainState B)
+  pub popped_is : {C : Type 0} (stack : Stack B A C) (end : Ending C) (state : PlainState B)
       → finish (popped stack end state) ≡ resume stack end state
   popped_is last end state = ended_is end state
   popped_is (next_then next rest) (gives answer) state = refl

@@ -1,7 +1,6 @@
 -- Which status tells which rule of a script.
-use Rattle.std.proofs.Common.{◌≡◌, ◌∙◌, ◌↔◌, ℕ, ◌<◌, ◌≤◌, List, length, refl, sym, ap, subst, inl, inr, arith}
+use Rattle.std.proofs.Common.{◌≡◌, ℕ, ◌<◌, ◌≤◌, List, length, refl, ap, subst, inl, inr, arith}
 use Rattle.std.specs.Io.KnownBytes.{Consumes, IsAtEnd}
-use Rattle.gem_io.specs.Faults.{HasRisen}
 use Rattle.gem_object.specs.texts.Bytes.{Bytes}
 use Rattle.shell_words.specs.declared.limits.TheConstants.{SCRIPT_LIMIT}
 use Rattle.shell_words.specs.Script.{SessionCommands}
@@ -12,9 +11,9 @@ use Rattle.shell_words.specs.declared.fault.ScriptFault.{ScriptFault}
 use Rattle.shell_words.specs.declared.fault.ScriptFault.TheVariants.{Rule, NoMemory as ShortOfMemory}
 use Rattle.std.specs.Prelude.{Option}
 use Rattle.gem_server.specs.declared.status.Status.{Status}
-use Rattle.gem_server.specs.declared.status.Status.TheVariants.{Done, Script, ReadFault, WriteFault, NoMemory}
+use Rattle.gem_server.specs.declared.status.Status.TheVariants.{Script, ReadFault, NoMemory}
 use Rattle.gem_server.specs.Devices.{Seen, HasFailed}
-use Rattle.gem_server.specs.Server.{WasRead, IsWhole, Tells, IsRead, status_of, GivesScript, GivesNone, TellsOfSource}
+use Rattle.gem_server.specs.Server.{IsWhole, Tells, IsRead, status_of, GivesScript, GivesNone, TellsOfSource}
 
 abbrev line_of : Status → ℕ
 line_of (Script line rule) = line

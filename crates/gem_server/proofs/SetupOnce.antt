@@ -17,7 +17,7 @@ use Rattle.load_maker.specs.Scripts.{setup_text}
 use Rattle.gem_server.proofs.SetupScript.{setup_script, setup_reads}
 use Rattle.gem_server.proofs.SetupSays.{Own, setup_opened, setup_entry, the_event, one_event}
 
-one_session : (n : ℕ) → 1 ≤ n → n ≤ 1 → n ≡ 1
+pub one_session : (n : ℕ) → 1 ≤ n → n ≤ 1 → n ≡ 1
 one_session n from to = omega (arith, from, to)
 
 all_own : (events : List Event) → AllByRecursion (IsOfScript setup_script) events → Own events
@@ -34,11 +34,11 @@ module _ (stored : Stored) (counts : Bool) (begins : stored.log_length ≡ 1) (e
   by_transcripts (transcript ∷ rest) own are served =
       one_event stored counts begins events own 0 transcript.replies are.0.says served.0
 
-  once : (book : RunBook) → IsLegal t book → AlwaysServed book → events ≡ the_event ∷ []
+  pub once : (book : RunBook) → IsLegal t book → AlwaysServed book → events ≡ the_event ∷ []
   once book legal served = by_transcripts book.transcripts (all_own events legal.consistent.sessions) legal.transcripts served
 
 -- what the Stone was opened with
-opened_is : (o : Opened) → ReadsScript setup_text o.script → o.image ≡ kernel_image → o.number ≡ 0
+pub opened_is : (o : Opened) → ReadsScript setup_text o.script → o.image ≡ kernel_image → o.number ≡ 0
     → o ≡ setup_opened o.stored o.counts_pages
 opened_is o reads image number =
     let script = one_script setup_text o.script setup_script reads setup_reads in

@@ -1,7 +1,7 @@
 -- What the session of the set-up says, and the one event that it makes.
-use Rattle.std.proofs.Common.{◌≡◌, ◌≢◌, ℕ, zero, suc, ◌+◌, ◌-◌, ◌<◌, inl, inr, Bool, true, false, IsTrue, List, [], ◌∷◌, ◌++◌, length, take, drop, Option, Some, None, IsSome, refl, sym, ap, subst, ◌∙◌, arith}
+use Rattle.std.proofs.Common.{◌≡◌, ◌≢◌, ℕ, zero, suc, ◌+◌, ◌-◌, ◌<◌, inl, inr, Bool, true, false, List, [], ◌∷◌, ◌++◌, length, take, drop, Option, Some, refl, sym, ap, subst, ◌∙◌, arith}
 use Rattle.std.specs.List.{AllByRecursion}
-use Rattle.std.specs.FinMap.{empty, get-empty}
+use Rattle.std.specs.FinMap.{empty}
 use Rattle.std.proofs.lemmas.List.{take-append-drop}
 use Rattle.gem_meaning.specs.gem_object.declared.object.Object.{Object}
 use Rattle.gem_meaning.specs.gem_world.World.{Setting, untouched}
@@ -14,8 +14,6 @@ use Rattle.gem_meaning.specs.gem_record.Effects.{log_record_size}
 use Rattle.gem_meaning.specs.gem_record.Record.{record_of}
 use Rattle.gem_meaning.specs.gem_record.Stored.{Stored}
 use Rattle.gem_meaning.specs.commit_check.Conflicts.{conflicts_of}
-use Rattle.gem_meaning.specs.lock_table.Locks.{holding_cmp, holding}
-use Rattle.gem_meaning.specs.lock_table.declared.lock.LockKind.{LockKind}
 use Rattle.gem_meaning.specs.shell_words.declared.script.Command.TheVariants.{Chunk, Commit, Logout}
 use Rattle.gem_meaning.specs.gem_replies.declared.reply.Line.{Line}
 use Rattle.gem_meaning.specs.gem_replies.declared.reply.Line.TheVariants.{NoMemory, DiskFault, Spoiled, Login, Halted, Unchanged, Refused, LogFull, Committed}
@@ -35,6 +33,7 @@ use Rattle.gem_meaning.specs.Session.{reply_with, replies_with, CommandsSay, unt
 use Rattle.gem_meaning.specs.Legal.{WasServed}
 use Rattle.gem_meaning.specs.gem_image.Image.{Image}
 use Rattle.kernel_image.specs.Objects.{kernel_image}
+use Rattle.gem_server.proofs.Leaving.{nobody_holds, no_leaving, served_rest}
 use Rattle.gem_server.proofs.LoadTrees.{setup_chunk}
 use Rattle.gem_server.proofs.SetupScript.{curator, setup_commands, setup_script}
 use Rattle.gem_server.proofs.SetupRun.{kernel_setting, draws_two, setup_record, writes_globals, effect_is, effect_bytes, no_conflict}
@@ -65,7 +64,7 @@ none_own ((session, what) ∷ others) own none =
     let kept : events_of 1 ((1, what) ∷ others) ≡ [] = subst (λ (n : ℕ). events_of 1 ((n, what) ∷ others) ≡ []) own.0 none in
     absurd cc
 
-own_left : (before after : List Event) → Own (before ++ after) → Own before
+pub own_left : (before after : List Event) → Own (before ++ after) → Own before
 own_left [] after own = tt
 own_left (event ∷ before) after own = (own.0, own_left before after own.1)
 
@@ -133,13 +132,13 @@ module _ (stored : Stored) (counts : Bool) where
       (command_outcome (run_chunk false setup_chunk) (begun_at kernel_image kernel_image 32 (serial + (1 - 1)) 1) (untouched 1)).state.world)
       serial_is
 
-  at_place_is : record_at_place o (after_events o []) setup_entry ≡ setup_record setup_entry
+  pub at_place_is : record_at_place o (after_events o []) setup_entry ≡ setup_record setup_entry
   unfolding record_at_place run_at_place after_events
   at_place_is = ap (λ (serial : ℕ). record_of setup_entry (begun_at kernel_image kernel_image 32 (serial + (1 - 1)) 1)
       (command_outcome (run_chunk false setup_chunk) (begun_at kernel_image kernel_image 32 (serial + (1 - 1)) 1) (untouched 1)).state.world)
       serial_is
 
-  size_is : size_found o [] 2 after_chunk ≡ 836
+  pub size_is : size_found o [] 2 after_chunk ≡ 836
   unfolding record_size effect_of after_events
   size_is = ap (λ (objects : List (ℕ × Object)). log_record_size (record { number = 1; objects = objects }))
       (ap (effect_at kernel_image 1) at_place_is ∙ effect_is setup_entry) ∙ effect_bytes
@@ -203,18 +202,11 @@ module _ (stored : Stored) (counts : Bool) where
     ]
   ]
 
-  nobody_holds : (others : List Event) (session : ℕ) → others ≡ []
+  none_held : (others : List Event) (session : ℕ) → others ≡ []
       → HoldsSome (after_events o ((the_event ∷ []) ++ others)) session → ⊥
   unfolding after_events
-  nobody_holds others session none holds =
-      let some : HoldsSome (after_events o (the_event ∷ [])) session =
-      subst (λ (more : List Event). HoldsSome (after_events o ((the_event ∷ []) ++ more)) session) none holds in
-      let never : IsSome {T = LockKind} None = subst IsSome (get-empty {X = LockKind} holding_cmp (holding session some.0)) some.1 in
-      absurd cc
-
-  no_leaving : (holds : Bool) (session : ℕ) → (IsTrue holds → ⊥) → leaving holds session ≡ []
-  no_leaving true session never = absurd (never refl)
-  no_leaving false session never = refl
+  none_held others session none holds = nobody_holds (after_events o (the_event ∷ [])) session refl
+      (subst (λ (more : List Event). HoldsSome (after_events o ((the_event ∷ []) ++ more)) session) none holds)
 
   logout_at : (after : List Event) → Own after → (s : SessionState) → s.session ≡ 1
       → LogsOut (place 3 (the_event ∷ []) after) s → after ≡ the_event ∷ []
@@ -224,7 +216,7 @@ module _ (stored : Stored) (counts : Bool) where
       let others : out.others ≡ [] = none_own out.others (own_right (the_event ∷ []) out.others inner)
       (subst (λ (n : ℕ). events_of n out.others ≡ []) is out.are_others) in
       let stays : left ≡ [] = no_leaving out.holds s.session
-      (λ holds. nobody_holds out.others s.session others (out.exactly.0 holds)) in
+      (λ holds. none_held out.others s.session others (out.exactly.0 holds)) in
       out.after ∙ ap (λ (more : List Event). ((the_event ∷ []) ++ out.others) ++ more) stays
       ∙ with_none ((the_event ∷ []) ++ out.others) ∙ ap (λ (more : List Event). (the_event ∷ []) ++ more) others
 
@@ -237,11 +229,6 @@ module _ (stored : Stored) (counts : Bool) where
     served_after : (number : ℕ) (lines : List Line) (more rs : List Reply) → rs ≡ replies_with number lines ++ more
         → AllByRecursion WasServed rs → AllByRecursion WasServed (replies_with number lines ++ more)
     served_after number lines more rs is served = subst (AllByRecursion WasServed) is served
-
-    drop_lines : (number : ℕ) (lines : List Line) (more : List Reply)
-        → AllByRecursion WasServed (replies_with number lines ++ more) → AllByRecursion WasServed more
-    drop_lines number [] more served = served
-    drop_lines number (line ∷ lines) more served = drop_lines number lines more served.1
 
     -- the logout, and the end
     end_at : (p q : ℕ) (s : SessionState) (rs : List Reply) → take p events ≡ the_event ∷ [] → s.session ≡ 1
@@ -276,7 +263,7 @@ module _ (stored : Stored) (counts : Bool) where
         (subst (λ (events_before : List Event). ObjectSays (run_chunk false setup_chunk) (place 1 events_before (take says.point events)) at_first says.lines says.next) before ran.1)
         says.replies served in
         rest_at says.point q says.next says.more after next says.rest
-        (drop_lines 1 says.lines says.more (served_after 1 says.lines says.more rs says.replies served))
+        (served_rest 1 says.lines says.more (served_after 1 says.lines says.more rs says.replies served))
 
     of_user : (p : ℕ) (rs : List Reply) → take p events ≡ []
         → SaysOfUser t 1 32 p 0 (until_logout setup_commands) rs → AllByRecursion WasServed rs → events ≡ the_event ∷ []

@@ -1,11 +1,11 @@
 -- Opening a store for a run.
-use Rattle.std.proofs.Common.{◌≡◌, ◌≢◌, ℕ, ◌+◌, ◌<◌, ◌≤◌, Bool, true, IsTrue, List, length, Option, Some, None, Result, Ok, Err, is_some, refl, sym, ap, subst, ◌∙◌, arith}
+use Rattle.std.proofs.Common.{◌≡◌, ℕ, ◌≤◌, Bool, true, IsTrue, List, Option, Some, None, is_some, refl, sym, subst, arith}
 use Rattle.std.specs.FinMap.{get}
 use Rattle.gem_object.specs.declared.object.Object.{Object}
-use Rattle.gem_disk.specs.Disk.{Files, Past, as_read, CrashImages}
+use Rattle.gem_disk.specs.Disk.{Files, Past, as_read}
 use Rattle.gem_disk.specs.Runs.{LeavesOnly}
 use Rattle.gem_disk.proofs.Moments.{started as nothing_done}
-use Rattle.gem_image.specs.Image.{Image, IsImage}
+use Rattle.gem_image.specs.Image.{IsImage}
 use Rattle.shell_words.specs.Script.{SessionCommands}
 use Rattle.gem_keeper.specs.Found.{StandsFor}
 use Rattle.gem_keeper.specs.Crashes.{FitsNow}
@@ -14,21 +14,21 @@ use Rattle.stone_store.specs.declared.parts.Parts.{Parts}
 use Rattle.stone_store.specs.declared.fault.StoreFault.{StoreFault}
 use Rattle.stone_store.specs.declared.fault.StoreFault.TheVariants as fault
 use Rattle.stone_store.specs.Store.{store_of}
-use Rattle.stone_store.specs.Left.{FilesStandFor, StandsInAll}
+use Rattle.stone_store.specs.Left.{FilesStandFor}
 use Rattle.stone_store.specs.Opening.{IsFound, MayGoOn, OpensNot, ReadsSame}
 use Rattle.stone_store.specs.Resting.{stored_by, IsStoredIn}
 use Rattle.stone_store.specs.Whole.{StoreOf, StoresBy, store_moment, store_stands, store_left}
-use Rattle.gem_meaning.specs.commit_check.Conflicts.{changed_of, last_change}
+use Rattle.gem_meaning.specs.commit_check.Conflicts.{changed_of}
 use Rattle.gem_meaning.specs.Opened.{base_serial}
 use Rattle.gem_meaning.specs.Serial.{CanServe}
-use Rattle.script_run.specs.Run.{opened_by, CanRun}
+use Rattle.script_run.specs.Run.{opened_by}
 use Rattle.gem_server.specs.declared.status.Status.{Status}
 use Rattle.gem_server.specs.declared.status.Status.TheVariants.{SerialsUsed}
 use Rattle.gem_server.specs.declared.opening.Refused.{Refused}
 use Rattle.gem_server.specs.Devices.{Seen, seen, HasFailed}
-use Rattle.gem_server.specs.Course.{Stays, IsOpenedOn}
+use Rattle.gem_server.specs.Course.{Stays}
 use Rattle.gem_server.specs.Serving.{status_of_store}
-use Rattle.gem_server.specs.Starting.{HasRoom, IsFull, IsStarted, IsRefused, IsWhyRefused, kept_in, is_open}
+use Rattle.gem_server.specs.Starting.{HasRoom, IsFull, IsStarted, IsRefused, IsWhyRefused, kept_in}
 
 -- a disk that wasn't used
 pub stays_unused : (tells : Bool) (disk : Seen Past) → disk.after ≡ disk.before → Stays tells disk

@@ -1,33 +1,31 @@
 -- What keeps a script from its report over a store, and the line of a store from being written.
-use Rattle.std.proofs.Common.{◌≡◌, ◌⊎◌, ℕ, ◌+◌, ◌<◌, ◌≤◌, Bool, IsTrue, List, length, Option, Some, None, Result, Ok, Err, ◌++◌, refl, ap, sym, subst, ◌∙◌, inl, inr, arith, append-nil}
+use Rattle.std.proofs.Common.{◌≡◌, ◌⊎◌, ℕ, ◌+◌, Bool, List, length, Option, Some, None, Result, Ok, Err, ◌++◌, refl, ap, sym, subst, ◌∙◌, inl, inr, arith, append-nil}
 use Rattle.std.specs.Io.KnownBytes.{Consumes, IsAtEnd}
 use Rattle.gem_object.specs.texts.Bytes.{Bytes}
-use Rattle.gem_disk.specs.Disk.{Past, as_read}
-use Rattle.gem_image.specs.Image.{Image, objects_in}
+use Rattle.gem_disk.specs.Disk.{Past}
+use Rattle.gem_image.specs.Image.{Image}
 use Rattle.shell_words.specs.Script.{SessionCommands}
 use Rattle.shell_words.specs.ScriptGrammar.{ReadsScript}
 use Rattle.shell_words.proofs.OneAnswer.{one_script}
 use Rattle.stone_store.specs.declared.fault.StoreFlaw.{StoreFlaw}
 use Rattle.stone_store.specs.declared.fault.StoreFlaw.TheVariants as flaw
-use Rattle.stone_store.specs.declared.parts.FoundImage.{FoundImage}
-use Rattle.stone_store.specs.Store.{Held, store_of, image_of, number_of}
-use Rattle.stone_store.specs.Opening.{IsFound, IsFlawed}
-use Rattle.gem_meaning.specs.gem_sound.Sound.{IsSoundImage, BreaksFirst}
+use Rattle.stone_store.specs.Store.{Held, image_of, number_of}
+use Rattle.stone_store.specs.Opening.{IsFlawed}
+use Rattle.gem_meaning.specs.gem_sound.Sound.{IsSoundImage}
 use Rattle.gem_meaning.specs.Opened.{largest_serial}
 use Rattle.gem_meaning.specs.Events.{Event}
-use Rattle.gem_meaning.specs.Serial.{most_at_opening, serial_limit}
 use Rattle.gem_replies.specs.declared.reply.RunBook.{RunBook}
 use Rattle.gem_server.specs.declared.status.Status.{Status}
 use Rattle.gem_server.specs.declared.status.Status.TheVariants.{Done, Usage, Script, NotStore, SerialsUsed, NotEmpty, ReadFault, DiskFault, WriteFault, NoMemory}
 use Rattle.gem_server.specs.Devices.{Seen, HasFailed}
 use Rattle.gem_server.specs.Server.{IsRead}
-use Rattle.gem_server.specs.Serving.{HasNoRoom, IsWhyNot, HasEnded, HasRun, ServesStore}
-use Rattle.gem_server.specs.Looking.{Checks, ChecksSo}
+use Rattle.gem_server.specs.Serving.{HasNoRoom, IsWhyNot, HasRun}
+use Rattle.gem_server.specs.Looking.{ChecksSo}
 use Rattle.gem_server.specs.Completeness.{HeldSound, HeldRoom, ServingCompletes, LookingCompletes}
 use Rattle.gem_server.proofs.Completes.{no_rule}
 use Rattle.gem_server.proofs.DiskFaults.{faults_have_cause}
 
-pub ok_is : (x y : Held) → ◌≡◌ {A = Result Held StoreFlaw} (Ok x) (Ok y) → x ≡ y
+pub ok_is : {A E : Type 0} (x y : A) → ◌≡◌ {A = Result A E} (Ok x) (Ok y) → x ≡ y
 ok_is x y e = cc
 
 never : {G : Type 0} (x : Held) (why : StoreFlaw) → ◌≡◌ {A = Result Held StoreFlaw} (Ok x) (Err why) → G

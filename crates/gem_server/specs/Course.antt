@@ -1,10 +1,8 @@
 -- What becomes of a store that is opened, and of the run of a script over it.
-use Rattle.std.specs.Prelude.{◌≡◌, ◌⊎◌, ℕ, Bool, true, IsTrue, List, Option}
+use Rattle.std.specs.Prelude.{◌≡◌, ℕ, Bool, true, IsTrue}
 use Rattle.gem_disk.specs.Disk.{Files, Past, as_read, moment, CrashImages, CrashImagesSince}
 use Rattle.gem_disk.specs.Runs.{LeavesOnly}
 use Rattle.gem_image.specs.Image.{Image}
-use Rattle.gem_record.specs.Stored.{Stored}
-use Rattle.shell_words.specs.Script.{SessionCommands}
 use Rattle.stone_store.specs.Store.{store_of, found_of}
 use Rattle.stone_store.specs.Left.{FilesStandFor, StandsInAll}
 use Rattle.stone_store.specs.Opening.{IsFound, ReadsSame}

@@ -11,7 +11,6 @@ use Rattle.shell_words.specs.Script.{SessionCommands}
 use Rattle.shell_words.specs.ScriptGrammar.{ReadsScript}
 use Rattle.load_maker.specs.Numbers.{IsSeed, IsSessionCount, IsRoundCount, load_sum}
 use Rattle.load_maker.specs.Scripts.{setup_text, load_text, tally_text}
-use Rattle.gem_replies.specs.Report.{report_of}
 use Rattle.gem_replies.specs.declared.reply.RunBook.{RunBook}
 use Rattle.gem_meaning.specs.declared.event.What.TheVariants.{Placed}
 use Rattle.gem_meaning.specs.Opened.{Opened}
@@ -24,6 +23,8 @@ use Rattle.gem_server.specs.declared.status.Status.TheVariants.{Done, WriteFault
 use Rattle.gem_server.specs.Devices.{Seen, HasFailed, IsUnused, IsWritten, IsPartWritten}
 use Rattle.gem_server.specs.Server.{IsBlank}
 use Rattle.gem_server.specs.Course.{IsOpenedOn}
+use Rattle.gem_server.specs.AfterLoad.{CommitsEachRound}
+use Rattle.gem_server.specs.Tally.{IsTallied}
 
 -- the numbers of a load are in their ranges
 pub record IsLoad (seed sessions rounds : ℕ) : Type 0 where
@@ -45,14 +46,6 @@ demo_lines seed sessions rounds =
     ++ (codes "\ncommits " ++ (decimal (1 + commits_of sessions rounds)
     ++ (codes "\ncounter " ++ (decimal (load_sum seed sessions rounds)
     ++ (codes "\nbag " ++ (decimal (commits_of sessions rounds) ++ codes "\n")))))))))))
-
--- the report of a tally that prints this counter and this size
-abbrev pub tally_report : (seed sessions rounds : ℕ) → Bytes
-tally_report seed sessions rounds =
-    codes "session 1 DataCurator\n[0] login view " ++ (decimal (1 + commits_of sessions rounds)
-    ++ (codes "\n[1] " ++ (decimal (load_sum seed sessions rounds)
-    ++ (codes "\n[2] " ++ (decimal (commits_of sessions rounds)
-    ++ codes "\n[3] logout\ncommits 0\n")))))
 
 -- ---- What was served.
 
@@ -89,22 +82,25 @@ pub record IsServedSetup (after : Files) (t : Told) : Type 0 where
   pub events_are : t.events ≡ (session, Placed entry) ∷ []
 
 -- The load was served over what the set-up had left: over the image that its commit made of the
--- kernel's, which no checkpoint had stored. It committed once in each round.
+-- kernel's, which no checkpoint had stored. It committed once in each round, and nothing else
+-- happened.
 pub record IsLoadOver (seed sessions rounds : ℕ) (setup : Told) (before after : Files) (t : Told)
     (book : RunBook) : Type 0 where
   pub served : IsServedOver (load_text seed sessions rounds) before after t book
   pub image_is : t.opened.image ≡ (standing setup).image
   pub number_is : t.opened.number ≡ 1
   pub no_root : t.opened.stored.root ≡ None
+  pub commits : CommitsEachRound seed sessions rounds t
   pub commits_are : length book.history ≡ commits_of sessions rounds
 
--- The tally was served over what the load had left, and printed the counter and the size of the bag.
+-- The tally was served over what the load had left, and printed the counter and the size of the bag, and
+-- nothing happened.
 pub record IsServedTally (seed sessions rounds : ℕ) (before : Files) : Type 0 where
   pub after : Files
   pub told : Told
   pub book : RunBook
   pub served : IsServedOver tally_text before after told book
-  pub printed : report_of book ≡ tally_report seed sessions rounds
+  pub printed : IsTallied (load_sum seed sessions rounds) (commits_of sessions rounds) told book
 
 -- The set-up, the load and the tally were served, one after another. The events and the book are those
 -- of the load.

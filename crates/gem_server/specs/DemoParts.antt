@@ -1,9 +1,8 @@
 -- The parts of a demo, as they come back.
-use Rattle.std.specs.Prelude.{◌≡◌, ℕ, Bool, true, false, List, length}
+use Rattle.std.specs.Prelude.{Bool, true, false, List}
 use Rattle.std.specs.List.{list_all}
 use Rattle.gem_object.specs.texts.Bytes.{Bytes}
 use Rattle.gem_disk.specs.Disk.{Files, as_read}
-use Rattle.gem_replies.specs.Report.{report_of}
 use Rattle.gem_replies.specs.declared.reply.Line.{Line}
 use Rattle.gem_replies.specs.declared.reply.Line.TheVariants.{NoMemory, DiskFault}
 use Rattle.gem_replies.specs.declared.reply.Transcript.{Transcript}
@@ -16,12 +15,6 @@ pub record IsPart (text : Bytes) (before : Files) (part : Part) : Type 0 where
   pub opened : Opened
   pub served : IsServedOver text before (as_read part.disk.past)
       (record { opened = opened; events = part.events }) part.book
-  pub report : part.report.written ≡ report_of part.book
-
--- it committed so often, and nothing else happened
-pub record OnlyCommits (commits : ℕ) (part : Part) : Type 0 where
-  pub history : length part.book.history ≡ commits
-  pub events : length part.events ≡ commits
 
 -- whether a line says neither that memory ran out nor that the disk failed
 abbrev pub is_served_line : Line → Bool

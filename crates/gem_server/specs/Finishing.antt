@@ -1,5 +1,5 @@
 -- How a run over a store is told.
-use Rattle.std.specs.Prelude.{◌≡◌, ◌≢◌, ℕ, List, [], Option, None, Ok, IfOk, OnErr}
+use Rattle.std.specs.Prelude.{◌≡◌, ◌≢◌, ℕ, List, [], Option, None, IfOk, OnErr}
 use Rattle.gem_object.specs.texts.Bytes.{Bytes}
 use Rattle.stone_store.specs.Whole.{StoreOf}
 use Rattle.gem_replies.specs.Report.{report_of}

@@ -8,6 +8,8 @@ pub mod Looking
 pub mod Demo
 pub mod DemoParts
 pub mod Rounds
+pub mod AfterLoad
+pub mod Tally
 pub mod DiskFaults
 pub mod Completeness
 pub mod Starting

@@ -1,5 +1,5 @@
 -- Looking at a store, and making one.
-use Rattle.std.specs.Prelude.{◌≡◌, ◌≢◌, ◌⊎◌, ◌++◌, ◌<◌, ◌≤◌, ℕ, Bool, true, IsTrue, codes, List, [], length, Option, Some}
+use Rattle.std.specs.Prelude.{◌≡◌, ◌≢◌, ◌⊎◌, ◌++◌, ◌<◌, ◌≤◌, ℕ, Bool, true, IsTrue, codes, [], length, Option}
 use Rattle.std.specs.Fmt.{decimal}
 use Rattle.std.specs.FinMap.{len}
 use Rattle.gem_object.specs.texts.Bytes.{Bytes}

@@ -19,6 +19,7 @@ use Rattle.gem_meaning.specs.gem_update.declared.update.Update.TheVariants as ch
 use Rattle.gem_meaning.specs.object_programs.Budget.{is_within_limits}
 use Rattle.gem_meaning.specs.object_programs.Spelled.{are_items}
 use Rattle.gem_meaning.specs.gem_record.declared.record.TxnRecord.{TxnRecord}
+use Rattle.gem_meaning.specs.Opened.{Opened}
 use Rattle.kernel_image.specs.Objects.{globals_entries, kernel_objects}
 
 -- the names of the counter `Hits` and of the bag `Names`: 1:1 and 1:2
@@ -55,6 +56,13 @@ load_objects value pairs name =
 -- what stands in the image is the kernel with the counter and the bag
 abbrev pub IsLoaded : Image → ℤ → List (Value × ℕ) → Type 0
 IsLoaded image value pairs = (name : ℕ) → objects_in image name ≡ load_objects value pairs name
+
+-- A Stone was opened with what a set-up left: the kernel with a counter at 0 and an empty bag, and a
+-- short log.
+pub record IsSetUp (o : Opened) : Type 0 where
+  pub loaded : IsLoaded o.image (pos 0) []
+  pub unchanged : (name : ℕ) → last_change o.image name ≤ o.number
+  pub short : o.stored.log_length ≤ 2000
 
 -- the chunk of a round with this number, and the name that it adds to the bag
 abbrev pub round_text : ℕ → Bytes

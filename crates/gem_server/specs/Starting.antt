@@ -15,7 +15,7 @@ use Rattle.script_run.specs.Run.{opened_by, CanRun}
 use Rattle.gem_server.specs.declared.status.Status.{Status}
 use Rattle.gem_server.specs.declared.status.Status.TheVariants.{NotStore, SerialsUsed, DiskFault, NoMemory}
 use Rattle.gem_server.specs.declared.opening.Refused.{Refused}
-use Rattle.gem_server.specs.Devices.{Seen, seen, HasFailed}
+use Rattle.gem_server.specs.Devices.{seen, HasFailed}
 use Rattle.gem_server.specs.Course.{Stays, IsOpenedOn}
 
 -- There are serials for the sessions of this script, from the base on, and numbers for what they

@@ -1,13 +1,13 @@
 //! Serves a generated load over a disk of its own.
-ghost use Rattle.std.specs.Prelude.{◌≡◌, ◌+◌, ◌*◌, ◌≤◌, [], length, string_bytes, IfOk};
+ghost use Rattle.std.specs.Prelude.{◌≡◌, ◌+◌, ◌*◌, ◌≤◌, [], string_bytes, IfOk};
 ghost use Rattle.gem_disk.specs.Disk.{as_read};
 ghost use Rattle.load_maker.specs.Numbers.{load_sum};
-ghost use Rattle.load_maker.specs.Scripts.{setup_text, load_text, tally_text};
+ghost use Rattle.load_maker.specs.Scripts.{setup_text, load_text};
 ghost use Rattle.gem_server.specs.Devices.{seen};
-ghost use Rattle.gem_server.specs.Demo.{IsLoad, demo_lines, tally_report, IsServedLoad, Demos};
+ghost use Rattle.gem_server.specs.Demo.{IsLoad, demo_lines, IsServedLoad, Demos};
 ghost use Rattle.std.specs.List.{list_all};
 ghost use Rattle.gem_meaning.specs.Legal.{AlwaysServed};
-ghost use Rattle.gem_server.specs.DemoParts.{IsPart, OnlyCommits, is_served_line, are_served};
+ghost use Rattle.gem_server.specs.DemoParts.{IsPart, is_served_line, are_served};
 
 use crate::output::write_out;
 use crate::serving::serve_store;
@@ -36,16 +36,15 @@ pub(crate) struct Load {
 struct Part {
     book: RunBook,
     events: Events,
-    report: MemSink,
     disk: MemDisk,
 }
 
 /// Serves the load between its set-up and its tally, all three over one disk in memory, and writes to
 /// the sink what came of it. The disk that is handed in is only handed back.
 ///
-/// Where a session or a disk in memory found no memory, the status is `NoMemory`. So it is where what
-/// the load committed or what the tally printed differs from what is written. No clause says that
-/// neither ever does; that the set-up commits once follows from what its chunk means.
+/// Where a session or a disk in memory found no memory, or there was none for a script, a report or the
+/// lines, the status is `NoMemory`. That the set-up commits once, the load once in each round, and that
+/// the tally prints what is written, follows from what their chunks mean.
 pub(crate) fn serve_demo<R: Threads + Wait + Sync, K: Sink, D: Drop, G: Gate + Sync>(
     rt: &R,
     alloc: Global,
@@ -88,11 +87,7 @@ fn serve_parts<R: Threads + Wait + Sync, G: Gate + Sync>(
     let setup = serve_setup(rt, alloc)?;
     let loaded = serve_load(rt, alloc, load, setup.disk, gate)?;
     let script = tally_script(alloc)?;
-    let tally = serve_part(rt, alloc, script, loaded.disk, &OpenGate)?;
-    let expected = tally_report(alloc, load)?;
-    if tally.report.written() != expected.as_bytes() {
-        return Err(AllocError);
-    }
+    serve_part(rt, alloc, script, loaded.disk, &OpenGate)?;
     Ok((loaded.book, loaded.events))
 }
 
@@ -114,16 +109,14 @@ fn serve_load<R: Threads + Wait + Sync, G: Gate + Sync>(
     gate: &G,
 ) -> Result<Part, AllocError>
     requires { IsLoad load.seed load.sessions load.rounds }
-    ensures part { IfOk result
+    ensures { IfOk result
         (IsPart (load_text load.seed load.sessions load.rounds) (as_read disk.past)) }
-    ensures commits { IfOk result (OnlyCommits (load.sessions * load.rounds)) }
 {
     let script = load_script(alloc, load.seed, load.sessions, load.rounds)?;
-    let part = serve_part(rt, alloc, script, disk, gate)?;
-    commits_only(part, load_commits(load))
+    serve_part(rt, alloc, script, disk, gate)
 }
 
-// Serves one script over a disk in memory, of which the report is kept, too.
+// Serves one script over a disk in memory.
 fn serve_part<R: Threads + Wait + Sync, G: Gate + Sync>(
     rt: &R,
     alloc: Global,
@@ -140,7 +133,6 @@ fn serve_part<R: Threads + Wait + Sync, G: Gate + Sync>(
         Status::Done => served_whole(Part {
             book: ended.book,
             events: ended.events,
-            report,
             disk: ended.disk,
         }),
         _ => Err(AllocError),
@@ -178,21 +170,6 @@ fn is_served(line: &Line) -> bool
     !matches!(line, Line::NoMemory | Line::DiskFault)
 }
 
-// The part, where it committed so often, and nothing else happened.
-fn commits_only(part: Part, commits: u32) -> Result<Part, AllocError>
-    ensures same { IfOk result (λ it. it ≡ part) }
-    ensures commits { IfOk result (OnlyCommits commits) }
-{
-    let commits = commits as usize;
-    if part.book.history.len() != commits {
-        return Err(AllocError);
-    }
-    if part.events.len() != commits {
-        return Err(AllocError);
-    }
-    Ok(part)
-}
-
 // How often the load commits: once in each round.
 fn load_commits(load: Load) -> u32
     requires { IsLoad load.seed load.sessions load.rounds }
@@ -219,20 +196,5 @@ fn lines_of(alloc: Global, load: Load) -> Result<String, AllocError>
     format!(in alloc;
         "demo seed {seed} sessions {sessions} rounds {rounds}\ncommits {commits}\n\
          counter {counter}\nbag {bag}\n"
-    )
-}
-
-// The report of a tally behind the load.
-fn tally_report(alloc: Global, load: Load) -> Result<String, AllocError>
-    requires { IsLoad load.seed load.sessions load.rounds }
-    ensures { IfOk result (λ report. string_bytes report ≡
-        tally_report load.seed load.sessions load.rounds) }
-{
-    let bag = load_commits(load);
-    let view = 1 + bag;
-    let counter = load_sum(load.seed, load.sessions, load.rounds);
-    format!(in alloc;
-        "session 1 DataCurator\n[0] login view {view}\n[1] {counter}\n[2] {bag}\n[3] logout\n\
-         commits 0\n"
     )
 }

@@ -1,6 +1,6 @@
 use Rattle.std.proofs.Common.{◌∙◌}
 use Rattle.std.proofs.lemmas.Result.{IfOk-weaker}
-use Rattle.gem_server.proofs.Demos.{lines_are}
+use Rattle.gem_server.proofs.DemoLines.{lines_are}
 use Rattle.gem_server.proofs.demo.lines_of.Goals as goal
 
 pub returns : goal.returns

@@ -1,4 +1,4 @@
-use Rattle.gem_server.proofs.Demos.{few_commits}
+use Rattle.gem_server.proofs.TallyBehind.{few_commits}
 use Rattle.gem_server.proofs.demo.load_commits.Goals as goal
 
 pub returns-clause-bound : goal.returns-clause-bound

@@ -1,5 +1,4 @@
-use Rattle.std.proofs.Common.{refl}
-use Rattle.gem_server.proofs.Demos.{demo_told, demo_starved}
+use Rattle.gem_server.proofs.Demos.{demo_told}
 use Rattle.gem_server.proofs.demo.serve_demo.Goals as goal
 
 pub returns-clause-demos : goal.returns-clause-demos

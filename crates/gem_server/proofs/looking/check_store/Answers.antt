@@ -1,6 +1,4 @@
-use Rattle.std.proofs.Common.{Err, refl, sym, ap, subst, ◌∙◌}
-use Rattle.gem_server.specs.Devices.{seen}
-use Rattle.gem_server.specs.Looking.{Checks}
+use Rattle.std.proofs.Common.{Err, refl, ap, ◌∙◌}
 use Rattle.gem_server.proofs.Looks.{checks_found, checks_fault}
 use Rattle.gem_server.proofs.looking.check_store.Goals as goal
 

@@ -1,5 +1,3 @@
-use Rattle.std.proofs.Common.{ap, ◌∙◌}
-use Rattle.gem_server.specs.Looking.{line_with}
 use Rattle.gem_server.proofs.Looks.{wrote_or_not}
 use Rattle.gem_server.proofs.looking.write_line.Goals as goal
 

@@ -1,9 +1,9 @@
-use Rattle.std.proofs.Common.{◌≡◌, ◌∙◌, inl, inr, refl, sym, ap, map, string_bytes, rules}
+use Rattle.std.proofs.Common.{◌∙◌, inl, inr, refl, sym, ap, map, string_bytes, rules}
 use Rattle.program_words.specs.Asked.{serve_store, serve_load, files_of, asked_of}
 use Rattle.program_words.specs.declared.words.Words.TheVariants.{Serve}
 use Rattle.gem_server.specs.Demo.{IsLoad, Demos}
 use Rattle.gem_server.specs.Devices.{seen}
-use Rattle.gem_server.proofs.Demos.{of_same_load, load_in_words, never_usage}
+use Rattle.gem_server.proofs.Demos.{of_same_load, load_in_words}
 use Rattle.gem_server.proofs.server.gemstone.Goals as goal
 
 pub returns-in-Ok-Serve-Some-clause-unused : goal.returns-in-Ok-Serve-Some-clause-unused
