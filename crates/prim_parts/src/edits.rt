@@ -22,6 +22,7 @@ use object_programs::{Fault, is_small};
 use running_objects::{Objects, Stop};
 
 /// A value comes into a slot. Where there is no such slot nothing changes.
+#[inline(always)]
 pub fn replace_slot<O: Objects>(
     objects: &mut O,
     name: Oid,
