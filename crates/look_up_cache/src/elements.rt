@@ -35,6 +35,7 @@ pub(crate) struct Put {
 }
 
 /// What `size` (33) and `at:` (34) answer, where that is known without a change of anything.
+#[inline(always)]
 pub(crate) fn known_answer<O: Objects, T>(
     memory: &Memory<T>,
     objects: &O,
@@ -83,6 +84,7 @@ fn size_for<O: Objects>(
 }
 
 // A copy of the element of a sequence with the index that the one argument is.
+#[inline(always)]
 fn element_for<O: Objects>(
     counts: &Vec<Option<Count>>,
     objects: &O,
