@@ -106,7 +106,7 @@ pub(crate) fn read_name<O: FindsMethods>(
 }
 
 /// The same where it is known without a look at any object.
-#[inline(always)]
+#[inline(never)]
 pub(crate) fn known_variable<O: FindsMethods>(
     objects: &O,
     locals: &Locals,
@@ -139,6 +139,7 @@ pub(crate) fn write_name<O: FindsMethods>(
 }
 
 /// The same where it is known that it ends well, if nothing is lacking for it.
+#[inline(never)]
 pub(crate) fn set_known_variable<O: FindsMethods>(
     objects: &mut O,
     locals: &Locals,

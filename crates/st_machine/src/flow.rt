@@ -1,6 +1,8 @@
 //! What an instruction leads to.
+ghost use Rattle.std.specs.Prelude.{◌≡◌};
 
 use gem_object::Value;
+use running_objects::Stop;
 use std::alloc::AllocError;
 
 /// What an instruction leads to that sends, makes an object or a block, asks for a name or ends,
@@ -44,4 +46,31 @@ pub(crate) enum Turned {
     /// It wasn't, and all is as before. Of a message there is the place at which what answers it
     /// stands, where that is known.
     Left(Option<usize>),
+}
+
+/// The same, part by part, so that the one that is handed on needs no place in memory: what a call
+/// that isn't inlined answers has one.
+#[inline(always)]
+pub(crate) fn again(turned: Turned) -> Turned
+    ensures { result ≡ turned }
+{
+    match turned {
+        Turned::Done(Ok(turn)) => Turned::Done(Ok(turn)),
+        Turned::Done(Err(error)) => Turned::Done(Err(error)),
+        Turned::Left(Some(place)) => Turned::Left(Some(place)),
+        Turned::Left(None) => Turned::Left(None),
+    }
+}
+
+/// The same of what an instruction leads to that `turn` leaves.
+#[inline(always)]
+pub(crate) fn led_again(led: Result<Flow, Stop>) -> Result<Flow, Stop>
+    ensures { result ≡ led }
+{
+    match led {
+        Ok(Flow::Goes(place)) => Ok(Flow::Goes(place)),
+        Ok(Flow::Leaves(answer)) => Ok(Flow::Leaves(answer)),
+        Ok(Flow::Stuck) => Ok(Flow::Stuck),
+        Err(stop) => Err(stop),
+    }
 }

@@ -22,7 +22,7 @@ ghost use Rattle.st_machine.specs.Targets.{found_by, Answered, AnswersAt};
 use crate::border::known_place;
 use crate::changing::send_changing;
 use crate::finds::FindsMethods;
-use crate::flow::Turned;
+use crate::flow::{Turned, again};
 use crate::layers::Layers;
 use crate::locals::Locals;
 use crate::outline::Outline;
@@ -66,11 +66,44 @@ pub(crate) fn send_known<O: FindsMethods>(
     if answer_integers(objects, locals, stack, chain, frame, selector, count, depth) {
         return Turned::Done(spend_unit(objects, place));
     }
+    send_looked_up(
+        objects, locals, stack, chain, frame, code, selector, count, place, depth,
+    )
+}
+
+/// The same of a message that isn't one of the operators of integers. What it keeps is not kept for
+/// these.
+#[inline(always)]
+fn send_looked_up<O: FindsMethods>(
+    objects: &mut O,
+    locals: &Locals,
+    stack: &mut Layers<Value>,
+    chain: &Layers<Mark>,
+    frame: &Outline,
+    code: &SharedCode,
+    selector: &Text,
+    count: usize,
+    place: usize,
+    depth: u32,
+) -> Turned
+    requires { count < length stack.old.own }
+    ensures keeps { Keeps (O.seen objects.old) (O.seen objects.new) }
+    ensures led { IfDone result (λ turned. TurnedBy (outside depth) (table_of code.now)
+        (Send selector.now count) place stack.old.own chain.now.own frame.now (O.seen objects.old)
+        locals.now turned stack.new.own chain.now.own (O.seen objects.new) locals.now) }
+    ensures forward { IfDone result (λ turned. IfOk turned (TurnsForward place)) }
+    ensures place { IfLeft result (λ at. AnswersAt (Send selector.now count) stack.old.own
+        (framed chain.now.own frame.now) (O.seen objects.new) locals.now (O.founds objects.new)
+        at) }
+    ensures seen { IfLeft result (λ _. O.seen objects.new ≡ O.seen objects.old) }
+    ensures own { IfLeft result (λ _. stack.new.own ≡ stack.old.own) }
+    ensures below { stack.new.below ≡ stack.old.below }
+{
     if count == 2 {
         let at = place_of_answer(objects, locals, stack, chain, frame, selector, count);
-        return send_changing(
+        return again(send_changing(
             objects, locals, stack, chain, frame, code, selector, count, at, place, depth,
-        );
+        ));
     }
     match answer_known(objects, locals, stack, chain, frame, selector, count, depth) {
         Known::Answered => Turned::Done(spend_unit(objects, place)),
@@ -263,7 +296,7 @@ fn answer_ready<O: FindsMethods>(
 }
 
 /// The answer of `size` or `at:`, where it is known.
-#[inline(never)]
+#[inline(always)]
 fn known_part<O: FindsMethods>(
     objects: &O,
     number: u8,

@@ -26,7 +26,7 @@ use crate::border::primitive;
 use crate::cache::CodeCache;
 use crate::code_block::CodeBlock;
 use crate::finds::FindsMethods;
-use crate::flow::{Flow, Turn, Turned};
+use crate::flow::{Flow, Turn, Turned, led_again};
 use crate::layers::Layers;
 use crate::locals::Locals;
 use crate::names::{push_block, push_name, store_name};
@@ -81,7 +81,7 @@ pub(crate) fn execute<O: FindsMethods>(
         );
         match turned {
             Turned::Left(found) => {
-                let led = step(
+                let led = lead(
                     alloc, objects, locals, stack, chain, cache, frame, code, instr, found, at,
                     depth,
                 );
@@ -133,7 +133,7 @@ fn instr_at(instrs: &[Instr], at: usize) -> Option<&Instr>
 /// be known.
 #[cycle(machine)]
 #[inline(always)]
-fn step<O: FindsMethods>(
+fn lead<O: FindsMethods>(
     alloc: Global,
     objects: &mut O,
     locals: &mut Locals,
@@ -159,6 +159,78 @@ fn step<O: FindsMethods>(
     ensures stack { stack.new.below ≡ stack.old.below }
     ensures chain { chain.new.below ≡ chain.old.below }
 {
+    match found {
+        Some(found) => step_found(
+            alloc, objects, locals, stack, chain, cache, frame, code, instr, found, at, depth,
+        ),
+        None => led_again(step(
+            alloc, objects, locals, stack, chain, cache, frame, code, instr, at, depth,
+        )),
+    }
+}
+
+/// Sends the message of an instruction, where the place of what answers it is known.
+#[cycle(machine)]
+#[inline(always)]
+fn step_found<O: FindsMethods>(
+    alloc: Global,
+    objects: &mut O,
+    locals: &mut Locals,
+    stack: &mut Layers<Value>,
+    chain: &mut Layers<Mark>,
+    cache: &mut CodeCache,
+    frame: &Outline,
+    code: &SharedCode,
+    instr: &Instr,
+    found: usize,
+    at: usize,
+    depth: u32,
+) -> Result<Flow, Stop>
+    requires { StandsAt (instruction_of instr.now) stack.old.own
+        (framed chain.old.own frame.now) (O.seen objects.old) locals.old (O.founds objects.old)
+        found }
+    ensures keeps { Keeps (O.seen objects.old) (O.seen objects.new) }
+    ensures led { LedBy (outside depth) (table_of code.now) (instruction_of instr.now) at
+        stack.old.own chain.old.own frame.now (O.seen objects.old) locals.old result stack.new.own
+        chain.new.own (O.seen objects.new) locals.new }
+    ensures forward { IfOk result (IsForward at) }
+    ensures stack { stack.new.below ≡ stack.old.below }
+    ensures chain { chain.new.below ≡ chain.old.below }
+{
+    match instr {
+        Instr::Send(selector, count) => send_found(
+            alloc, objects, locals, stack, chain, cache, frame, code, selector, *count, found, at,
+            depth,
+        ),
+        _ => unreachable!(),
+    }
+}
+
+/// Carries out an instruction that `turn` leaves, where nothing is known of what answers a message.
+#[cycle(machine)]
+#[inline(always)]
+fn step<O: FindsMethods>(
+    alloc: Global,
+    objects: &mut O,
+    locals: &mut Locals,
+    stack: &mut Layers<Value>,
+    chain: &mut Layers<Mark>,
+    cache: &mut CodeCache,
+    frame: &Outline,
+    code: &SharedCode,
+    instr: &Instr,
+    at: usize,
+    depth: u32,
+) -> Result<Flow, Stop>
+    requires asked { IsAsked (instruction_of instr.now) }
+    ensures keeps { Keeps (O.seen objects.old) (O.seen objects.new) }
+    ensures led { LedBy (outside depth) (table_of code.now) (instruction_of instr.now) at
+        stack.old.own chain.old.own frame.now (O.seen objects.old) locals.old result stack.new.own
+        chain.new.own (O.seen objects.new) locals.new }
+    ensures forward { IfOk result (IsForward at) }
+    ensures stack { stack.new.below ≡ stack.old.below }
+    ensures chain { chain.new.below ≡ chain.old.below }
+{
     match instr {
         Instr::MakeLit(tree) => make_literal(
             alloc, objects, locals, stack, chain, frame, code, tree, at, depth,
@@ -169,16 +241,10 @@ fn step<O: FindsMethods>(
         Instr::StoreName(name) => {
             store_name(objects, locals, stack, chain, frame, code, name, at, depth)
         }
-        Instr::Send(selector, count) => match found {
-            Some(found) => send_found(
-                alloc, objects, locals, stack, chain, cache, frame, code, selector, *count, found,
-                at, depth,
-            ),
-            None => send(
-                alloc, objects, locals, stack, chain, cache, frame, code, false, selector, *count,
-                at, depth,
-            ),
-        },
+        Instr::Send(selector, count) => send(
+            alloc, objects, locals, stack, chain, cache, frame, code, false, selector, *count, at,
+            depth,
+        ),
         Instr::SuperSend(selector, count) => send(
             alloc, objects, locals, stack, chain, cache, frame, code, true, selector, *count, at,
             depth,
@@ -540,7 +606,7 @@ fn call_method<O: FindsMethods>(
 
 /// The activation of a method, in which so many more may begin.
 #[cycle(machine)]
-#[inline(always)]
+#[inline(never)]
 fn activate<O: FindsMethods>(
     alloc: Global,
     objects: &mut O,
@@ -589,6 +655,7 @@ fn activate<O: FindsMethods>(
 /// Runs a part of a text with these scopes, the innermost one last, and the one of this mark inside
 /// them, above what stands on the stack.
 #[cycle(machine)]
+#[inline(always)]
 pub(crate) fn run_inside<O: FindsMethods>(
     alloc: Global,
     objects: &mut O,
@@ -622,6 +689,7 @@ pub(crate) fn run_inside<O: FindsMethods>(
 
 /// The same, where the activation that runs has no scopes and no values yet.
 #[cycle(machine)]
+#[inline(always)]
 fn run_with<O: FindsMethods>(
     alloc: Global,
     objects: &mut O,

@@ -80,7 +80,7 @@ pub(crate) fn store_local<O: Objects>(
 
 /// Puts what a name out of scope stands for, where that is known without a look at any object. Else
 /// it is left.
-#[inline(never)]
+#[inline(always)]
 pub(crate) fn push_known<O: FindsMethods>(
     objects: &O,
     locals: &Locals,
@@ -137,6 +137,7 @@ fn push_variable<O: Objects>(
 }
 
 /// Puts what a name out of scope stands for.
+#[inline(never)]
 pub(crate) fn push_name<O: FindsMethods>(
     objects: &mut O,
     locals: &Locals,
@@ -162,7 +163,7 @@ pub(crate) fn push_name<O: FindsMethods>(
 
 /// Stores the uppermost value under a name out of scope, and leaves it, where it is known that this
 /// ends well unless something is lacking for it. Else the instruction is left.
-#[inline(never)]
+#[inline(always)]
 pub(crate) fn store_known<O: FindsMethods>(
     objects: &mut O,
     locals: &Locals,
@@ -198,6 +199,7 @@ pub(crate) fn store_known<O: FindsMethods>(
 }
 
 /// Stores the uppermost value under a name out of scope, and leaves it.
+#[inline(never)]
 pub(crate) fn store_name<O: FindsMethods>(
     objects: &mut O,
     locals: &Locals,
@@ -226,6 +228,7 @@ pub(crate) fn store_name<O: FindsMethods>(
 
 /// Puts a new block, of this number among those of the text.
 #[tactic(auto, unfolding(gem_language::specs::Sends::outside, tree_meaning::specs::Calls::make_block))]
+#[inline(never)]
 pub(crate) fn push_block<O: Objects>(
     alloc: Global,
     objects: &O,

@@ -88,6 +88,7 @@ pub(crate) fn push_value<O: Objects>(
 }
 
 /// Puts the new object of a string or an array.
+#[inline(never)]
 pub(crate) fn make_literal<O: Objects>(
     alloc: Global,
     objects: &mut O,

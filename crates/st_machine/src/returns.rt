@@ -27,6 +27,7 @@ fn take_only(stack: &mut Layers<Value>) -> Option<Value>
 }
 
 /// Answers from a method, which still lives.
+#[inline(always)]
 pub(crate) fn return_method<O: Objects>(
     objects: &O,
     locals: &Locals,
@@ -50,6 +51,7 @@ pub(crate) fn return_method<O: Objects>(
 }
 
 /// Answers from the method in which a block stands: E8 where it has ended.
+#[inline(never)]
 pub(crate) fn return_home<O: Objects>(
     objects: &O,
     locals: &Locals,
@@ -76,6 +78,7 @@ pub(crate) fn return_home<O: Objects>(
 }
 
 /// Answers from a block.
+#[inline(never)]
 pub(crate) fn return_block<O: Objects>(
     objects: &O,
     locals: &Locals,

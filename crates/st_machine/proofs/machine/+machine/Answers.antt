@@ -279,9 +279,9 @@ pub execute-run-preserved-in-Goes : goal.execute-run-preserved-in-Goes
 execute-run-preserved-in-Goes g t c = record {
   standing = stands_next (outside c.args.depth) (table_of c.args.code.now) (part_code c.args.code.now c.args.part)
       (part_run (outside c.args.depth) c.args.code.now c.args.part (framed c.args.chain.now.own c.args.frame.now))
-      (g.O.Objects.seen c.args.objects.now) (g.O.Objects.seen c.turn-turned.new.objects) (g.O.Objects.seen c.step-led.new.objects)
-      c.args.locals.now c.turn-turned.new.locals c.step-led.new.locals c.run.at c.turn-turned.new.stack.own
-      c.step-led.new.stack.own c.turn-turned.new.chain.own c.step-led.new.chain.own c.args.frame.now
+      (g.O.Objects.seen c.args.objects.now) (g.O.Objects.seen c.turn-turned.new.objects) (g.O.Objects.seen c.lead-led.new.objects)
+      c.args.locals.now c.turn-turned.new.locals c.lead-led.new.locals c.run.at c.turn-turned.new.stack.own
+      c.lead-led.new.stack.own c.turn-turned.new.chain.own c.lead-led.new.chain.own c.args.frame.now
       (stands_left (outside c.args.depth) (table_of c.args.code.now) (part_code c.args.code.now c.args.part)
       (part_run (outside c.args.depth) c.args.code.now c.args.part (framed c.args.chain.now.own c.args.frame.now))
       (g.O.Objects.seen c.args.objects.now) c.args.locals.now c.run.at c.args.frame.now c.in-Left.ensures.seen
@@ -297,9 +297,9 @@ pub execute-returns-in-Err-clause-ran : goal.execute-returns-in-Err-clause-ran
 execute-returns-in-Err-clause-ran g t c =
     stands_stop (outside c.args.depth) (table_of c.args.code.now) (part_code c.args.code.now c.args.part)
     (part_run (outside c.args.depth) c.args.code.now c.args.part (framed c.args.chain.now.own c.args.frame.now))
-    (g.O.Objects.seen c.args.objects.now) (g.O.Objects.seen c.turn-turned.new.objects) (g.O.Objects.seen c.step-led.new.objects)
-    c.args.locals.now c.turn-turned.new.locals c.step-led.new.locals c.run.at c.turn-turned.new.stack.own
-    c.step-led.new.stack.own c.turn-turned.new.chain.own c.step-led.new.chain.own c.args.frame.now
+    (g.O.Objects.seen c.args.objects.now) (g.O.Objects.seen c.turn-turned.new.objects) (g.O.Objects.seen c.lead-led.new.objects)
+    c.args.locals.now c.turn-turned.new.locals c.lead-led.new.locals c.run.at c.turn-turned.new.stack.own
+    c.lead-led.new.stack.own c.turn-turned.new.chain.own c.lead-led.new.chain.own c.args.frame.now
     (stands_left (outside c.args.depth) (table_of c.args.code.now) (part_code c.args.code.now c.args.part)
     (part_run (outside c.args.depth) c.args.code.now c.args.part (framed c.args.chain.now.own c.args.frame.now))
     (g.O.Objects.seen c.args.objects.now) c.args.locals.now c.run.at c.args.frame.now c.in-Left.ensures.seen
@@ -312,9 +312,9 @@ pub execute-returns-in-Leaves-clause-ran : goal.execute-returns-in-Leaves-clause
 execute-returns-in-Leaves-clause-ran g t c =
     stands_leaves (outside c.args.depth) (table_of c.args.code.now) (part_code c.args.code.now c.args.part)
     (part_run (outside c.args.depth) c.args.code.now c.args.part (framed c.args.chain.now.own c.args.frame.now))
-    (g.O.Objects.seen c.args.objects.now) (g.O.Objects.seen c.turn-turned.new.objects) (g.O.Objects.seen c.step-led.new.objects)
-    c.args.locals.now c.turn-turned.new.locals c.step-led.new.locals c.run.at c.turn-turned.new.stack.own
-    c.step-led.new.stack.own c.turn-turned.new.chain.own c.step-led.new.chain.own c.args.frame.now
+    (g.O.Objects.seen c.args.objects.now) (g.O.Objects.seen c.turn-turned.new.objects) (g.O.Objects.seen c.lead-led.new.objects)
+    c.args.locals.now c.turn-turned.new.locals c.lead-led.new.locals c.run.at c.turn-turned.new.stack.own
+    c.lead-led.new.stack.own c.turn-turned.new.chain.own c.lead-led.new.chain.own c.args.frame.now
     (stands_left (outside c.args.depth) (table_of c.args.code.now) (part_code c.args.code.now c.args.part)
     (part_run (outside c.args.depth) c.args.code.now c.args.part (framed c.args.chain.now.own c.args.frame.now))
     (g.O.Objects.seen c.args.objects.now) c.args.locals.now c.run.at c.args.frame.now c.in-Left.ensures.seen
@@ -327,9 +327,9 @@ pub execute-unreachable-requires-in-Stuck : goal.execute-unreachable-requires-in
 execute-unreachable-requires-in-Stuck g t c =
     never_stuck (outside c.args.depth) (table_of c.args.code.now) (part_code c.args.code.now c.args.part)
     (part_run (outside c.args.depth) c.args.code.now c.args.part (framed c.args.chain.now.own c.args.frame.now))
-    (g.O.Objects.seen c.args.objects.now) (g.O.Objects.seen c.turn-turned.new.objects) (g.O.Objects.seen c.step-led.new.objects)
-    c.args.locals.now c.turn-turned.new.locals c.step-led.new.locals c.run.at c.turn-turned.new.stack.own
-    c.step-led.new.stack.own c.turn-turned.new.chain.own c.step-led.new.chain.own c.args.frame.now
+    (g.O.Objects.seen c.args.objects.now) (g.O.Objects.seen c.turn-turned.new.objects) (g.O.Objects.seen c.lead-led.new.objects)
+    c.args.locals.now c.turn-turned.new.locals c.lead-led.new.locals c.run.at c.turn-turned.new.stack.own
+    c.lead-led.new.stack.own c.turn-turned.new.chain.own c.lead-led.new.chain.own c.args.frame.now
     (stands_left (outside c.args.depth) (table_of c.args.code.now) (part_code c.args.code.now c.args.part)
     (part_run (outside c.args.depth) c.args.code.now c.args.part (framed c.args.chain.now.own c.args.frame.now))
     (g.O.Objects.seen c.args.objects.now) c.args.locals.now c.run.at c.args.frame.now c.in-Left.ensures.seen

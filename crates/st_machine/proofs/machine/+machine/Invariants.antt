@@ -7,35 +7,41 @@ use Rattle.st_machine.proofs.machine.+machine.Given as goal
 abbrev pub decreases-execute : goal.decreases-execute
 decreases-execute g l = 16 * l.depth + 12
 
+abbrev pub decreases-lead : goal.decreases-lead
+decreases-lead g l = 16 * l.depth + 11
+
+abbrev pub decreases-step_found : goal.decreases-step_found
+decreases-step_found g l = 16 * l.depth + 10
+
 abbrev pub decreases-step : goal.decreases-step
-decreases-step g l = 16 * l.depth + 11
+decreases-step g l = 16 * l.depth + 10
 
 abbrev pub decreases-send : goal.decreases-send
-decreases-send g l = 16 * l.depth + 10
+decreases-send g l = 16 * l.depth + 9
 
 abbrev pub decreases-send_found : goal.decreases-send_found
-decreases-send_found g l = 16 * l.depth + 10
+decreases-send_found g l = 16 * l.depth + 9
 
 abbrev pub decreases-answer_found : goal.decreases-answer_found
-decreases-answer_found g l = 16 * l.depth + 9
+decreases-answer_found g l = 16 * l.depth + 8
 
 abbrev pub decreases-answer_of : goal.decreases-answer_of
-decreases-answer_of g l = 16 * l.depth + 9
+decreases-answer_of g l = 16 * l.depth + 8
 
 abbrev pub decreases-call_target : goal.decreases-call_target
-decreases-call_target g l = 16 * l.depth + 8
+decreases-call_target g l = 16 * l.depth + 7
 
 abbrev pub decreases-call_primitive : goal.decreases-call_primitive
-decreases-call_primitive g l = 16 * l.depth + 7
+decreases-call_primitive g l = 16 * l.depth + 6
 
 abbrev pub decreases-value_of_primitive : goal.decreases-value_of_primitive
-decreases-value_of_primitive g l = 16 * l.depth + 6
+decreases-value_of_primitive g l = 16 * l.depth + 5
 
 abbrev pub decreases-call_with : goal.decreases-call_with
-decreases-call_with g l = 16 * l.depth + 5
+decreases-call_with g l = 16 * l.depth + 4
 
 abbrev pub decreases-call_method : goal.decreases-call_method
-decreases-call_method g l = 16 * l.depth + 3
+decreases-call_method g l = 16 * l.depth + 2
 
 abbrev pub decreases-activate : goal.decreases-activate
 decreases-activate g l = 16 * l.depth + 15
@@ -47,10 +53,10 @@ abbrev pub decreases-run_with : goal.decreases-run_with
 decreases-run_with g l = 16 * l.depth + 13
 
 abbrev pub decreases-call_block : goal.decreases-call_block
-decreases-call_block g l = 16 * l.depth + 4
+decreases-call_block g l = 16 * l.depth + 3
 
 abbrev pub decreases-call_made : goal.decreases-call_made
-decreases-call_made g l = 16 * l.depth + 3
+decreases-call_made g l = 16 * l.depth + 2
 
 abbrev pub decreases-evaluate : goal.decreases-evaluate
 decreases-evaluate g l = 16 * l.depth + 15
