@@ -14,9 +14,8 @@ use Rattle.running_objects.specs.Seen.{Seen, object_at, IsSoundState, with_whole
 use Rattle.running_objects.specs.Acted.{Acted, Accessed, Owned, Known, Edited, Made}
 use Rattle.running_objects.specs.declared.stop.Stop.{Stop}
 use Rattle.running_objects.specs.object_programs.Guard.{chain_limit}
-use Rattle.running_objects.specs.object_programs.Programs.{replace_body}
 use Rattle.gem_language.specs.LookUp.{Start}
-use Rattle.prim_parts.specs.Does.{Does}
+use Rattle.prim_parts.specs.Does.{IsThere}
 use Rattle.prim_parts.specs.Edits.{Replaces}
 use Rattle.look_up_cache.specs.Lasting.{lasting_body}
 use Rattle.look_up_cache.specs.Calm.{Begins, Writable}
@@ -130,9 +129,16 @@ module _ {T : Type 0} (is_of : T → MethodCode → Type 0) (memory : Memory T) 
   acted Did remains held now result is did known = called held held now result is (λ yes. yes)
       (λ _ answer same. remains answer (subst Did same did)) known
 
-  pub unit_known : (held now : Bool) (result : Result (Unit {0}) Stop) → now ≡ (held && is_ok result)
-      → Acted Tick before result after → IsKnown is_of held memory before → IsKnown is_of now memory after
-  unit_known = acted (λ result. Acted Tick before result after) (λ answer did. unit_remains before after did)
+  -- where nothing happened that look-ups depend on
+  remain_known : (held : Bool) → Remains before after → IsKnown is_of held memory before → IsKnown is_of held memory after
+  remain_known held remains known = record {
+    holds = where_still held (Holds memory before) (Holds memory after) (holds_remain before after remains memory) known.holds;
+    coded = known.coded;
+  }
+
+  pub unit_known : (held : Bool) → Acted Tick before (Ok tt) after → IsKnown is_of held memory before
+      → IsKnown is_of held memory after
+  unit_known held did = remain_known held (unit_remains before after did)
 
   pub room_known : (slots : ℕ) (held now : Bool) (result : Result (Unit {0}) Stop) → now ≡ (held && is_ok result)
       → Acted (Room slots) before result after → IsKnown is_of held memory before → IsKnown is_of now memory after
@@ -189,14 +195,10 @@ module _ {T : Type 0} (is_of : T → MethodCode → Type 0) (memory : Memory T) 
       (subst (λ (r : Result (Unit {0}) Stop). Edited name edit before r after) same did))) known
 
   pub replaced_known : (name : ℕ) (edit : Body → Body) → ((body : Body) → lasting_body (edit body) ≡ lasting_body body)
-      → (holds held now : Bool) (result : Result (Unit {0}) Stop) → (held ≡ true → holds ≡ true)
-      → (held ≡ true → is_some (object_at name before) ≡ true) → now ≡ (held && is_ok result)
-      → Replaces (λ body. 0) name edit before result after → IsKnown is_of holds memory before
-      → IsKnown is_of now memory after
-  replaced_known name edit keeps holds held now result from there is did known = called holds held now result is from
-      (λ yes answer same. some_by (object_at name before) (Remains before after) (there yes) (λ object here.
-      replace_remains before after name edit object here keeps (subst (λ (r : Result (Unit {0}) Stop).
-      Does (replace_body 0 name object (edit object.body)) before r after) same (did object here)))) known
+      → (held : Bool) → IsThere name before → Replaces (λ body. 0) name edit before (Ok tt) after
+      → IsKnown is_of held memory before → IsKnown is_of held memory after
+  replaced_known name edit keeps held there did = remain_known held (some_by (object_at name before)
+      (Remains before after) there (λ object here. replace_remains before after name edit object here keeps (did object here)))
 
   -- where all is forgotten
   pub unknown : (held : Bool) → IsKnown is_of held memory before → IsKnown is_of false memory after
@@ -233,3 +235,8 @@ chunk_known {T} is_of held memory seen known = record {
 pub as_seen : {O F : Type 0} (seen : O → Seen) (P : Seen → Type 0) (objects : O) (found : F) (value : O × F)
     → (objects, found) ≡ value → P (seen objects) → P (seen value.0)
 as_seen {O} {F} seen P objects found value is holds = subst (λ (v : O × F). P (seen v.0)) is holds
+
+-- and back, by what stands within it
+pub as_within : {O F : Type 0} (seen : O → Seen) (P : Seen → Type 0) (objects : O) (found : F) (value : O × F)
+    → (objects, found) ≡ value → P (seen value.0) → P (seen objects)
+as_within {O} {F} seen P objects found value is holds = subst (λ (v : O × F). P (seen v.0)) (sym is) holds

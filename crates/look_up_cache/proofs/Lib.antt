@@ -19,3 +19,4 @@ pub mod Meets
 pub mod Sequences
 mod Slots
 mod Lacking
+mod Ends

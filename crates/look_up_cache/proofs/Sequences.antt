@@ -1,5 +1,5 @@
 -- How the rules of elements are done where all that they look at is known.
-use Rattle.std.proofs.Common.{◌≡◌, ◌∙◌, refl, sym, ap, ap₂, subst, ℕ, zero, suc, ◌+◌, ◌-◌, ◌^◌, ℤ, pos, Bool, true, false, not, length, take, drop, slice_get, slice_set, List, [], ◌∷◌, ◌++◌, Option, Some, None, IfSome, option_and_then, Result, Ok, Err, length-drop, arith}
+use Rattle.std.proofs.Common.{◌≡◌, ◌∙◌, refl, sym, ap, ap₂, subst, ℕ, zero, suc, ◌+◌, ◌-◌, ◌^◌, ℤ, pos, Bool, true, false, not, length, take, drop, slice_get, slice_set, List, [], ◌∷◌, ◌++◌, Option, Some, None, IfSome, is_some, option_and_then, Result, Ok, Err, length-drop, arith}
 use Rattle.std.proofs.lemmas.List.{take-append-drop, take-set-le, drop-set-add}
 use Rattle.std.proofs.lemmas.Option.{none-some}
 use Rattle.gem_object.specs.Edits.{slot_at, with_slot}
@@ -238,6 +238,12 @@ put_left number receiver arguments both slot seen put is given has of =
     subst (λ (n : ℕ). PutIsLeft (rule_of n receiver arguments) put seen) (sym is)
     (element_put receiver both.0 both.1 arguments slot seen given has of.storable put of)
 
+-- the object into whose slot it comes is there
+pub put_there : (receiver index value : Value) (slot : Slot) (seen : Seen) (put : Put)
+    → HasWritten receiver index slot seen → IsPutOf slot value put → IsThere put.slot.name seen
+put_there receiver index value slot seen put has is =
+    subst (λ (s : Slot). IsThere s.name seen) (sym is.slot_is) (ap is_some (sym has.there))
+
 -- what holds of what is there
 pub in_some : {A : Type 0} (P Q : A → Type 0) → ((answer : A) → P answer → Q answer) → (found : Option A) → IfSome found P
     → IfSome found Q
@@ -257,6 +263,12 @@ unit_leaves before between acted =
     (sym acted.keeps.setting)
     (sym (ticked_leaves before.budget.units before.world before.budget)
     ∙ ap (λ (did : Done (Unit {0})). did.world) acted.did)
+
+-- what is there still is after a unit
+pub there_still : (name : ℕ) (before between : Seen) → Acted Tick before (Ok tt) between → IsThere name before
+    → IsThere name between
+there_still name before between acted =
+    subst (λ (seen : Seen). IsThere name seen) (unit_leaves before between acted)
 
 -- a unit, and then what is left
 unit_then : (program : Run MadeBlock PrimitiveAnswer) (put : Put) (before between after : Seen)

@@ -8,6 +8,7 @@ ghost use Rattle.gem_language.specs.prim_rules.Parts.{int_in, is_empty, one_of, 
 ghost use Rattle.gem_language.specs.prim_rules.Indexes.{place_in};
 ghost use Rattle.gem_language.specs.prim_rules.Rules.{rule_of};
 ghost use Rattle.gem_language.specs.prim_rules.declared.answer.PrimitiveAnswer.TheVariants.{Gives};
+ghost use Rattle.prim_parts.specs.Does.{IsThere};
 ghost use Rattle.look_up_cache.specs.Table.{AllHeld};
 ghost use Rattle.look_up_cache.specs.Memory.{IsCounted, Holds};
 ghost use Rattle.look_up_cache.specs.Elements.{AlwaysGives, IsSeen, IsSequence, HasElement, HasWritten, SizeIs, ElementIs, IsPutOf, PutIsLeft};
@@ -176,8 +177,9 @@ pub(crate) fn element_put<O: Objects, T>(
     arguments: &[Value],
 ) -> Option<Put>
     requires { Holds memory.now (O.seen objects.now) }
-    ensures { IfSome result (λ put. PutIsLeft (rule_of number receiver.now arguments.now) put
-        (O.seen objects.now)) }
+    ensures left { IfSome result (λ put. PutIsLeft (rule_of number receiver.now arguments.now)
+        put (O.seen objects.now)) }
+    ensures there { IfSome result (λ put. IsThere put.slot.name (O.seen objects.now)) }
 {
     if number != 35 {
         return None;

@@ -1,5 +1,5 @@
 //! What is remembered of receivers and of look-ups: how it is found again, and how it comes there.
-ghost use Rattle.std.specs.Prelude.{◌≡◌, ◌<◌, true, ℕ, Some, option_map, IfOk, IfSome};
+ghost use Rattle.std.specs.Prelude.{◌≡◌, ◌<◌, ◌≤◌, true, ℕ, length, Some, option_map, IfOk, IfSome};
 ghost use Rattle.gem_object.specs.declared.body.MethodCode.{MethodCode};
 ghost use Rattle.gem_language.specs.LookUp.{Start, start_of_object};
 ghost use Rattle.running_objects.specs.gem_world.Access.{a_read};
@@ -150,11 +150,108 @@ pub(crate) fn is_for<T>(entry: &Entry<T>, start: &Beginning, selector: &Text) ->
     same_start(&entry.start, start) && same_text(&entry.selector, selector)
 }
 
+/// Whether two texts are the same. Short ones take two comparisons, and no call.
 #[inline(always)]
 pub(crate) fn same_text(one: &Text, other: &Text) -> bool
     ensures { result ≡ true → one.now ≡ other.now }
 {
-    one.bytes() == other.bytes()
+    let one = one.bytes();
+    let other = other.bytes();
+    if one.len() != other.len() {
+        return false;
+    }
+    match one.len() {
+        8..=16 => same_words(one, other),
+        4..=7 => same_half_words(one, other),
+        2..=3 => same_pairs(one, other),
+        1 => same_firsts(one, other),
+        _ => one == other,
+    }
+}
+
+// Whether texts of a length, of 8 to 16 bytes, are the same: by their first and last 8.
+#[inline(always)]
+fn same_words(one: &[u8], other: &[u8]) -> bool
+    requires length { length one.now ≡ length other.now }
+    requires short { length one.now ≤ 16 }
+    ensures { result ≡ true → one.now ≡ other.now }
+{
+    let Some(front) = one.first_chunk::<8>() else {
+        return false;
+    };
+    let Some(other_front) = other.first_chunk::<8>() else {
+        return false;
+    };
+    let Some(back) = one.last_chunk::<8>() else {
+        return false;
+    };
+    let Some(other_back) = other.last_chunk::<8>() else {
+        return false;
+    };
+    u64::from_le_bytes(*front) == u64::from_le_bytes(*other_front)
+        && u64::from_le_bytes(*back) == u64::from_le_bytes(*other_back)
+}
+
+// Whether texts of a length, of 4 to 7 bytes, are the same: by their first and last 4.
+#[inline(always)]
+fn same_half_words(one: &[u8], other: &[u8]) -> bool
+    requires length { length one.now ≡ length other.now }
+    requires short { length one.now ≤ 8 }
+    ensures { result ≡ true → one.now ≡ other.now }
+{
+    let Some(front) = one.first_chunk::<4>() else {
+        return false;
+    };
+    let Some(other_front) = other.first_chunk::<4>() else {
+        return false;
+    };
+    let Some(back) = one.last_chunk::<4>() else {
+        return false;
+    };
+    let Some(other_back) = other.last_chunk::<4>() else {
+        return false;
+    };
+    u32::from_le_bytes(*front) == u32::from_le_bytes(*other_front)
+        && u32::from_le_bytes(*back) == u32::from_le_bytes(*other_back)
+}
+
+// Whether texts of a length, of 2 or 3 bytes, are the same: by their first and last 2.
+#[inline(always)]
+fn same_pairs(one: &[u8], other: &[u8]) -> bool
+    requires length { length one.now ≡ length other.now }
+    requires short { length one.now ≤ 4 }
+    ensures { result ≡ true → one.now ≡ other.now }
+{
+    let Some(front) = one.first_chunk::<2>() else {
+        return false;
+    };
+    let Some(other_front) = other.first_chunk::<2>() else {
+        return false;
+    };
+    let Some(back) = one.last_chunk::<2>() else {
+        return false;
+    };
+    let Some(other_back) = other.last_chunk::<2>() else {
+        return false;
+    };
+    u16::from_le_bytes(*front) == u16::from_le_bytes(*other_front)
+        && u16::from_le_bytes(*back) == u16::from_le_bytes(*other_back)
+}
+
+// Whether texts of one byte are the same.
+#[inline(always)]
+fn same_firsts(one: &[u8], other: &[u8]) -> bool
+    requires length { length one.now ≡ length other.now }
+    requires short { length one.now ≤ 1 }
+    ensures { result ≡ true → one.now ≡ other.now }
+{
+    let Some(first) = one.first() else {
+        return false;
+    };
+    let Some(other_first) = other.first() else {
+        return false;
+    };
+    *first == *other_first
 }
 
 #[inline(always)]

@@ -10,7 +10,7 @@ ghost use Rattle.gem_language.specs.prim_rules.declared.answer.PrimitiveAnswer.T
 ghost use Rattle.gem_language.specs.tree_meaning.Names.{index_of};
 ghost use Rattle.gem_language.specs.LookUp.{find_method};
 ghost use Rattle.gem_language.specs.OutOfScope.{instance_names, slot_of, read_out_of_scope, write_out_of_scope};
-ghost use Rattle.prim_parts.specs.Does.{Does};
+ghost use Rattle.prim_parts.specs.Does.{Does, IsThere};
 ghost use Rattle.prim_parts.specs.Edits.{Replaces};
 ghost use Rattle.look_up_cache.specs.Table.{held_at};
 ghost use Rattle.look_up_cache.specs.Variables.{Stands, bare_frame, SlotIsLeft};
@@ -24,7 +24,6 @@ use crate::elements::{Put, Slot, element_put, known_answer};
 use crate::finding::{keep_at, known_place, remember, renew};
 use crate::kept::MethodCodeKept;
 use crate::memory::Memory;
-use crate::objects::{is_shown, still};
 use crate::operator::{IntegerOperator, is_answered, remember_operator};
 use crate::table::held_at;
 use crate::variables::{copy_of, known_index, known_variable, remember_variable, slot_to_set};
@@ -243,8 +242,9 @@ impl<O: Objects, T: MethodCodeKept> KnownObjects<O, T> {
         class_side: bool,
         value: &Value,
     ) -> Option<Slot>
-        ensures { IfSome result (λ slot. SlotIsLeft name.now
+        ensures left { IfSome result (λ slot. SlotIsLeft name.now
             (bare_frame receiver.now holder class_side) value.now slot (O.seen self.now.0)) }
+        ensures there { IfSome result (λ slot. IsThere slot.name (O.seen self.now.0)) }
     {
         if self.holds {
             slot_to_set(
@@ -335,8 +335,9 @@ impl<O: Objects, T: MethodCodeKept> KnownObjects<O, T> {
 
     // What is left to do of a primitive that puts a value into a slot.
     fn element_put(&self, number: u8, receiver: &Value, arguments: &[Value]) -> Option<Put>
-        ensures { IfSome result (λ put. PutIsLeft
+        ensures left { IfSome result (λ put. PutIsLeft
             (rule_of number receiver.now arguments.now) put (O.seen self.now.0)) }
+        ensures there { IfSome result (λ put. IsThere put.slot.name (O.seen self.now.0)) }
     {
         if self.holds {
             element_put(&self.memory, &self.objects, number, receiver, arguments)
@@ -347,6 +348,7 @@ impl<O: Objects, T: MethodCodeKept> KnownObjects<O, T> {
 
     // Takes a unit, and then does what is left.
     fn put_after_unit(&mut self, put: Put) -> Result<Value, Stop>
+        requires { IsThere put.slot.name (O.seen self.old.0) }
         ensures put { UnitAndPut put (O.seen self.old.0) result (O.seen self.new.0) }
         ensures lacks { LacksAtMost result }
         ensures founds { self.new.1 ≡ self.old.1 }
@@ -362,25 +364,31 @@ impl<O: Objects, T: MethodCodeKept> KnownObjects<O, T> {
         ensures lacks { LacksAtMost result }
         ensures founds { self.new.1 ≡ self.old.1 }
     {
-        let result = self.objects.tick();
-        self.holds = still(self.holds, &result);
-        result
+        match self.objects.tick() {
+            Ok(()) => Ok(()),
+            Err(stop) => {
+                self.holds = false;
+                Err(stop)
+            }
+        }
     }
 
     // Puts a value in a slot of an object that was written, and keeps what is remembered.
     #[inline(always)]
     fn put_in_slot(&mut self, slot: Slot, value: Value) -> Result<(), Stop>
+        requires { IsThere slot.name (O.seen self.old.0) }
         ensures put { Replaces (λ body. 0) slot.name (with_slot slot.at value)
             (O.seen self.old.0) result (O.seen self.new.0) }
         ensures lacks { LacksAtMost result }
         ensures founds { self.new.1 ≡ self.old.1 }
     {
-        if !is_shown(&self.objects, slot.name) {
-            return Ok(());
+        match replace_slot(&mut self.objects, slot.name, slot.at, value) {
+            Ok(()) => Ok(()),
+            Err(stop) => {
+                self.holds = false;
+                Err(stop)
+            }
         }
-        let result = replace_slot(&mut self.objects, slot.name, slot.at, value);
-        self.holds = still(self.holds, &result);
-        result
     }
 
     // Reads the receiver, if it is an object. Where what is remembered holds, the object is

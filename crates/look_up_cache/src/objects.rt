@@ -172,8 +172,8 @@ impl<O: RunsChunks, T: MethodCodeKept> RunsChunks for KnownObjects<O, T> {
     }
 }
 
-/// Whether what is remembered is so after a call with this result.
-pub(crate) fn still<A>(held: bool, ended: &Result<A, Stop>) -> bool
+// Whether what is remembered is so after a call with this result.
+fn still<A>(held: bool, ended: &Result<A, Stop>) -> bool
     ensures { result ≡ (held && is_ok ended.now) }
 {
     held && ended.is_ok()
@@ -196,13 +196,6 @@ fn stays(held: bool, body: &Body) -> bool
         Body::RcDict(_) => held,
         Body::Queue(_) => held,
     }
-}
-
-/// Whether there is an object of this name.
-pub(crate) fn is_shown<O: Objects>(objects: &O, oid: Oid) -> bool
-    ensures { result ≡ is_some (object_at oid (O.seen objects.now)) }
-{
-    objects.object(oid).is_some()
 }
 
 /// Whether what is remembered is so, and there is an object of this name.

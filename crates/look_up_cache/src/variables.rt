@@ -5,6 +5,7 @@ ghost use Rattle.gem_object.specs.Edits.{plain_slots, slot_at};
 ghost use Rattle.running_objects.specs.Seen.{Seen};
 ghost use Rattle.gem_language.specs.prim_rules.Parts.{is_block};
 ghost use Rattle.gem_language.specs.OutOfScope.{read_out_of_scope};
+ghost use Rattle.prim_parts.specs.Does.{IsThere};
 ghost use Rattle.look_up_cache.specs.Table.{AllHeld};
 ghost use Rattle.look_up_cache.specs.Variables.{Stands, bare_frame, HasVariable, SlotIsLeft};
 ghost use Rattle.look_up_cache.specs.Memory.{IsPlaced, Holds};
@@ -73,9 +74,10 @@ pub(crate) fn slot_to_set<O: Objects, T>(
     class_side: bool,
     value: &Value,
 ) -> Option<Slot>
-    ensures { Holds memory.now (O.seen objects.now) → IfSome result (λ slot. SlotIsLeft
+    ensures left { Holds memory.now (O.seen objects.now) → IfSome result (λ slot. SlotIsLeft
         name.now (bare_frame receiver.now holder class_side) value.now slot
         (O.seen objects.now)) }
+    ensures there { IfSome result (λ slot. IsThere slot.name (O.seen objects.now)) }
 {
     if !is_stored(value) {
         return None;

@@ -3,7 +3,12 @@ use Rattle.gem_object.specs.declared.value.Value.{Value}
 use Rattle.running_objects.specs.declared.stop.Stop.{Stop}
 use Rattle.prim_parts.proofs.Onward.{handed}
 use Rattle.look_up_cache.specs.Elements.{UnitAndPut, no_unit, one_unit}
+use Rattle.look_up_cache.proofs.Sequences.{there_still}
 use Rattle.look_up_cache.proofs.known.KnownObjects.put_after_unit.Goals as goal
+
+pub put_in_slot-requires : goal.put_in_slot-requires
+put_in_slot-requires g c = there_still c.args.put.slot.name (g.O.Objects.seen c.args.self.now.0)
+    (g.O.Objects.seen c.take_unit.new.self.0) c.in_ok-take_unit.ensures.unit c.requires
 
 pub returns-in_err-take_unit-clause-put : goal.returns-in_err-take_unit-clause-put
 returns-in_err-take_unit-clause-put g c =

@@ -9,5 +9,5 @@ pub returns-clause-done : goal.returns-clause-done
 returns-clause-done g c =
     let before : Seen = g.O.Objects.seen c.args.self.now.0 in
     let after : Seen = g.O.Objects.seen c.put_in_slot.new.self.0 in
-    c.in_ok-slot.ensures c.put_in_slot.result after (subst (λ (value : Value). Replaces (λ body. 0) c.in_ok-slot.slot.name
+    c.in_ok-slot.ensures.left c.put_in_slot.result after (subst (λ (value : Value). Replaces (λ body. 0) c.in_ok-slot.slot.name
     (with_slot c.in_ok-slot.slot.at value) before c.put_in_slot.result after) c.in_ok-copy.ensures c.put_in_slot.ensures.put)
