@@ -1,5 +1,5 @@
 -- A primitive that evaluates its receiver.
-use Rattle.std.proofs.Common.{◌≡◌, ◌∙◌, sym, ap, subst, ℕ, ◌<◌, Bool, true, nat_eq, List, length, reverse, take, get_or, slice_get, Option, Some, Result, Ok, arith}
+use Rattle.std.proofs.Common.{◌≡◌, ◌∙◌, sym, ap, subst, ℕ, ◌<◌, Bool, true, nat_eq, List, length, reverse, take, get_or, slice_get, Option, Some, Result, Ok, Err, arith}
 use Rattle.std.proofs.lemmas.List.{length-reverse, length-take-le}
 use Rattle.std.proofs.lemmas.Option.{same_Some, slice_get-get_or}
 use Rattle.gem_object.specs.declared.value.Value.{Value}
@@ -20,7 +20,7 @@ use Rattle.gem_language.specs.Sends.{callee, primitive_value}
 use Rattle.running_objects.specs.Seen.{Seen}
 use Rattle.running_objects.specs.Ran.{Ran}
 use Rattle.running_objects.specs.declared.stop.Stop.{Stop}
-use Rattle.running_objects.proofs.Running.{ran_give, ran_seeing, ran_then}
+use Rattle.running_objects.proofs.Running.{ran_give, ran_seeing, ran_then, ran_stop}
 use Rattle.prim_parts.specs.Does.{Computes}
 use Rattle.prim_parts.proofs.Does.{does_compute, does_ran}
 
@@ -45,6 +45,21 @@ called_ran depth number own count within receiver there block evaluates {before}
     ran_then (λ (answer : PrimitiveAnswer). primitive_value (callee depth) answer)
     (does_ran (does_compute before (subst AtReceiver receiver_is
     (evaluates (reverse (take count own)) (so_many own count within)))) local) ran
+
+-- The primitive stopped.
+pub primitive_stops : (depth number : ℕ) (own : List Value) (count : ℕ) → count < length own → (receiver : Value)
+    → Some receiver ≡ slice_get own count → (arguments : List Value) → arguments ≡ reverse (take count own)
+    → {before after : Seen} {local later : Local MadeBlock} {ended : Stop}
+    → Ran (rule_of number receiver arguments) before local (Err ended) after later
+    → Ran (and_then (rule_of number (get_or own count Nil) (reverse (take count own)))
+    (λ answer. primitive_value (callee depth) answer)) before local (Err ended) after later
+primitive_stops depth number own count within receiver there arguments are {before} {after} {local} {later} {ended} ran =
+    let receiver_is : receiver ≡ get_or own count Nil =
+    same_Some receiver (get_or own count Nil) (there ∙ slice_get-get_or own count Nil within) in
+    let AtReceiver : Value → Type 0 = λ one. Ran (rule_of number one (reverse (take count own))) before local (Err ended) after later in
+    let AtArguments : List Value → Type 0 = λ all. Ran (rule_of number receiver all) before local (Err ended) after later in
+    ran_stop (λ (answer : PrimitiveAnswer). primitive_value (callee depth) answer)
+    (subst AtReceiver receiver_is (subst AtArguments are ran))
 
 -- The block of a number was called with so many arguments as it takes.
 pub block_ran : (call : MadeBlock → List Value → ValueRun) (number : ℕ) (arguments : List Value)

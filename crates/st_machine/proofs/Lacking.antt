@@ -10,7 +10,7 @@ use Rattle.running_objects.specs.declared.stop.Stop.{Stop}
 use Rattle.look_up_cache.specs.Elements.{ended_by}
 use Rattle.st_machine.specs.AtOnce.{giving, assigning}
 use Rattle.st_machine.specs.Lacks.{stop_of, stopped_by, LackTurned}
-use Rattle.st_machine.specs.Led.{LedTo, TurnedTo}
+use Rattle.st_machine.specs.Led.{AskedTo, TurnedTo}
 use Rattle.st_machine.specs.declared.flow.Turn.{Turn}
 use Rattle.st_machine.specs.declared.flow.Turn.TheVariants as turn
 use Rattle.st_machine.specs.declared.lack.Lack.{Lack}
@@ -18,7 +18,7 @@ use Rattle.st_machine.specs.declared.lack.Lack.TheVariants as lack
 
 module _ (end : Next → Next → CodeEnd) where
   pub lack_turned : (lacking : Lack) (result : Result Turn AllocError) → LackTurned lacking result → (stack : List Value)
-      (frame : Frame) (state : State MadeBlock) → LedTo end (Err (stop_of lacking)) stack frame state
+      (frame : Frame) (state : State MadeBlock) → AskedTo end (Err (stop_of lacking)) stack frame state
       → TurnedTo end result stack frame state
   lack_turned lack.Unit (Ok turn.NoUnit) turned stack frame state led = led
   lack_turned lack.Room (Ok turn.TooLarge) turned stack frame state led = led

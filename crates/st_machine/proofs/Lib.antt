@@ -18,3 +18,6 @@ pub mod MoreNils
 pub mod Taken
 pub mod Evaluated
 pub mod Calls
+pub mod Called
+pub mod KeptOwn
+pub mod Flows

@@ -28,12 +28,12 @@ use Rattle.st_compiler.specs.Instruction.{Instruction, PushSelf, PushNil, PushTr
 use Rattle.st_compiler.specs.Code.{Piece}
 use Rattle.st_commands.specs.Leaving.{LeftSo}
 use Rattle.st_commands.proofs.Activations.{activation_ran}
-use Rattle.st_machine.specs.Led.{LedBy}
+use Rattle.st_machine.specs.Led.{AskedBy}
 use Rattle.st_machine.specs.Parts.{table_of, part_code, part_run}
 use Rattle.look_up_cache.specs.Variables.{bare_frame}
 use Rattle.st_machine.specs.Quick.{IsPut, put_value, IsQuick, at_home}
 use Rattle.st_machine.specs.declared.shared_code.Part.TheVariants.{Whole}
-use Rattle.st_machine.specs.declared.flow.Flow.TheVariants.{Goes}
+use Rattle.st_machine.specs.declared.flow.Asked.TheVariants as asked
 use Rattle.st_machine.proofs.Outlines.{read_ran, method_ran_by}
 use Rattle.st_machine.proofs.PartRuns.{part_runs}
 use Rattle.st_machine.proofs.Sent.{pushed_led, stopped}
@@ -76,12 +76,12 @@ module _ (depth : ℕ) (table : List Piece) (frame : Frame) {before now : Seen} 
   -- The instruction put the value, or it stopped.
   put_led : (answer : Value) (one : Instruction) → IsPut one
       → Ran (put_value one frame) before local (Ok answer) now local
-      → LedBy (outside depth) table one 0 [] frame.scopes frame before local (Ok (Goes 1)) (answer ∷ [])
+      → AskedBy (outside depth) table one 0 [] frame.scopes frame before local (Ok (asked.Goes 1)) (answer ∷ [])
       frame.scopes now local
   unfolding outside
   put_led answer one is =
       by_put (λ (at : Instruction). Ran (put_value at frame) before local (Ok answer) now local
-      → LedBy (outside depth) table at 0 [] frame.scopes frame before local (Ok (Goes 1)) (answer ∷ [])
+      → AskedBy (outside depth) table at 0 [] frame.scopes frame before local (Ok (asked.Goes 1)) (answer ∷ [])
       frame.scopes now local)
       (λ ran. pushed_led (give frame.receiver) 0 1 [] (answer ∷ []) frame answer refl refl ran)
       (λ ran. pushed_led (give value.Nil) 0 1 [] (answer ∷ []) frame answer refl refl ran)
@@ -93,11 +93,11 @@ module _ (depth : ℕ) (table : List Piece) (frame : Frame) {before now : Seen} 
 
   put_stops : (ended : Stop) (one : Instruction) → IsPut one
       → Ran (put_value one frame) before local (Err ended) now local
-      → LedBy (outside depth) table one 0 [] frame.scopes frame before local (Err ended) [] frame.scopes now local
+      → AskedBy (outside depth) table one 0 [] frame.scopes frame before local (Err ended) [] frame.scopes now local
   unfolding outside
   put_stops ended one is =
       by_put (λ (at : Instruction). Ran (put_value at frame) before local (Err ended) now local
-      → LedBy (outside depth) table at 0 [] frame.scopes frame before local (Err ended) [] frame.scopes now local)
+      → AskedBy (outside depth) table at 0 [] frame.scopes frame before local (Err ended) [] frame.scopes now local)
       (λ ran. stopped (give frame.receiver) ended (λ next back given state. next 1 (given ∷ []) frame state) [] frame ran)
       (λ ran. stopped (give value.Nil) ended (λ next back given state. next 1 (given ∷ []) frame state) [] frame ran)
       (λ ran. stopped (give value.True) ended (λ next back given state. next 1 (given ∷ []) frame state) [] frame ran)

@@ -23,8 +23,8 @@ use Rattle.st_compiler.specs.Code.{Piece}
 use Rattle.st_compiler.specs.Machine.{CodeEnd, Next, after, does, on_top, on_piece}
 use Rattle.st_compiler.specs.TreeCode.{send_op}
 use Rattle.st_machine.specs.Parts.{table_of, piece_of, made_of, framed}
-use Rattle.st_machine.specs.Led.{LedTo, LedBy}
-use Rattle.st_machine.specs.declared.flow.Flow.TheVariants.{Goes, Stuck}
+use Rattle.st_machine.specs.Led.{AskedTo, AskedBy}
+use Rattle.st_machine.specs.declared.flow.Asked.TheVariants as asked
 use Rattle.st_machine.proofs.Ends.{receiver_first}
 
 -- A program whose answer is put on the stack, and one that stopped.
@@ -37,7 +37,7 @@ answered {A} program answer further ran =
 pub stopped : (program : ValueRun) {before now : Seen} {local later : Local MadeBlock} (ended : Stop)
     (further : Next → Next → Value → State MadeBlock → CodeEnd) (left : List Value) (frame : Frame)
     → Ran program before local (Err ended) now later
-    → LedTo (λ next back. does program before.setting (with_local before local) (further next back)) (Err ended)
+    → AskedTo (λ next back. does program before.setting (with_local before local) (further next back)) (Err ended)
     left frame (with_local now later)
 stopped program (stop.Fails fault) further left frame ran = λ next back.
     ap (λ (outcome : Outcome MadeBlock Value). after outcome.end outcome.state (further next back)) ran.ends
@@ -86,8 +86,8 @@ module _ (depth : ℕ) (table : List Piece) (selector : Text) (count : ℕ) (pla
       → there ≡ suc place → inner ≡ scopes → left ≡ answer ∷ drop (suc count) stack
       → Ran (send_by (callee depth) to_super selector (framed scopes frame) (get_or stack count Nil)
       (take count stack)) before local (Ok answer) now later
-      → LedBy (outside depth) table (send_op to_super selector count) place stack scopes frame before local
-      (Ok (Goes there)) left inner now later
+      → AskedBy (outside depth) table (send_op to_super selector count) place stack scopes frame before local
+      (Ok (asked.Goes there)) left inner now later
   unfolding outside
   sent_answers false within answer left there is_there same_scopes is_left ran = λ next back.
       sent_to (λ receiver. send_by (callee depth) false selector (framed scopes frame) receiver (take count stack))
@@ -99,7 +99,7 @@ module _ (depth : ℕ) (table : List Piece) (selector : Text) (count : ℕ) (pla
   -- The message stopped.
   over_receiver : (message : Value → ValueRun) → count < length stack → (ended : Stop) (left : List Value)
       → Ran (message (get_or stack count Nil)) before local (Err ended) now later
-      → LedTo (λ next back. on_top (drop count stack) (λ receiver rest.
+      → AskedTo (λ next back. on_top (drop count stack) (λ receiver rest.
       does (message receiver) before.setting (with_local before local) (λ answer state.
       next (suc place) (answer ∷ rest) (framed scopes frame) state))) (Err ended) left (framed inner frame)
       (with_local now later)
@@ -114,7 +114,7 @@ module _ (depth : ℕ) (table : List Piece) (selector : Text) (count : ℕ) (pla
   pub sent_stops : (to_super : Bool) → count < length stack → (ended : Stop) (left : List Value)
       → Ran (send_by (callee depth) to_super selector (framed scopes frame) (get_or stack count Nil)
       (take count stack)) before local (Err ended) now later
-      → LedBy (outside depth) table (send_op to_super selector count) place stack scopes frame before local
+      → AskedBy (outside depth) table (send_op to_super selector count) place stack scopes frame before local
       (Err ended) left inner now later
   unfolding outside
   sent_stops false within ended left ran =
@@ -126,8 +126,8 @@ module _ (depth : ℕ) (table : List Piece) (selector : Text) (count : ℕ) (pla
 
   -- Where the receiver isn't there.
   pub none_sent : (to_super : Bool) → length stack ≤ count → (left : List Value)
-      → LedBy (outside depth) table (send_op to_super selector count) place stack scopes frame before local
-      (Ok Stuck) left inner now later
+      → AskedBy (outside depth) table (send_op to_super selector count) place stack scopes frame before local
+      (Ok asked.Stuck) left inner now later
   none_sent false past left = λ next back. ap (λ (items : List Value). on_top items (λ receiver rest.
       does ((outside depth).send_message false selector (framed scopes frame) receiver (take count stack))
       before.setting (with_local before local) (λ answer state.
@@ -168,7 +168,7 @@ module _ (program : Value → ValueRun) where
   pub replaced_stops : (place : ℕ) (stack : List Value) (first : Value) (rest left : List Value) (frame : Frame)
       {before now : Seen} {local later : Local MadeBlock} (ended : Stop) → stack ≡ first ∷ rest
       → Ran (program first) before local (Err ended) now later
-      → LedTo (λ next back. taking place stack frame before local next) (Err ended) left frame (with_local now later)
+      → AskedTo (λ next back. taking place stack frame before local next) (Err ended) left frame (with_local now later)
   replaced_stops place stack first rest left frame {before} {now} {local} {later} (stop.Fails fault) is ran = λ next back.
       ap (λ (items : List Value). taking place items frame before local next) is
       ∙ stopped (program first) (stop.Fails fault) (λ next back value state. next (suc place) (value ∷ rest) frame state)
@@ -191,7 +191,7 @@ module _ (program : Value → ValueRun) where
 
   pub stored_stops : (place : ℕ) (stack : List Value) (first : Value) → Some first ≡ slice_get stack 0 → (frame : Frame)
       {before now : Seen} {local later : Local MadeBlock} (ended : Stop) → Ran (program first) before local (Err ended) now later
-      → LedTo (λ next back. taking place stack frame before local next) (Err ended) stack frame (with_local now later)
+      → AskedTo (λ next back. taking place stack frame before local next) (Err ended) stack frame (with_local now later)
   stored_stops place [] first is frame ended ran = absurd (none-some first (sym is))
   stored_stops place (top ∷ rest) first is frame ended ran =
       replaced_stops place (top ∷ rest) first rest (top ∷ rest) frame ended

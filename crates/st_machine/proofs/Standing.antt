@@ -19,8 +19,8 @@ use Rattle.st_compiler.specs.Code.{Piece}
 use Rattle.st_compiler.specs.Machine.{CodeEnd, over, ran_out, stuck, Next, act, straight, execute}
 use Rattle.st_compiler.specs.Runs.{Runs}
 use Rattle.st_machine.specs.Parts.{framed}
-use Rattle.st_machine.specs.Led.{LedBy, TurnedBy}
-use Rattle.st_machine.specs.declared.flow.Flow.TheVariants.{Goes, Leaves, Stuck}
+use Rattle.st_machine.specs.Led.{AskedBy, TurnedBy}
+use Rattle.st_machine.specs.declared.flow.Asked.TheVariants as asked
 use Rattle.st_machine.specs.declared.flow.Turn.TheVariants as turn
 
 -- an end is none of the others
@@ -145,7 +145,7 @@ module _ (outside : Outside) (table : List Piece) (code : List Instruction) wher
       (standing : Standing program before begun place stack (framed scopes frame) now local)
       (one : Instruction) (at : slice_get code place ≡ Some one) (keeps : Keeps now after) where
     pub stands_next : (there : ℕ)
-        → LedBy outside table one place stack scopes frame now local (Ok (Goes there)) left inner after later
+        → AskedBy outside table one place stack scopes frame now local (Ok (asked.Goes there)) left inner after later
         → Standing program before begun there left (framed inner frame) after later
     stands_next there led =
         let outcome = perform program before.setting (with_local before begun) in
@@ -171,7 +171,8 @@ module _ (outside : Outside) (table : List Piece) (code : List Instruction) wher
         }
 
     pub stands_leaves : (answer : Value)
-        → LedBy outside table one place stack scopes frame now local (Ok (Leaves answer)) left inner after later
+        → ((next back : Next) → act outside now.setting table (Some one) next back place stack (framed scopes frame)
+        (with_local now local) ≡ over (record { end = gives answer; state = with_local after later }))
         → Ran program before begun (Ok answer) after later
     stands_leaves answer led = record {
       keeps = keeps_along standing.keeps keeps;
@@ -181,7 +182,7 @@ module _ (outside : Outside) (table : List Piece) (code : List Instruction) wher
     }
 
     pub stands_stop : (ended : Stop)
-        → LedBy outside table one place stack scopes frame now local (Err ended) left inner after later
+        → AskedBy outside table one place stack scopes frame now local (Err ended) left inner after later
         → Ran program before begun (Err ended) after later
     stands_stop (stop.Fails fault) led = record {
       keeps = keeps_along standing.keeps keeps;
@@ -198,7 +199,7 @@ module _ (outside : Outside) (table : List Piece) (code : List Instruction) wher
     stands_stop stop.NoMemory led = record { keeps = keeps_along standing.keeps keeps; ends = tt }
 
     pub never_stuck :
-        LedBy outside table one place stack scopes frame now local (Ok Stuck) left inner after later → ⊥
+        AskedBy outside table one place stack scopes frame now local (Ok asked.Stuck) left inner after later → ⊥
     never_stuck led =
         on_stuck now.setting (perform program before.setting (with_local before begun)) one place stack
         (framed scopes frame) (with_local now local) at led standing.ends

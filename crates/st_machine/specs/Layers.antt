@@ -22,14 +22,14 @@ abbrev pub ended : {A : Type 0} → ℕ → Layers A → Layers A
 ended base layers =
     record { own = reverse (drop base layers.below); below = take base layers.below }
 
+-- The same where what the one that ends has put there stays, above what that one had put.
+abbrev pub kept : {A : Type 0} → ℕ → Layers A → Layers A
+kept base layers = record {
+  own = layers.own ++ reverse (drop base layers.below);
+  below = take base layers.below;
+}
+
 -- the uppermost item was taken away, where there is one
 abbrev pub Popped : {A : Type 0} → Option A → (before after : List A) → Type 0
 Popped None before after = (before ≡ []) × (after ≡ [])
 Popped (Some item) before after = before ≡ item ∷ after
-
--- the only item was taken away, where there is only one
-abbrev pub OnlyTaken : {A : Type 0} → (before : List A) → Option A → Type 0
-OnlyTaken [] None = Unit {0}
-OnlyTaken (first ∷ second ∷ rest) None = Unit {0}
-OnlyTaken before None = ⊥
-OnlyTaken before (Some item) = before ≡ item ∷ []

@@ -3,9 +3,9 @@ pub mod Parts
 pub mod Led
 pub mod Methods
 pub mod Targets
-pub mod Known
 pub mod AtOnce
 pub mod Lacks
 pub mod Ready
 pub mod Quick
 pub mod Variables
+pub mod Called

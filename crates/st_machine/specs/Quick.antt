@@ -1,5 +1,5 @@
 -- Methods that answer by one push: one instruction puts a value, and the next returns it.
-use Rattle.std.specs.Prelude.{◌≡◌, ℕ, Bool, nat_eq, cond, List, [], ◌∷◌, slice_get, Option, None, Some, Result, Ok, Err}
+use Rattle.std.specs.Prelude.{◌≡◌, ℕ, Bool, nat_eq, cond, List, ◌∷◌, slice_get, Option, None, Some, Result, Ok, Err}
 use Rattle.st_tree.specs.Trees.{Program}
 use Rattle.gem_object.specs.declared.value.Value.{Value}
 use Rattle.gem_object.specs.declared.value.Value.TheVariants as value

@@ -24,6 +24,7 @@ use Rattle.running_objects.specs.Acted.{Acted}
 use Rattle.running_objects.specs.Seen.{Seen}
 use Rattle.running_objects.specs.Ran.{Ran}
 use Rattle.running_objects.specs.declared.stop.Stop.{Stop}
+use Rattle.running_objects.specs.declared.stop.Stop.TheVariants as stop
 use Rattle.look_up_cache.specs.Memory.{with_budget}
 use Rattle.look_up_cache.specs.Table.{held_at}
 use Rattle.st_compiler.specs.Instruction.{Instruction, Send}
@@ -56,6 +57,12 @@ call_of callee selector (Method tree holder class_side) receiver arguments =
 abbrev pub IsCallable : Target → Type 0
 IsCallable (Method tree holder class_side) = tree.selector ≡ Some (selector_of tree)
 IsCallable target = Unit {0}
+
+-- nothing answers the message, or no memory was found to say so
+abbrev pub IsNotUnderstood : (selector : Text) → Stop → Type 0
+IsNotUnderstood selector (stop.Fails (fault.NotUnderstood name)) = name ≡ selector
+IsNotUnderstood selector stop.NoMemory = Unit {0}
+IsNotUnderstood selector other = ⊥
 
 -- The look-up ran, and leads to what answers by what it found.
 abbrev pub LeadsTo : Run MadeBlock (Option Found) → Seen → Local MadeBlock → Result Target Stop

@@ -106,7 +106,7 @@ pub(crate) fn read_name<O: FindsMethods>(
 }
 
 /// The same where it is known without a look at any object.
-#[inline(never)]
+#[inline(always)]
 pub(crate) fn known_variable<O: FindsMethods>(
     objects: &O,
     locals: &Locals,

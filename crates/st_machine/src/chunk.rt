@@ -10,16 +10,17 @@ ghost use Rattle.gem_language.specs.Sends.{outside, chunk_value};
 ghost use Rattle.running_objects.specs.Ran.{Ran};
 
 use crate::cache::CodeCache;
+use crate::ended::Called;
 use crate::finds::FindsMethods;
 use crate::layers::Layers;
 use crate::locals::Locals;
 use crate::machine::run_inside;
 use crate::outline::Outline;
+use crate::returns::end_method;
 use crate::shared_code::{Part, SharedCode};
 use gem_object::{Oid, Value};
 use gem_sound::names::UNDEFINED_OBJECT_CLASS;
 use running_objects::{ACTIVATION_LIMIT, Stop};
-use st_commands::leave_method;
 use std::alloc::Global;
 
 /// How many activations may begin in a chunk, which is the first one itself.
@@ -75,6 +76,7 @@ fn activate_chunk<O: FindsMethods>(
         UNDEFINED_OBJECT_CLASS false Nil []) (O.seen objects.old) locals.old result
         (O.seen objects.new) locals.new }
 {
+    let mut why = Stop::NoMemory;
     let mut stack = Layers::new(alloc);
     let mut chain = Layers::new(alloc);
     let mark = locals.mark();
@@ -88,6 +90,7 @@ fn activate_chunk<O: FindsMethods>(
         &mut stack,
         &mut chain,
         cache,
+        &mut why,
         &frame,
         &[],
         mark,
@@ -95,5 +98,13 @@ fn activate_chunk<O: FindsMethods>(
         Part::Whole,
         depth,
     );
-    leave_method(objects, locals, mark, ended)
+    match end_method(objects, locals, &mut stack, &mut why, mark, ended) {
+        Called::Answers => {
+            let Some(answer) = stack.pop() else {
+                unreachable!()
+            };
+            Ok(answer)
+        }
+        Called::Stopped => Err(why),
+    }
 }

@@ -1,18 +1,31 @@
 //! What an instruction leads to.
 ghost use Rattle.std.specs.Prelude.{◌≡◌};
+ghost use Rattle.st_machine.specs.Led.{FlowOf};
 
-use gem_object::Value;
 use running_objects::Stop;
 use std::alloc::AllocError;
 
-/// What an instruction leads to that sends, makes an object or a block, asks for a name or ends,
-/// where it doesn't stop the run.
-#[derive(Debug, Drop)]
+/// What an instruction leads to that makes an object or a block or asks for a name, where it
+/// doesn't stop the run.
+#[derive(Clone, Copy, Debug)]
+pub(crate) enum Asked {
+    /// The instruction at this place, further on.
+    Goes(usize),
+    /// It couldn't be carried out. No code that was compiled comes to this.
+    Stuck,
+}
+
+/// What an instruction leads to that `turn` leaves.
+#[derive(Clone, Copy, Debug)]
 pub(crate) enum Flow {
     /// The instruction at this place, further on.
     Goes(usize),
-    /// The part ends with this answer.
-    Leaves(Value),
+    /// The part answers the only value on the stack.
+    Answers,
+    /// The only value on the stack returns to the home of the activation.
+    Returns,
+    /// The run stops. Why is told beside it.
+    Stopped,
     /// It couldn't be carried out. No code that was compiled comes to this.
     Stuck,
 }
@@ -62,15 +75,17 @@ pub(crate) fn again(turned: Turned) -> Turned
     }
 }
 
-/// The same of what an instruction leads to that `turn` leaves.
+/// What an instruction leads to that came to this, and why it stops.
 #[inline(always)]
-pub(crate) fn led_again(led: Result<Flow, Stop>) -> Result<Flow, Stop>
-    ensures { result ≡ led }
+pub(crate) fn flow_of(why: &mut Stop, asked: Result<Asked, Stop>) -> Flow
+    ensures { FlowOf asked result why.new }
 {
-    match led {
-        Ok(Flow::Goes(place)) => Ok(Flow::Goes(place)),
-        Ok(Flow::Leaves(answer)) => Ok(Flow::Leaves(answer)),
-        Ok(Flow::Stuck) => Ok(Flow::Stuck),
-        Err(stop) => Err(stop),
+    match asked {
+        Ok(Asked::Goes(place)) => Flow::Goes(place),
+        Ok(Asked::Stuck) => Flow::Stuck,
+        Err(stop) => {
+            *why = stop;
+            Flow::Stopped
+        }
     }
 }

@@ -12,7 +12,6 @@ ghost use Rattle.st_compiler.specs.Emitted.{instruction_of};
 ghost use Rattle.st_compiler.specs.Instruction.{PushName, Send};
 ghost use Rattle.st_machine.specs.AtOnce.{IsReady};
 ghost use Rattle.st_machine.specs.Led.{TurnedBy, TurnsForward, IfDone, IfLeft};
-ghost use Rattle.st_machine.specs.Known.{IfAnswered, IfUnanswered};
 ghost use Rattle.st_machine.specs.Parts.{framed, table_of};
 ghost use Rattle.look_up_cache.specs.Variables.{bare_frame};
 ghost use Rattle.st_machine.specs.Quick.{constant_put, Replaced, AnswersQuickly, PushedAtOnce};
@@ -99,16 +98,22 @@ fn send_looked_up<O: FindsMethods>(
     ensures own { IfLeft result (λ _. stack.new.own ≡ stack.old.own) }
     ensures below { stack.new.below ≡ stack.old.below }
 {
+    let known = place_of_answer(objects, locals, stack, chain, frame, selector, count);
     if count == 2 {
-        let at = place_of_answer(objects, locals, stack, chain, frame, selector, count);
         return again(send_changing(
-            objects, locals, stack, chain, frame, code, selector, count, at, place, depth,
+            objects, locals, stack, chain, frame, code, selector, count, known, place, depth,
         ));
     }
-    match answer_known(objects, locals, stack, chain, frame, selector, count, depth) {
-        Known::Answered => Turned::Done(spend_unit(objects, place)),
-        Known::Unanswered(at) => Turned::Left(at),
+    let Some(at) = known else {
+        return Turned::Left(None);
+    };
+    if depth == 0 {
+        return Turned::Left(known);
     }
+    if put_at(objects, stack, at, count) {
+        return Turned::Done(spend_unit(objects, place));
+    }
+    Turned::Left(known)
 }
 
 /// Puts the answer to an operator in place of its receiver and its argument, where it is known that
@@ -160,54 +165,6 @@ fn operator_for(stack: &Layers<Value>, selector: &Text, count: usize) -> Option<
     IntegerOperator::of(selector)
 }
 
-/// What is known of a message.
-#[derive(Debug)]
-enum Known {
-    /// Its answer: it stands in place of the receiver and the arguments.
-    Answered,
-    /// No answer, but the place at which what answers it stands, where that is known.
-    Unanswered(Option<usize>),
-}
-
-/// Puts the answer to a message in place of its receiver and of so many arguments, which stand on
-/// the stack above it, where the answer is known. Its unit isn't taken yet. Else all is as before.
-#[inline(never)]
-fn answer_known<O: FindsMethods>(
-    objects: &O,
-    locals: &Locals,
-    stack: &mut Layers<Value>,
-    chain: &Layers<Mark>,
-    frame: &Outline,
-    selector: &Text,
-    count: usize,
-    depth: u32,
-) -> Known
-    requires { count < length stack.old.own }
-    ensures answered { IfAnswered result ((budget : Budget) → Answered
-        (found_by (callee depth) selector.now (framed chain.now.own frame.now)
-        (get_or stack.old.own count Nil) (take count stack.old.own))
-        (with_budget budget (O.seen objects.now)) locals.now (drop (suc count) stack.old.own)
-        stack.new.own) }
-    ensures place { IfUnanswered result (λ at. AnswersAt (Send selector.now count) stack.old.own
-        (framed chain.now.own frame.now) (O.seen objects.now) locals.now (O.founds objects.now)
-        at) }
-    ensures unknown { IfUnanswered result (λ _. stack.new.own ≡ stack.old.own) }
-    ensures below { stack.new.below ≡ stack.old.below }
-{
-    let known = place_of_answer(objects, locals, stack, chain, frame, selector, count);
-    if depth == 0 {
-        return Known::Unanswered(known);
-    }
-    let Some(at) = known else {
-        return Known::Unanswered(None);
-    };
-    if put_at(objects, stack, at, count) {
-        Known::Answered
-    } else {
-        Known::Unanswered(known)
-    }
-}
-
 /// The place at which what answers a message with so many arguments stands, where that is known.
 fn place_of_answer<O: FindsMethods>(
     objects: &O,
@@ -231,6 +188,7 @@ fn place_of_answer<O: FindsMethods>(
 /// Puts the answer of the method that stands at a place in place of the receiver and of so many
 /// arguments above it, where it answers by one push or is a primitive that is ready. Else false,
 /// and all is as before.
+#[inline(never)]
 fn put_at<O: FindsMethods>(objects: &O, stack: &mut Layers<Value>, at: usize, count: usize) -> bool
     requires { count < length stack.old.own }
     ensures put { result ≡ true → PutBy (held_at (O.founds objects.now) at)

@@ -1,6 +1,6 @@
 //! A stack that all activations share.
 ghost use Rattle.std.specs.Prelude.{◌≡◌, ◌≤◌, [], ◌∷◌, ◌++◌, length, reverse, take, drop, set, slice_get, option_copied, OnOk, OnErr};
-ghost use Rattle.st_machine.specs.Layers.{nothing_on, begun, ended, Popped};
+ghost use Rattle.st_machine.specs.Layers.{nothing_on, begun, ended, kept, Popped};
 
 use list_stack::ListStack;
 use std::alloc::{AllocError, Global};
@@ -163,6 +163,16 @@ impl<T: Drop> Layers<T> {
         ensures { self.new ≡ ended base self.old }
     {
         self.items.truncate(self.base);
+        self.base = base;
+    }
+
+    /// The same, but what the activation has put there stays, above what the one that goes on has
+    /// put.
+    #[inline(always)]
+    pub(crate) fn end_keeping(&mut self, base: usize)
+        requires { base ≤ length self.old.below }
+        ensures { self.new ≡ kept base self.old }
+    {
         self.base = base;
     }
 }

@@ -11,6 +11,7 @@ mod chunk;
 mod code_block;
 mod command;
 mod conditions;
+mod ended;
 mod finds;
 mod flow;
 mod jumps;

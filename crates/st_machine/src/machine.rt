@@ -15,34 +15,38 @@ ghost use Rattle.gem_language.specs.Commands.{selector_of};
 ghost use Rattle.gem_language.specs.Sends.{outside, callee, send_by, primitive_value};
 ghost use Rattle.running_objects.specs.Seen.{Keeps};
 ghost use Rattle.running_objects.specs.Ran.{Ran};
+ghost use Rattle.look_up_cache.specs.Table.{held_at};
+ghost use Rattle.st_machine.specs.declared.target.Target.TheVariants.{Method};
 ghost use Rattle.st_compiler.specs.TreeCode.{send_op};
 ghost use Rattle.st_compiler.specs.Emitted.{instruction_of, instructions};
+ghost use Rattle.st_machine.specs.Called.{called_as, ended_as, IfAnswers, IfEnds, IsAbove, LeftAs};
 ghost use Rattle.st_machine.specs.Led.{LedBy, IsForward, IsAsked};
 ghost use Rattle.st_machine.specs.Parts.{table_of, HasPart, part_run, framed};
-ghost use Rattle.st_machine.specs.Targets.{IsCallable, call_of, AnswersAt, StandsAt};
+ghost use Rattle.st_machine.specs.Targets.{IsCallable, IsNotUnderstood, call_of, target_for, AnswersAt, StandsAt};
 
 use crate::blocks::block_called;
 use crate::border::primitive;
 use crate::cache::CodeCache;
 use crate::code_block::CodeBlock;
+use crate::ended::{Called, Ended};
 use crate::finds::FindsMethods;
-use crate::flow::{Flow, Turn, Turned, led_again};
+use crate::flow::{Flow, Turn, Turned, flow_of};
 use crate::layers::Layers;
 use crate::locals::Locals;
 use crate::names::{push_block, push_name, store_name};
 use crate::outline::Outline;
 use crate::places::next_of;
 use crate::pushes::make_literal;
-use crate::quick::{answer_quickly, quick_instr};
-use crate::returns::{return_block, return_home, return_method};
+use crate::quick::{call_quickly, quick_instr};
+use crate::returns::{end_block, end_method, return_block, return_home, return_method};
 use crate::scopes::put_scopes;
 use crate::shared_code::{Part, SharedCode};
-use crate::target::{Target, target_of, target_with_unit};
+use crate::target::{KeptMethod, Target, kept_method, target_of, target_with_unit};
 use crate::turns::turn;
 use gem_object::{Oid, Text, Value};
 use prim_parts::PrimitiveAnswer;
 use running_objects::{Fault, Stop};
-use st_commands::{leave_block, leave_method, take_unit};
+use st_commands::take_unit;
 use st_compiler::Instr;
 use std::alloc::Global;
 use tree_meaning::Mark;
@@ -57,15 +61,18 @@ pub(crate) fn execute<O: FindsMethods>(
     stack: &mut Layers<Value>,
     chain: &mut Layers<Mark>,
     cache: &mut CodeCache,
+    why: &mut Stop,
     frame: &Outline,
     code: &SharedCode,
     part: Part,
     depth: u32,
-) -> Result<Value, Stop>
+) -> Ended
     requires part { HasPart code.now part }
     requires empty { stack.old.own ≡ [] }
     ensures ran { Ran (part_run (outside depth) code.now part (framed chain.old.own frame.now))
-        (O.seen objects.old) locals.old result (O.seen objects.new) locals.new }
+        (O.seen objects.old) locals.old
+        (ended_as frame.now.home result why.new stack.new.own) (O.seen objects.new) locals.new }
+    ensures own { IfEnds result (IsAbove [] stack.new.own) }
     ensures stack { stack.new.below ≡ stack.old.below }
     ensures chain { chain.new.below ≡ chain.old.below }
 {
@@ -82,37 +89,51 @@ pub(crate) fn execute<O: FindsMethods>(
         match turned {
             Turned::Left(found) => {
                 let led = lead(
-                    alloc, objects, locals, stack, chain, cache, frame, code, instr, found, at,
-                    depth,
+                    alloc, objects, locals, stack, chain, cache, why, frame, code, instr, found,
+                    at, depth,
                 );
-                let flow = match led {
-                    Ok(flow) => flow,
-                    Err(stop) => return Err(stop),
-                };
-                match flow {
+                match led {
                     Flow::Goes(place) => at = place,
-                    Flow::Leaves(answer) => return Ok(answer),
+                    Flow::Answers => return Ended::Answers,
+                    Flow::Returns => return Ended::Returns,
+                    Flow::Stopped => return Ended::Stopped,
                     Flow::Stuck => unreachable!(),
                 }
             }
             Turned::Done(done) => {
                 let turn = match done {
                     Ok(turn) => turn,
-                    Err(_) => return Err(Stop::NoMemory),
+                    Err(_) => {
+                        *why = Stop::NoMemory;
+                        return Ended::Stopped;
+                    }
                 };
                 match turn {
                     Turn::Goes(place) => at = place,
                     Turn::Jumps(place) => {
                         let Some(more) = jumps.checked_add(1) else {
-                            return Err(Stop::NoMemory);
+                            *why = Stop::NoMemory;
+                            return Ended::Stopped;
                         };
                         jumps = more;
                         at = place;
                     }
-                    Turn::NotBoolean => return Err(Stop::Fails(Fault::NotBoolean)),
-                    Turn::ArgumentKind => return Err(Stop::Fails(Fault::ArgumentKind)),
-                    Turn::NoUnit => return Err(Stop::Fails(Fault::SendBudget)),
-                    Turn::TooLarge => return Err(Stop::Fails(Fault::ObjectTooLarge)),
+                    Turn::NotBoolean => {
+                        *why = Stop::Fails(Fault::NotBoolean);
+                        return Ended::Stopped;
+                    }
+                    Turn::ArgumentKind => {
+                        *why = Stop::Fails(Fault::ArgumentKind);
+                        return Ended::Stopped;
+                    }
+                    Turn::NoUnit => {
+                        *why = Stop::Fails(Fault::SendBudget);
+                        return Ended::Stopped;
+                    }
+                    Turn::TooLarge => {
+                        *why = Stop::Fails(Fault::ObjectTooLarge);
+                        return Ended::Stopped;
+                    }
                     Turn::Stuck => unreachable!(),
                 }
             }
@@ -140,32 +161,33 @@ fn lead<O: FindsMethods>(
     stack: &mut Layers<Value>,
     chain: &mut Layers<Mark>,
     cache: &mut CodeCache,
+    why: &mut Stop,
     frame: &Outline,
     code: &SharedCode,
     instr: &Instr,
     found: Option<usize>,
     at: usize,
     depth: u32,
-) -> Result<Flow, Stop>
+) -> Flow
     requires asked { IsAsked (instruction_of instr.now) }
     requires found { AnswersAt (instruction_of instr.now) stack.old.own
         (framed chain.old.own frame.now) (O.seen objects.old) locals.old (O.founds objects.old)
         found }
     ensures keeps { Keeps (O.seen objects.old) (O.seen objects.new) }
     ensures led { LedBy (outside depth) (table_of code.now) (instruction_of instr.now) at
-        stack.old.own chain.old.own frame.now (O.seen objects.old) locals.old result stack.new.own
-        chain.new.own (O.seen objects.new) locals.new }
-    ensures forward { IfOk result (IsForward at) }
+        stack.old.own chain.old.own frame.now (O.seen objects.old) locals.old result why.new
+        stack.new.own chain.new.own (O.seen objects.new) locals.new }
+    ensures forward { IsForward at result }
     ensures stack { stack.new.below ≡ stack.old.below }
     ensures chain { chain.new.below ≡ chain.old.below }
 {
     match found {
         Some(found) => step_found(
-            alloc, objects, locals, stack, chain, cache, frame, code, instr, found, at, depth,
+            alloc, objects, locals, stack, chain, cache, why, frame, code, instr, found, at, depth,
         ),
-        None => led_again(step(
-            alloc, objects, locals, stack, chain, cache, frame, code, instr, at, depth,
-        )),
+        None => step(
+            alloc, objects, locals, stack, chain, cache, why, frame, code, instr, at, depth,
+        ),
     }
 }
 
@@ -179,28 +201,29 @@ fn step_found<O: FindsMethods>(
     stack: &mut Layers<Value>,
     chain: &mut Layers<Mark>,
     cache: &mut CodeCache,
+    why: &mut Stop,
     frame: &Outline,
     code: &SharedCode,
     instr: &Instr,
     found: usize,
     at: usize,
     depth: u32,
-) -> Result<Flow, Stop>
+) -> Flow
     requires { StandsAt (instruction_of instr.now) stack.old.own
         (framed chain.old.own frame.now) (O.seen objects.old) locals.old (O.founds objects.old)
         found }
     ensures keeps { Keeps (O.seen objects.old) (O.seen objects.new) }
     ensures led { LedBy (outside depth) (table_of code.now) (instruction_of instr.now) at
-        stack.old.own chain.old.own frame.now (O.seen objects.old) locals.old result stack.new.own
-        chain.new.own (O.seen objects.new) locals.new }
-    ensures forward { IfOk result (IsForward at) }
+        stack.old.own chain.old.own frame.now (O.seen objects.old) locals.old result why.new
+        stack.new.own chain.new.own (O.seen objects.new) locals.new }
+    ensures forward { IsForward at result }
     ensures stack { stack.new.below ≡ stack.old.below }
     ensures chain { chain.new.below ≡ chain.old.below }
 {
     match instr {
         Instr::Send(selector, count) => send_found(
-            alloc, objects, locals, stack, chain, cache, frame, code, selector, *count, found, at,
-            depth,
+            alloc, objects, locals, stack, chain, cache, why, frame, code, selector, *count, found,
+            at, depth,
         ),
         _ => unreachable!(),
     }
@@ -216,45 +239,60 @@ fn step<O: FindsMethods>(
     stack: &mut Layers<Value>,
     chain: &mut Layers<Mark>,
     cache: &mut CodeCache,
+    why: &mut Stop,
     frame: &Outline,
     code: &SharedCode,
     instr: &Instr,
     at: usize,
     depth: u32,
-) -> Result<Flow, Stop>
+) -> Flow
     requires asked { IsAsked (instruction_of instr.now) }
     ensures keeps { Keeps (O.seen objects.old) (O.seen objects.new) }
     ensures led { LedBy (outside depth) (table_of code.now) (instruction_of instr.now) at
-        stack.old.own chain.old.own frame.now (O.seen objects.old) locals.old result stack.new.own
-        chain.new.own (O.seen objects.new) locals.new }
-    ensures forward { IfOk result (IsForward at) }
+        stack.old.own chain.old.own frame.now (O.seen objects.old) locals.old result why.new
+        stack.new.own chain.new.own (O.seen objects.new) locals.new }
+    ensures forward { IsForward at result }
     ensures stack { stack.new.below ≡ stack.old.below }
     ensures chain { chain.new.below ≡ chain.old.below }
 {
     match instr {
-        Instr::MakeLit(tree) => make_literal(
-            alloc, objects, locals, stack, chain, frame, code, tree, at, depth,
-        ),
+        Instr::MakeLit(tree) => {
+            let asked = make_literal(
+                alloc, objects, locals, stack, chain, frame, code, tree, at, depth,
+            );
+            flow_of(why, asked)
+        },
         Instr::PushName(name) => {
-            push_name(objects, locals, stack, chain, frame, code, name, at, depth)
+            let asked = push_name(objects, locals, stack, chain, frame, code, name, at, depth);
+            flow_of(why, asked)
         }
         Instr::StoreName(name) => {
-            store_name(objects, locals, stack, chain, frame, code, name, at, depth)
+            let asked = store_name(objects, locals, stack, chain, frame, code, name, at, depth);
+            flow_of(why, asked)
         }
         Instr::Send(selector, count) => send(
-            alloc, objects, locals, stack, chain, cache, frame, code, false, selector, *count, at,
-            depth,
+            alloc, objects, locals, stack, chain, cache, why, frame, code, false, selector, *count,
+            at, depth,
         ),
         Instr::SuperSend(selector, count) => send(
-            alloc, objects, locals, stack, chain, cache, frame, code, true, selector, *count, at,
-            depth,
+            alloc, objects, locals, stack, chain, cache, why, frame, code, true, selector, *count,
+            at, depth,
         ),
-        Instr::PushBlock(number) => push_block(
-            alloc, objects, locals, stack, chain, frame, code, *number, at, depth,
+        Instr::PushBlock(number) => {
+            let asked = push_block(
+                alloc, objects, locals, stack, chain, frame, code, *number, at, depth,
+            );
+            flow_of(why, asked)
+        },
+        Instr::ReturnMethod => return_method(
+            objects, locals, stack, chain, why, frame, code, at, depth,
         ),
-        Instr::ReturnMethod => return_method(objects, locals, stack, chain, frame, code, at, depth),
-        Instr::ReturnHome => return_home(objects, locals, stack, chain, frame, code, at, depth),
-        Instr::ReturnBlock => return_block(objects, locals, stack, chain, frame, code, at, depth),
+        Instr::ReturnHome => return_home(
+            objects, locals, stack, chain, why, frame, code, at, depth,
+        ),
+        Instr::ReturnBlock => return_block(
+            objects, locals, stack, chain, why, frame, code, at, depth,
+        ),
         _ => unreachable!(),
     }
 }
@@ -268,6 +306,7 @@ fn send<O: FindsMethods>(
     stack: &mut Layers<Value>,
     chain: &mut Layers<Mark>,
     cache: &mut CodeCache,
+    why: &mut Stop,
     frame: &Outline,
     code: &SharedCode,
     to_super: bool,
@@ -275,23 +314,31 @@ fn send<O: FindsMethods>(
     count: usize,
     at: usize,
     depth: u32,
-) -> Result<Flow, Stop>
+) -> Flow
     ensures keeps { Keeps (O.seen objects.old) (O.seen objects.new) }
     ensures led { LedBy (outside depth) (table_of code.now) (send_op to_super selector.now count) at
-        stack.old.own chain.old.own frame.now (O.seen objects.old) locals.old result stack.new.own
-        chain.new.own (O.seen objects.new) locals.new }
-    ensures forward { IfOk result (IsForward at) }
+        stack.old.own chain.old.own frame.now (O.seen objects.old) locals.old result why.new
+        stack.new.own chain.new.own (O.seen objects.new) locals.new }
+    ensures forward { IsForward at result }
     ensures stack { stack.new.below ≡ stack.old.below }
     ensures chain { chain.new.below ≡ chain.old.below }
 {
     if stack.height() <= count {
-        return Ok(Flow::Stuck);
+        return Flow::Stuck;
     }
-    let answer = answer_of(
-        alloc, objects, locals, stack, chain, cache, frame, to_super, selector, count, depth,
-    )?;
-    stack.push(answer)?;
-    Ok(Flow::Goes(next_of(at)?))
+    let called = answer_of(
+        alloc, objects, locals, stack, chain, cache, why, frame, to_super, selector, count, depth,
+    );
+    match called {
+        Called::Answers => {
+            let Ok(place) = next_of(at) else {
+                *why = Stop::NoMemory;
+                return Flow::Stopped;
+            };
+            Flow::Goes(place)
+        }
+        Called::Stopped => Flow::Stopped,
+    }
 }
 
 /// The same of a message where the place of what answers it is known.
@@ -304,6 +351,7 @@ fn send_found<O: FindsMethods>(
     stack: &mut Layers<Value>,
     chain: &mut Layers<Mark>,
     cache: &mut CodeCache,
+    why: &mut Stop,
     frame: &Outline,
     code: &SharedCode,
     selector: &Text,
@@ -311,26 +359,34 @@ fn send_found<O: FindsMethods>(
     found: usize,
     at: usize,
     depth: u32,
-) -> Result<Flow, Stop>
+) -> Flow
     requires { StandsAt (send_op false selector.now count) stack.old.own
         (framed chain.old.own frame.now) (O.seen objects.old) locals.old (O.founds objects.old)
         found }
     ensures keeps { Keeps (O.seen objects.old) (O.seen objects.new) }
     ensures led { LedBy (outside depth) (table_of code.now) (send_op false selector.now count) at
-        stack.old.own chain.old.own frame.now (O.seen objects.old) locals.old result stack.new.own
-        chain.new.own (O.seen objects.new) locals.new }
-    ensures forward { IfOk result (IsForward at) }
+        stack.old.own chain.old.own frame.now (O.seen objects.old) locals.old result why.new
+        stack.new.own chain.new.own (O.seen objects.new) locals.new }
+    ensures forward { IsForward at result }
     ensures stack { stack.new.below ≡ stack.old.below }
     ensures chain { chain.new.below ≡ chain.old.below }
 {
     if stack.height() <= count {
-        return Ok(Flow::Stuck);
+        return Flow::Stuck;
     }
-    let answer = answer_found(
-        alloc, objects, locals, stack, chain, cache, frame, selector, count, found, depth,
-    )?;
-    stack.push(answer)?;
-    Ok(Flow::Goes(next_of(at)?))
+    let called = answer_found(
+        alloc, objects, locals, stack, chain, cache, why, frame, selector, count, found, depth,
+    );
+    match called {
+        Called::Answers => {
+            let Ok(place) = next_of(at) else {
+                *why = Stop::NoMemory;
+                return Flow::Stopped;
+            };
+            Flow::Goes(place)
+        }
+        Called::Stopped => Flow::Stopped,
+    }
 }
 
 /// The answer to a message: a unit, the look-up, and the method.
@@ -343,30 +399,42 @@ fn answer_of<O: FindsMethods>(
     stack: &mut Layers<Value>,
     chain: &mut Layers<Mark>,
     cache: &mut CodeCache,
+    why: &mut Stop,
     frame: &Outline,
     to_super: bool,
     selector: &Text,
     count: usize,
     depth: u32,
-) -> Result<Value, Stop>
+) -> Called
     requires { count < length stack.old.own }
     ensures ran { Ran (send_by (callee depth) to_super selector.now (framed chain.old.own frame.now)
         (get_or stack.old.own count Nil) (take count stack.old.own))
-        (O.seen objects.old) locals.old result (O.seen objects.new) locals.new }
-    ensures own { IfOk result (λ _. stack.new.own ≡ drop (suc count) stack.old.own) }
+        (O.seen objects.old) locals.old (called_as result why.new stack.new.own)
+        (O.seen objects.new) locals.new }
+    ensures own { IfAnswers result (IsAbove (drop (suc count) stack.old.own) stack.new.own) }
     ensures stack { stack.new.below ≡ stack.old.below }
     ensures chain { chain.new ≡ chain.old }
 {
-    take_unit(objects, locals)?;
     let Some(receiver) = stack.item(count) else {
         unreachable!()
     };
-    let target = target_of(
-        alloc, objects, locals, chain, cache, to_super, frame, receiver, selector,
-    )?;
-    call_target(
-        alloc, objects, locals, stack, chain, cache, selector, target, count, depth,
-    )
+    match take_unit(objects, locals) {
+        Ok(()) => match target_of(
+            alloc, objects, locals, chain, cache, to_super, frame, receiver, selector,
+        ) {
+            Ok(target) => call_target(
+                alloc, objects, locals, stack, chain, cache, why, selector, target, count, depth,
+            ),
+            Err(stop) => {
+                *why = stop;
+                Called::Stopped
+            }
+        },
+        Err(stop) => {
+            *why = stop;
+            Called::Stopped
+        }
+    }
 }
 
 /// The same where the place of what answers it is known.
@@ -379,27 +447,129 @@ fn answer_found<O: FindsMethods>(
     stack: &mut Layers<Value>,
     chain: &mut Layers<Mark>,
     cache: &mut CodeCache,
+    why: &mut Stop,
     frame: &Outline,
     selector: &Text,
     count: usize,
     found: usize,
     depth: u32,
-) -> Result<Value, Stop>
+) -> Called
     requires height { count < length stack.old.own }
     requires found { StandsAt (send_op false selector.now count) stack.old.own
         (framed chain.old.own frame.now) (O.seen objects.old) locals.old (O.founds objects.old)
         found }
     ensures ran { Ran (send_by (callee depth) false selector.now (framed chain.old.own frame.now)
         (get_or stack.old.own count Nil) (take count stack.old.own))
-        (O.seen objects.old) locals.old result (O.seen objects.new) locals.new }
-    ensures own { IfOk result (λ _. stack.new.own ≡ drop (suc count) stack.old.own) }
+        (O.seen objects.old) locals.old (called_as result why.new stack.new.own)
+        (O.seen objects.new) locals.new }
+    ensures own { IfAnswers result (IsAbove (drop (suc count) stack.old.own) stack.new.own) }
     ensures stack { stack.new.below ≡ stack.old.below }
     ensures chain { chain.new ≡ chain.old }
 {
-    let target = target_with_unit(alloc, objects, cache, found)?;
-    call_target(
-        alloc, objects, locals, stack, chain, cache, selector, target, count, depth,
-    )
+    match kept_method(objects, found) {
+        Some(method) => call_kept(
+            alloc, objects, locals, stack, chain, cache, why, frame, selector, method, count,
+            found, depth,
+        ),
+        None => answer_at(
+            alloc, objects, locals, stack, chain, cache, why, frame, selector, count, found, depth,
+        ),
+    }
+}
+
+/// The same where this method with its code is kept there.
+#[cycle(machine)]
+#[inline(always)]
+fn call_kept<O: FindsMethods>(
+    alloc: Global,
+    objects: &mut O,
+    locals: &mut Locals,
+    stack: &mut Layers<Value>,
+    chain: &mut Layers<Mark>,
+    cache: &mut CodeCache,
+    why: &mut Stop,
+    frame: &Outline,
+    selector: &Text,
+    method: KeptMethod,
+    count: usize,
+    found: usize,
+    depth: u32,
+) -> Called
+    requires height { count < length stack.old.own }
+    requires found { StandsAt (send_op false selector.now count) stack.old.own
+        (framed chain.old.own frame.now) (O.seen objects.old) locals.old (O.founds objects.old)
+        found }
+    requires kept { Method method.code method.holder method.class_side
+        ≡ target_for (held_at (O.founds objects.old) found) }
+    requires callable { method.code.selector ≡ Some (selector_of method.code) }
+    ensures ran { Ran (send_by (callee depth) false selector.now (framed chain.old.own frame.now)
+        (get_or stack.old.own count Nil) (take count stack.old.own))
+        (O.seen objects.old) locals.old (called_as result why.new stack.new.own)
+        (O.seen objects.new) locals.new }
+    ensures own { IfAnswers result (IsAbove (drop (suc count) stack.old.own) stack.new.own) }
+    ensures stack { stack.new.below ≡ stack.old.below }
+    ensures chain { chain.new ≡ chain.old }
+{
+    match objects.tick() {
+        Ok(()) => call_method(
+            alloc,
+            objects,
+            locals,
+            stack,
+            chain,
+            cache,
+            why,
+            &method.code,
+            method.holder,
+            method.class_side,
+            count,
+            depth,
+        ),
+        Err(stop) => {
+            *why = stop;
+            Called::Stopped
+        }
+    }
+}
+
+/// The same where no code is kept there.
+#[cycle(machine)]
+#[inline(never)]
+fn answer_at<O: FindsMethods>(
+    alloc: Global,
+    objects: &mut O,
+    locals: &mut Locals,
+    stack: &mut Layers<Value>,
+    chain: &mut Layers<Mark>,
+    cache: &mut CodeCache,
+    why: &mut Stop,
+    frame: &Outline,
+    selector: &Text,
+    count: usize,
+    found: usize,
+    depth: u32,
+) -> Called
+    requires height { count < length stack.old.own }
+    requires found { StandsAt (send_op false selector.now count) stack.old.own
+        (framed chain.old.own frame.now) (O.seen objects.old) locals.old (O.founds objects.old)
+        found }
+    ensures ran { Ran (send_by (callee depth) false selector.now (framed chain.old.own frame.now)
+        (get_or stack.old.own count Nil) (take count stack.old.own))
+        (O.seen objects.old) locals.old (called_as result why.new stack.new.own)
+        (O.seen objects.new) locals.new }
+    ensures own { IfAnswers result (IsAbove (drop (suc count) stack.old.own) stack.new.own) }
+    ensures stack { stack.new.below ≡ stack.old.below }
+    ensures chain { chain.new ≡ chain.old }
+{
+    match target_with_unit(alloc, objects, cache, found) {
+        Ok(target) => call_target(
+            alloc, objects, locals, stack, chain, cache, why, selector, target, count, depth,
+        ),
+        Err(stop) => {
+            *why = stop;
+            Called::Stopped
+        }
+    }
 }
 
 /// What answers the message is called: E1 where nothing does.
@@ -412,28 +582,44 @@ fn call_target<O: FindsMethods>(
     stack: &mut Layers<Value>,
     chain: &mut Layers<Mark>,
     cache: &mut CodeCache,
+    why: &mut Stop,
     selector: &Text,
     target: Target,
     count: usize,
     depth: u32,
-) -> Result<Value, Stop>
+) -> Called
     requires height { count < length stack.old.own }
     requires callable { IsCallable target }
     ensures ran { Ran (call_of (callee depth) selector.now target
         (get_or stack.old.own count Nil) (reverse (take count stack.old.own)))
-        (O.seen objects.old) locals.old result (O.seen objects.new) locals.new }
-    ensures own { IfOk result (λ _. stack.new.own ≡ drop (suc count) stack.old.own) }
+        (O.seen objects.old) locals.old (called_as result why.new stack.new.own)
+        (O.seen objects.new) locals.new }
+    ensures own { IfAnswers result (IsAbove (drop (suc count) stack.old.own) stack.new.own) }
     ensures stack { stack.new.below ≡ stack.old.below }
     ensures chain { chain.new ≡ chain.old }
 {
     match target {
-        Target::Nothing => Err(Stop::Fails(Fault::NotUnderstood(selector.clone()?))),
+        Target::Nothing => {
+            *why = not_understood(selector);
+            Called::Stopped
+        }
         Target::Primitive(number) => call_primitive(
-            alloc, objects, locals, stack, chain, cache, number, count, depth,
+            alloc, objects, locals, stack, chain, cache, why, number, count, depth,
         ),
         Target::Method(code, holder, class_side) => call_method(
-            alloc, objects, locals, stack, chain, cache, &code, holder, class_side, count, depth,
+            alloc, objects, locals, stack, chain, cache, why, &code, holder, class_side, count,
+            depth,
         ),
+    }
+}
+
+/// E1 of this selector.
+fn not_understood(selector: &Text) -> Stop
+    ensures { IsNotUnderstood selector.now result }
+{
+    match selector.clone() {
+        Ok(selector) => Stop::Fails(Fault::NotUnderstood(selector)),
+        Err(_) => Stop::NoMemory,
     }
 }
 
@@ -446,16 +632,18 @@ fn call_primitive<O: FindsMethods>(
     stack: &mut Layers<Value>,
     chain: &mut Layers<Mark>,
     cache: &mut CodeCache,
+    why: &mut Stop,
     number: u8,
     count: usize,
     depth: u32,
-) -> Result<Value, Stop>
+) -> Called
     requires { count < length stack.old.own }
     ensures ran { Ran (and_then (rule_of number
         (get_or stack.old.own count Nil) (reverse (take count stack.old.own)))
         (λ answer. primitive_value (callee depth) answer))
-        (O.seen objects.old) locals.old result (O.seen objects.new) locals.new }
-    ensures own { IfOk result (λ _. stack.new.own ≡ drop (suc count) stack.old.own) }
+        (O.seen objects.old) locals.old (called_as result why.new stack.new.own)
+        (O.seen objects.new) locals.new }
+    ensures own { IfAnswers result (IsAbove (drop (suc count) stack.old.own) stack.new.own) }
     ensures stack { stack.new.below ≡ stack.old.below }
     ensures chain { chain.new ≡ chain.old }
 {
@@ -470,14 +658,24 @@ fn call_primitive<O: FindsMethods>(
             stack,
             chain,
             cache,
+            why,
             block.number,
             count,
             depth,
         );
     }
-    let answer = primitive(alloc, objects, locals, number, receiver, stack.upper(count))?;
-    stack.drop_upper(count);
-    value_of_primitive(alloc, objects, locals, stack, chain, cache, answer, depth)
+    match primitive(alloc, objects, locals, number, receiver, stack.upper(count)) {
+        Ok(answer) => {
+            stack.drop_upper(count);
+            value_of_primitive(
+                alloc, objects, locals, stack, chain, cache, why, answer, depth,
+            )
+        }
+        Err(stop) => {
+            *why = stop;
+            Called::Stopped
+        }
+    }
 }
 
 /// What a primitive's answer comes to: its value, or that of the block that it evaluates. The
@@ -490,20 +688,22 @@ fn value_of_primitive<O: FindsMethods>(
     stack: &mut Layers<Value>,
     chain: &mut Layers<Mark>,
     cache: &mut CodeCache,
+    why: &mut Stop,
     answer: PrimitiveAnswer,
     depth: u32,
-) -> Result<Value, Stop>
+) -> Called
     requires { 0 < length stack.old.own }
     ensures ran { Ran (primitive_value (callee depth) answer)
-        (O.seen objects.old) locals.old result (O.seen objects.new) locals.new }
-    ensures own { IfOk result (λ _. stack.new.own ≡ drop 1 stack.old.own) }
+        (O.seen objects.old) locals.old (called_as result why.new stack.new.own)
+        (O.seen objects.new) locals.new }
+    ensures own { IfAnswers result (IsAbove (drop 1 stack.old.own) stack.new.own) }
     ensures stack { stack.new.below ≡ stack.old.below }
     ensures chain { chain.new ≡ chain.old }
 {
     match answer {
         PrimitiveAnswer::Gives(value) => {
-            stack.drop_upper(1);
-            Ok(value)
+            stack.put(0, value);
+            Called::Answers
         }
         PrimitiveAnswer::Evaluates(block, arguments) => call_with(
             alloc,
@@ -512,6 +712,7 @@ fn value_of_primitive<O: FindsMethods>(
             stack,
             chain,
             cache,
+            why,
             block.number,
             arguments.into_items(),
             depth,
@@ -529,21 +730,26 @@ fn call_with<O: FindsMethods>(
     stack: &mut Layers<Value>,
     chain: &mut Layers<Mark>,
     cache: &mut CodeCache,
+    why: &mut Stop,
     number: u64,
     arguments: Vec<Value>,
     depth: u32,
-) -> Result<Value, Stop>
+) -> Called
     requires { 0 < length stack.old.own }
     ensures ran { Ran (call_block_at (callee depth).block number arguments.items)
-        (O.seen objects.old) locals.old result (O.seen objects.new) locals.new }
-    ensures own { IfOk result (λ _. stack.new.own ≡ drop 1 stack.old.own) }
+        (O.seen objects.old) locals.old (called_as result why.new stack.new.own)
+        (O.seen objects.new) locals.new }
+    ensures own { IfAnswers result (IsAbove (drop 1 stack.old.own) stack.new.own) }
     ensures stack { stack.new.below ≡ stack.old.below }
     ensures chain { chain.new ≡ chain.old }
 {
     let count = arguments.len();
-    stack.push_all(arguments)?;
+    let Ok(()) = stack.push_all(arguments) else {
+        *why = Stop::NoMemory;
+        return Called::Stopped;
+    };
     call_block(
-        alloc, objects, locals, stack, chain, cache, number, count, depth,
+        alloc, objects, locals, stack, chain, cache, why, number, count, depth,
     )
 }
 
@@ -557,30 +763,34 @@ fn call_method<O: FindsMethods>(
     stack: &mut Layers<Value>,
     chain: &mut Layers<Mark>,
     cache: &mut CodeCache,
+    why: &mut Stop,
     code: &SharedCode,
     holder: Oid,
     class_side: bool,
     count: usize,
     depth: u32,
-) -> Result<Value, Stop>
+) -> Called
     requires height { count < length stack.old.own }
     requires method { code.now.selector ≡ Some (selector_of code.now) }
     ensures ran { Ran ((callee depth).method code.now holder class_side
         (get_or stack.old.own count Nil) (reverse (take count stack.old.own)))
-        (O.seen objects.old) locals.old result (O.seen objects.new) locals.new }
-    ensures own { IfOk result (λ _. stack.new.own ≡ drop (suc count) stack.old.own) }
+        (O.seen objects.old) locals.old (called_as result why.new stack.new.own)
+        (O.seen objects.new) locals.new }
+    ensures own { IfAnswers result (IsAbove (drop (suc count) stack.old.own) stack.new.own) }
     ensures stack { stack.new.below ≡ stack.old.below }
     ensures chain { chain.new ≡ chain.old }
 {
     if depth == 0 {
-        return Err(Stop::Fails(Fault::Depth));
+        *why = Stop::Fails(Fault::Depth);
+        return Called::Stopped;
     }
     match quick_instr(code) {
-        Some(instr) => answer_quickly(
+        Some(instr) => call_quickly(
             alloc,
             objects,
             locals,
             stack,
+            why,
             code,
             instr,
             holder,
@@ -595,6 +805,7 @@ fn call_method<O: FindsMethods>(
             stack,
             chain,
             cache,
+            why,
             code,
             holder,
             class_side,
@@ -614,23 +825,28 @@ fn activate<O: FindsMethods>(
     stack: &mut Layers<Value>,
     chain: &mut Layers<Mark>,
     cache: &mut CodeCache,
+    why: &mut Stop,
     code: &SharedCode,
     holder: Oid,
     class_side: bool,
     count: usize,
     depth: u32,
-) -> Result<Value, Stop>
+) -> Called
     requires height { count < length stack.old.own }
     requires method { code.now.selector ≡ Some (selector_of code.now) }
     ensures ran { Ran (activation (method_body (outside depth) code.now) (length code.now.temps)
         holder class_side (get_or stack.old.own count Nil) (reverse (take count stack.old.own)))
-        (O.seen objects.old) locals.old result (O.seen objects.new) locals.new }
-    ensures own { IfOk result (λ _. stack.new.own ≡ drop (suc count) stack.old.own) }
+        (O.seen objects.old) locals.old (called_as result why.new stack.new.own)
+        (O.seen objects.new) locals.new }
+    ensures own { IfAnswers result (IsAbove (drop (suc count) stack.old.own) stack.new.own) }
     ensures stack { stack.new.below ≡ stack.old.below }
     ensures chain { chain.new ≡ chain.old }
 {
     let mark = locals.mark();
-    locals.begin_method(stack, count, code.temps_count())?;
+    let Ok(()) = locals.begin_method(stack, count, code.temps_count()) else {
+        *why = Stop::NoMemory;
+        return Called::Stopped;
+    };
     let Some(receiver) = stack.pop() else {
         unreachable!()
     };
@@ -642,6 +858,7 @@ fn activate<O: FindsMethods>(
         stack,
         chain,
         cache,
+        why,
         &frame,
         &[],
         mark,
@@ -649,7 +866,7 @@ fn activate<O: FindsMethods>(
         Part::Whole,
         depth,
     );
-    leave_method(objects, locals, mark, ended)
+    end_method(objects, locals, stack, why, mark, ended)
 }
 
 /// Runs a part of a text with these scopes, the innermost one last, and the one of this mark inside
@@ -663,27 +880,34 @@ pub(crate) fn run_inside<O: FindsMethods>(
     stack: &mut Layers<Value>,
     chain: &mut Layers<Mark>,
     cache: &mut CodeCache,
+    why: &mut Stop,
     frame: &Outline,
     scopes: &[Mark],
     mark: Mark,
     code: &SharedCode,
     part: Part,
     depth: u32,
-) -> Result<Value, Stop>
+) -> Ended
     requires { HasPart code.now part }
     ensures ran { Ran (part_run (outside depth) code.now part
         (framed (mark ∷ reverse scopes.now) frame.now))
-        (O.seen objects.old) locals.old result (O.seen objects.new) locals.new }
-    ensures stack { stack.new ≡ stack.old }
+        (O.seen objects.old) locals.old
+        (ended_as frame.now.home result why.new stack.new.own) (O.seen objects.new) locals.new }
+    ensures own { LeftAs result stack.old.own stack.new.own }
+    ensures stack { stack.new.below ≡ stack.old.below }
     ensures chain { chain.new ≡ chain.old }
 {
     let values = stack.begin();
     let marks = chain.begin();
     let ended = run_with(
-        alloc, objects, locals, stack, chain, cache, frame, scopes, mark, code, part, depth,
+        alloc, objects, locals, stack, chain, cache, why, frame, scopes, mark, code, part, depth,
     );
     chain.end(marks);
-    stack.end(values);
+    match ended {
+        Ended::Answers => stack.end_keeping(values),
+        Ended::Returns => stack.end_keeping(values),
+        Ended::Stopped => stack.end(values),
+    }
     ended
 }
 
@@ -697,25 +921,31 @@ fn run_with<O: FindsMethods>(
     stack: &mut Layers<Value>,
     chain: &mut Layers<Mark>,
     cache: &mut CodeCache,
+    why: &mut Stop,
     frame: &Outline,
     scopes: &[Mark],
     mark: Mark,
     code: &SharedCode,
     part: Part,
     depth: u32,
-) -> Result<Value, Stop>
+) -> Ended
     requires part { HasPart code.now part }
     requires no_values { stack.old.own ≡ [] }
     requires no_scopes { chain.old.own ≡ [] }
     ensures ran { Ran (part_run (outside depth) code.now part
         (framed (mark ∷ reverse scopes.now) frame.now))
-        (O.seen objects.old) locals.old result (O.seen objects.new) locals.new }
+        (O.seen objects.old) locals.old
+        (ended_as frame.now.home result why.new stack.new.own) (O.seen objects.new) locals.new }
+    ensures own { IfEnds result (IsAbove [] stack.new.own) }
     ensures stack { stack.new.below ≡ stack.old.below }
     ensures chain { chain.new.below ≡ chain.old.below }
 {
-    put_scopes(chain, scopes, mark)?;
+    let Ok(()) = put_scopes(chain, scopes, mark) else {
+        *why = Stop::NoMemory;
+        return Ended::Stopped;
+    };
     execute(
-        alloc, objects, locals, stack, chain, cache, frame, code, part, depth,
+        alloc, objects, locals, stack, chain, cache, why, frame, code, part, depth,
     )
 }
 
@@ -730,28 +960,35 @@ fn call_block<O: FindsMethods>(
     stack: &mut Layers<Value>,
     chain: &mut Layers<Mark>,
     cache: &mut CodeCache,
+    why: &mut Stop,
     number: u64,
     count: usize,
     depth: u32,
-) -> Result<Value, Stop>
+) -> Called
     requires { count < length stack.old.own }
     ensures ran { Ran (call_block_at (callee depth).block number
         (reverse (take count stack.old.own)))
-        (O.seen objects.old) locals.old result (O.seen objects.new) locals.new }
-    ensures own { IfOk result (λ _. stack.new.own ≡ drop (suc count) stack.old.own) }
+        (O.seen objects.old) locals.old (called_as result why.new stack.new.own)
+        (O.seen objects.new) locals.new }
+    ensures own { IfAnswers result (IsAbove (drop (suc count) stack.old.own) stack.new.own) }
     ensures stack { stack.new.below ≡ stack.old.below }
     ensures chain { chain.new ≡ chain.old }
 {
     let Some(shared) = locals.block(number) else {
-        return Err(Stop::Fails(Fault::ArgumentKind));
+        *why = Stop::Fails(Fault::ArgumentKind);
+        return Called::Stopped;
     };
-    let shared = shared.share()?;
+    let Ok(shared) = shared.share() else {
+        *why = Stop::NoMemory;
+        return Called::Stopped;
+    };
     let made = shared.block();
     if !takes(made, stack.upper(count)) {
-        return Err(Stop::Fails(Fault::BlockArgumentCount));
+        *why = Stop::Fails(Fault::BlockArgumentCount);
+        return Called::Stopped;
     }
     call_made(
-        alloc, objects, locals, stack, chain, cache, made, count, depth,
+        alloc, objects, locals, stack, chain, cache, why, made, count, depth,
     )
 }
 
@@ -771,19 +1008,22 @@ fn call_made<O: FindsMethods>(
     stack: &mut Layers<Value>,
     chain: &mut Layers<Mark>,
     cache: &mut CodeCache,
+    why: &mut Stop,
     made: &CodeBlock,
     count: usize,
     depth: u32,
-) -> Result<Value, Stop>
+) -> Called
     requires { count < length stack.old.own }
     ensures ran { Ran ((callee depth).block made.now (reverse (take count stack.old.own)))
-        (O.seen objects.old) locals.old result (O.seen objects.new) locals.new }
-    ensures own { IfOk result (λ _. stack.new.own ≡ drop (suc count) stack.old.own) }
+        (O.seen objects.old) locals.old (called_as result why.new stack.new.own)
+        (O.seen objects.new) locals.new }
+    ensures own { IfAnswers result (IsAbove (drop (suc count) stack.old.own) stack.new.own) }
     ensures stack { stack.new.below ≡ stack.old.below }
     ensures chain { chain.new ≡ chain.old }
 {
     if depth == 0 {
-        return Err(Stop::Fails(Fault::Depth));
+        *why = Stop::Fails(Fault::Depth);
+        return Called::Stopped;
     }
     evaluate(
         alloc,
@@ -792,6 +1032,7 @@ fn call_made<O: FindsMethods>(
         stack,
         chain,
         cache,
+        why,
         made,
         count,
         depth - 1,
@@ -807,22 +1048,28 @@ fn evaluate<O: FindsMethods>(
     stack: &mut Layers<Value>,
     chain: &mut Layers<Mark>,
     cache: &mut CodeCache,
+    why: &mut Stop,
     made: &CodeBlock,
     count: usize,
     depth: u32,
-) -> Result<Value, Stop>
+) -> Called
     requires { count < length stack.old.own }
     ensures ran { Ran (evaluation (block_body (outside depth) made.now.tree made.now.place)
         (temps_count made.now.tree) made.now.frame (reverse (take count stack.old.own)))
-        (O.seen objects.old) locals.old result (O.seen objects.new) locals.new }
-    ensures own { IfOk result (λ _. stack.new.own ≡ drop (suc count) stack.old.own) }
+        (O.seen objects.old) locals.old (called_as result why.new stack.new.own)
+        (O.seen objects.new) locals.new }
+    ensures own { IfAnswers result (IsAbove (drop (suc count) stack.old.own) stack.new.own) }
     ensures stack { stack.new.below ≡ stack.old.below }
     ensures chain { chain.new ≡ chain.old }
 {
     let mark = locals.mark();
-    locals.open_taking(stack, count, made.temps_count())?;
+    let Ok(()) = locals.open_taking(stack, count, made.temps_count()) else {
+        *why = Stop::NoMemory;
+        return Called::Stopped;
+    };
     stack.drop_upper(1);
     let (code, number) = made.code();
+    let frame = made.outline();
     let ended = run_inside(
         alloc,
         objects,
@@ -830,12 +1077,13 @@ fn evaluate<O: FindsMethods>(
         stack,
         chain,
         cache,
-        made.outline(),
+        why,
+        frame,
         made.scopes(),
         mark,
         code,
         Part::Block(number),
         depth,
     );
-    leave_block(objects, locals, mark, ended)
+    end_block(objects, locals, stack, why, mark, frame.home(), ended)
 }

@@ -5,14 +5,15 @@ ghost use Rattle.gem_language.specs.Sends.{outside};
 ghost use Rattle.running_objects.specs.Seen.{Keeps};
 ghost use Rattle.running_objects.specs.Ran.{Ran};
 ghost use Rattle.st_compiler.specs.Instruction.{PushLocal, StoreLocal, PushName, StoreName, PushBlock};
-ghost use Rattle.st_machine.specs.Led.{LedBy, IsForward, TurnedBy, TurnsForward, IfDone, IfLeft};
+ghost use Rattle.st_machine.specs.Led.{AskedBy, IsAhead, TurnedBy, TurnsForward, IfDone, IfLeft};
 ghost use Rattle.st_machine.specs.Parts.{framed, table_of};
-ghost use Rattle.st_machine.specs.Targets.{AnswersAt};
+ghost use Rattle.st_machine.specs.Targets.{Answered, AnswersAt};
+ghost use Rattle.st_machine.specs.declared.names.Put.TheVariants.{Stands, Unknown};
 
 use crate::border::{known_variable, read_name, set_known_variable, write_name};
 use crate::code_block::CodeBlock;
 use crate::finds::FindsMethods;
-use crate::flow::{Flow, Turn, Turned};
+use crate::flow::{Asked, Turn, Turned};
 use crate::lack::turn_of;
 use crate::layers::Layers;
 use crate::locals::Locals;
@@ -102,38 +103,50 @@ pub(crate) fn push_known<O: FindsMethods>(
     ensures own { IfLeft result (λ _. stack.new.own ≡ stack.old.own) }
     ensures stack { stack.new.below ≡ stack.old.below }
 {
-    match known_variable(objects, locals, chain, name, frame) {
-        Some(value) => Turned::Done(push_variable(
-            objects, locals, stack, chain, frame, code, name, value, place, depth,
-        )),
-        None => Turned::Left(None),
+    match put_known(objects, locals, stack, chain, frame, name) {
+        Put::Stands => match next_of(place) {
+            Ok(there) => Turned::Done(Ok(Turn::Goes(there))),
+            Err(error) => Turned::Done(Err(error)),
+        },
+        Put::NoMemory => Turned::Done(Err(AllocError)),
+        Put::Unknown => Turned::Left(None),
     }
 }
 
-/// Puts this value, for which a name out of scope stands.
-#[inline(always)]
-fn push_variable<O: Objects>(
+/// What came of a name whose value may be known.
+#[derive(Clone, Copy, Debug)]
+enum Put {
+    /// The value stands on the stack.
+    Stands,
+    /// No memory was found for it.
+    NoMemory,
+    /// It isn't known.
+    Unknown,
+}
+
+/// Puts what a name out of scope stands for, where that is known without a look at any object.
+#[inline(never)]
+fn put_known<O: FindsMethods>(
     objects: &O,
     locals: &Locals,
     stack: &mut Layers<Value>,
     chain: &Layers<Mark>,
     frame: &Outline,
-    code: &SharedCode,
     name: &Text,
-    value: Value,
-    place: usize,
-    depth: u32,
-) -> Result<Turn, AllocError>
-    requires { Ran (read_out_of_scope name.now (framed chain.now.own frame.now))
-        (O.seen objects.now) locals.now (Ok value) (O.seen objects.now) locals.now }
-    ensures led { TurnedBy (outside depth) (table_of code.now) (PushName name.now) place
-        stack.old.own chain.now.own frame.now (O.seen objects.now) locals.now result stack.new.own
-        chain.now.own (O.seen objects.now) locals.now }
-    ensures forward { IfOk result (TurnsForward place) }
-    ensures stack { stack.new.below ≡ stack.old.below }
+) -> Put
+    ensures stands { result ≡ Stands → Answered (read_out_of_scope name.now
+        (framed chain.now.own frame.now)) (O.seen objects.now) locals.now stack.old.own
+        stack.new.own }
+    ensures unknown { result ≡ Unknown → stack.new.own ≡ stack.old.own }
+    ensures below { stack.new.below ≡ stack.old.below }
 {
-    stack.push(value)?;
-    Ok(Turn::Goes(next_of(place)?))
+    let Some(value) = known_variable(objects, locals, chain, name, frame) else {
+        return Put::Unknown;
+    };
+    match stack.push(value) {
+        Ok(()) => Put::Stands,
+        Err(_) => Put::NoMemory,
+    }
 }
 
 /// Puts what a name out of scope stands for.
@@ -148,17 +161,17 @@ pub(crate) fn push_name<O: FindsMethods>(
     name: &Text,
     place: usize,
     depth: u32,
-) -> Result<Flow, Stop>
+) -> Result<Asked, Stop>
     ensures keeps { Keeps (O.seen objects.old) (O.seen objects.new) }
-    ensures led { LedBy (outside depth) (table_of code.now) (PushName name.now) place stack.old.own
+    ensures led { AskedBy (outside depth) (table_of code.now) (PushName name.now) place stack.old.own
         chain.now.own frame.now (O.seen objects.old) locals.now result stack.new.own chain.now.own
         (O.seen objects.new) locals.now }
-    ensures forward { IfOk result (IsForward place) }
+    ensures forward { IfOk result (IsAhead place) }
     ensures stack { stack.new.below ≡ stack.old.below }
 {
     let value = read_name(objects, locals, chain, name, frame)?;
     stack.push(value)?;
-    Ok(Flow::Goes(next_of(place)?))
+    Ok(Asked::Goes(next_of(place)?))
 }
 
 /// Stores the uppermost value under a name out of scope, and leaves it, where it is known that this
@@ -210,20 +223,20 @@ pub(crate) fn store_name<O: FindsMethods>(
     name: &Text,
     place: usize,
     depth: u32,
-) -> Result<Flow, Stop>
+) -> Result<Asked, Stop>
     ensures keeps { Keeps (O.seen objects.old) (O.seen objects.new) }
-    ensures led { LedBy (outside depth) (table_of code.now) (StoreName name.now) place stack.old.own
+    ensures led { AskedBy (outside depth) (table_of code.now) (StoreName name.now) place stack.old.own
         chain.now.own frame.now (O.seen objects.old) locals.now result stack.new.own chain.now.own
         (O.seen objects.new) locals.now }
-    ensures forward { IfOk result (IsForward place) }
+    ensures forward { IfOk result (IsAhead place) }
     ensures stack { stack.new.below ≡ stack.old.below }
 {
     let Some(value) = stack.pop() else {
-        return Ok(Flow::Stuck);
+        return Ok(Asked::Stuck);
     };
     let answer = write_name(objects, locals, chain, name, frame, value)?;
     stack.push(answer)?;
-    Ok(Flow::Goes(next_of(place)?))
+    Ok(Asked::Goes(next_of(place)?))
 }
 
 /// Puts a new block, of this number among those of the text.
@@ -240,20 +253,20 @@ pub(crate) fn push_block<O: Objects>(
     number: usize,
     place: usize,
     depth: u32,
-) -> Result<Flow, Stop>
-    ensures led { LedBy (outside depth) (table_of code.now) (PushBlock number) place stack.old.own
+) -> Result<Asked, Stop>
+    ensures led { AskedBy (outside depth) (table_of code.now) (PushBlock number) place stack.old.own
         chain.now.own frame.now (O.seen objects.now) locals.old result stack.new.own chain.now.own
         (O.seen objects.now) locals.new }
-    ensures forward { IfOk result (IsForward place) }
+    ensures forward { IfOk result (IsAhead place) }
     ensures stack { stack.new.below ≡ stack.old.below }
 {
     let Some(block) = code.block(number) else {
-        return Ok(Flow::Stuck);
+        return Ok(Asked::Stuck);
     };
     let params = count_params(block.params)?;
     let scopes = chain.own().to_vec(alloc)?;
     let made = CodeBlock::of(code.share()?, number, scopes, frame.clone()?);
     let number = locals.add_block(alloc, made)?;
     stack.push(Value::Block(BlockRef { number, params }))?;
-    Ok(Flow::Goes(next_of(place)?))
+    Ok(Asked::Goes(next_of(place)?))
 }

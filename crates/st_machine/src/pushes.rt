@@ -4,11 +4,11 @@ ghost use Rattle.gem_language.specs.Sends.{outside};
 ghost use Rattle.running_objects.specs.Seen.{Keeps};
 ghost use Rattle.st_compiler.specs.Instruction.{PushSelf, PushLit, MakeLit, Pop, Dup};
 ghost use Rattle.st_compiler.specs.TreeCode.{singleton_op};
-ghost use Rattle.st_machine.specs.Led.{LedBy, IsForward, TurnedBy, TurnsForward};
+ghost use Rattle.st_machine.specs.Led.{AskedBy, IsAhead, TurnedBy, TurnsForward};
 ghost use Rattle.st_machine.specs.Parts.{table_of};
 ghost use Rattle.st_tree.specs.Views.{constant_of};
 
-use crate::flow::{Flow, Turn};
+use crate::flow::{Asked, Turn};
 use crate::layers::Layers;
 use crate::locals::Locals;
 use crate::outline::Outline;
@@ -100,17 +100,17 @@ pub(crate) fn make_literal<O: Objects>(
     tree: &Literal,
     place: usize,
     depth: u32,
-) -> Result<Flow, Stop>
+) -> Result<Asked, Stop>
     ensures keeps { Keeps (O.seen objects.old) (O.seen objects.new) }
-    ensures led { LedBy (outside depth) (table_of code.now) (MakeLit (constant_of tree.now)) place
+    ensures led { AskedBy (outside depth) (table_of code.now) (MakeLit (constant_of tree.now)) place
         stack.old.own chain.now.own frame.now (O.seen objects.old) locals.now result stack.new.own
         chain.now.own (O.seen objects.new) locals.now }
-    ensures forward { IfOk result (IsForward place) }
+    ensures forward { IfOk result (IsAhead place) }
     ensures stack { stack.new.below ≡ stack.old.below }
 {
     let value = literal(alloc, objects, locals, tree)?;
     stack.push(value)?;
-    Ok(Flow::Goes(next_of(place)?))
+    Ok(Asked::Goes(next_of(place)?))
 }
 
 /// Drops the uppermost value.

@@ -11,8 +11,10 @@ ghost use Rattle.running_objects.specs.Ran.{Ran};
 ghost use Rattle.st_compiler.specs.Emitted.{instruction_of};
 ghost use Rattle.st_compiler.specs.Instruction.{ReturnMethod};
 ghost use Rattle.look_up_cache.specs.Variables.{bare_frame};
+ghost use Rattle.st_machine.specs.Called.{called_as, IfAnswers, IsAbove};
 ghost use Rattle.st_machine.specs.Quick.{IsPut, put_value, IsQuick, at_home};
 
+use crate::ended::Called;
 use crate::finds::FindsMethods;
 use crate::layers::Layers;
 use crate::locals::Locals;
@@ -59,9 +61,53 @@ fn is_put(instr: &Instr) -> bool
     }
 }
 
+/// Calls such a method: its receiver and so many arguments stand on the stack, and its answer comes
+/// in their place.
+#[inline(never)]
+pub(crate) fn call_quickly<O: FindsMethods>(
+    alloc: Global,
+    objects: &mut O,
+    locals: &Locals,
+    stack: &mut Layers<Value>,
+    why: &mut Stop,
+    code: &SharedCode,
+    instr: &Instr,
+    holder: Oid,
+    class_side: bool,
+    count: usize,
+    depth: u32,
+) -> Called
+    requires height { count < length stack.old.own }
+    requires method { code.now.selector ≡ Some (selector_of code.now) }
+    requires quick { IsQuick code.now (instruction_of instr.now) }
+    ensures ran { Ran (activation (method_body (outside depth) code.now) (length code.now.temps)
+        holder class_side (get_or stack.old.own count Nil) (reverse (take count stack.old.own)))
+        (O.seen objects.old) locals.now (called_as result why.new stack.new.own)
+        (O.seen objects.new) locals.now }
+    ensures own { IfAnswers result (IsAbove (drop (suc count) stack.old.own) stack.new.own) }
+    ensures below { stack.new.below ≡ stack.old.below }
+{
+    let answered = answer_quickly(
+        alloc, objects, locals, stack, code, instr, holder, class_side, count, depth,
+    );
+    match answered {
+        Ok(answer) => match stack.push(answer) {
+            Ok(()) => Called::Answers,
+            Err(_) => {
+                *why = Stop::NoMemory;
+                Called::Stopped
+            }
+        },
+        Err(stop) => {
+            *why = stop;
+            Called::Stopped
+        }
+    }
+}
+
 /// The answer of such a method, which is called: its receiver and so many arguments stand on the
 /// stack, and are taken from there.
-pub(crate) fn answer_quickly<O: FindsMethods>(
+fn answer_quickly<O: FindsMethods>(
     alloc: Global,
     objects: &mut O,
     locals: &Locals,

@@ -1,9 +1,11 @@
 //! What answers a message.
-ghost use Rattle.std.specs.Prelude.{◌≡◌, true, false, IfOk, IfSome, option_copied};
+ghost use Rattle.std.specs.Prelude.{◌≡◌, true, false, IfOk, IfSome, Some, option_copied};
+ghost use Rattle.gem_language.specs.Commands.{selector_of};
 ghost use Rattle.gem_language.specs.LookUp.{find_method};
 ghost use Rattle.look_up_cache.specs.Table.{held_at};
 ghost use Rattle.st_machine.specs.Parts.{framed};
 ghost use Rattle.st_machine.specs.Targets.{target_for, IsCallable, LeadsTo, UnitThen};
+ghost use Rattle.st_machine.specs.declared.target.Target.TheVariants.{Method};
 
 use crate::border::{find_above, place_of_method};
 use crate::cache::CodeCache;
@@ -27,6 +29,14 @@ pub(crate) enum Target {
     Primitive(u8),
     /// The method of this code: this class holds it, on its class side or not.
     Method(SharedCode, Oid, bool),
+}
+
+/// A method whose code is kept with its look-up: this class holds it, on its class side or not.
+#[derive(Drop)]
+pub(crate) struct KeptMethod {
+    pub(crate) code: SharedCode,
+    pub(crate) holder: Oid,
+    pub(crate) class_side: bool,
 }
 
 /// What answers a message with this selector to the receiver. The code of a method that is kept
@@ -171,5 +181,27 @@ fn kept_target<O: FindsMethods>(objects: &O, at: usize) -> Result<Option<Target>
             Some(code) => Ok(Some(Target::Method(code.share()?, found.holder, found.class_side))),
             None => Ok(None),
         },
+    }
+}
+
+/// The method that stands at a place, where its code is kept there.
+#[inline(always)]
+pub(crate) fn kept_method<O: FindsMethods>(objects: &O, at: usize) -> Option<KeptMethod>
+    ensures target { IfSome result (λ kept. Method kept.code kept.holder kept.class_side
+        ≡ target_for (held_at (O.founds objects.now) at)) }
+    ensures callable { IfSome result (λ kept. kept.code.selector ≡ Some (selector_of kept.code)) }
+{
+    let found = objects.found(at)?;
+    match &found.code {
+        MethodCode::Primitive(_) => None,
+        MethodCode::Source(_) => {
+            let code = objects.code(at)?;
+            let code = code.share().ok()?;
+            Some(KeptMethod {
+                code,
+                holder: found.holder,
+                class_side: found.class_side,
+            })
+        }
     }
 }

@@ -1,4 +1,4 @@
-use Rattle.std.proofs.Common.{◌≡◌, subst, arith, ℕ, suc, take, drop, get_or, reverse}
+use Rattle.std.proofs.Common.{subst, arith, ℕ, suc, take, drop, get_or, reverse}
 use Rattle.gem_object.specs.declared.value.Value.TheVariants.{Nil}
 use Rattle.st_machine.specs.Parts.{framed}
 use Rattle.st_machine.specs.Ready.{ReadyPut}

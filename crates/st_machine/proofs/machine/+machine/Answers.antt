@@ -1,8 +1,9 @@
-use Rattle.std.proofs.Common.{◌≡◌, ◌∙◌, false, suc, rules, refl, sym, ap, ◌<◌, ◌++◌, ◌∷◌, List, [], length, get_or, take, drop, reverse, replicate, slice_get, arith}
+use Rattle.std.proofs.Common.{◌≡◌, ◌∙◌, false, suc, rules, refl, sym, ap, subst, ℕ, ◌<◌, ◌++◌, ◌∷◌, List, [], length, get_or, take, drop, reverse, replicate, slice_get, arith}
 use Rattle.std.proofs.lemmas.Grind.{common_steps}
-use Rattle.std.proofs.lemmas.Result.{err_from_is_err_and}
 use Rattle.gem_object.specs.declared.value.Value.TheVariants.{Nil}
 use Rattle.tree_meaning.specs.Bodies.{temps_count, method_body, block_body}
+use Rattle.tree_meaning.specs.Place.{Frame}
+use Rattle.tree_meaning.specs.Scopes.{leave_block}
 use Rattle.tree_meaning.specs.declared.place.Mark.{Mark}
 use Rattle.gem_language.specs.Commands.{selector_of}
 use Rattle.gem_language.specs.Sends.{outside, callee}
@@ -12,76 +13,28 @@ use Rattle.look_up_cache.specs.Table.{held_at}
 use Rattle.st_compiler.specs.Instruction.{Instruction}
 use Rattle.st_compiler.specs.Emitted.{instruction_of}
 use Rattle.st_commands.proofs.Activations.{activation_ran, evaluation_ran, method_ran, made_ran}
+use Rattle.running_objects.specs.Ran.{Ran}
+use Rattle.st_commands.specs.Leaving.{LeftSo}
+use Rattle.st_machine.specs.Called.{top, called_as, ended_as}
 use Rattle.st_machine.specs.Layers.{Layers}
+use Rattle.st_machine.specs.declared.shared_code.Part.TheVariants.{Whole}
+use Rattle.st_machine.specs.declared.target.Target.TheVariants.{Method}
 use Rattle.st_machine.specs.Parts.{table_of, part_code, part_run, framed}
-use Rattle.st_machine.proofs.Ends.{is_then, receiver_is, rest_is, never_empty, whatever}
+use Rattle.st_machine.proofs.Called.{answers_same, answers_above}
+use Rattle.st_machine.proofs.Ends.{receiver_is, rest_is, never_empty}
 use Rattle.st_machine.proofs.Outlines.{method_framed, block_framed, method_ran_by, block_ran_by}
 use Rattle.st_machine.proofs.PartRuns.{part_runs}
 use Rattle.st_machine.proofs.Standing.{stands_empty, stands_left, stands_next, stands_back, stands_leaves, stands_stop, never_stuck, never_past}
 use Rattle.st_machine.proofs.Sent.{sent_answers, sent_stops}
 use Rattle.st_machine.proofs.Placed.{placed_ran, placed_stops}
 use Rattle.st_machine.proofs.Taken.{one_less, one_left, put_taken, put_left}
-use Rattle.st_machine.proofs.Calls.{called_ran, block_ran}
+use Rattle.st_machine.proofs.Calls.{called_ran, primitive_stops, block_ran}
 use Rattle.st_machine.proofs.machine.+machine.Goals as goal
-
-pub send-returns-in_err-answer-clause-led : goal.send-returns-in_err-answer-clause-led
-send-returns-in_err-answer-clause-led g t c =
-    let within : c.args.count < length c.args.stack.now.own = grind (arith, common_steps) in
-    let p = err_from_is_err_and c.from_residual.result c.from_residual.ensures.1 in
-    rw (p.1, p.2) (sent_stops c.args.depth (table_of c.args.code.now) c.args.selector.now c.args.count c.args.at
-    c.args.stack.now.own c.args.chain.now.own c.answer_of.new.chain.own c.args.frame.now
-    (g.O.Objects.seen c.args.objects.now) (g.O.Objects.seen c.answer_of.new.objects) c.args.locals.now c.answer_of.new.locals
-    c.args.to_super within c.in_err-answer.field-0.0 c.answer_of.new.stack.own c.in_err-answer.ensures.ran)
-
-pub send-returns-clause-led : goal.send-returns-clause-led
-send-returns-clause-led g t c =
-    let within : c.args.count < length c.args.stack.now.own = grind (arith, common_steps) in
-    sent_answers c.args.depth (table_of c.args.code.now) c.args.selector.now c.args.count c.args.at
-    c.args.stack.now.own c.args.chain.now.own c.answer_of.new.chain.own c.args.frame.now
-    (g.O.Objects.seen c.args.objects.now) (g.O.Objects.seen c.answer_of.new.objects) c.args.locals.now c.answer_of.new.locals
-    c.args.to_super within c.in_ok-answer.answer c.push.new.self.own c.in_ok-next_of.field-0 c.in_ok-next_of.ensures.place
-    (ap (λ (one : Layers Mark). one.own) c.in_ok-answer.ensures.chain)
-    (c.in_ok-push.ensures.pushed ∙ ap (λ (rest : List _). c.in_ok-answer.answer ∷ rest) c.in_ok-answer.ensures.own)
-    c.in_ok-answer.ensures.ran
-
-pub send_found-returns-in_err-answer-clause-led : goal.send_found-returns-in_err-answer-clause-led
-send_found-returns-in_err-answer-clause-led g t c =
-    let within : c.args.count < length c.args.stack.now.own = grind (arith, common_steps) in
-    let p = err_from_is_err_and c.from_residual.result c.from_residual.ensures.1 in
-    rw (p.1, p.2) (sent_stops c.args.depth (table_of c.args.code.now) c.args.selector.now c.args.count c.args.at
-    c.args.stack.now.own c.args.chain.now.own c.answer_found.new.chain.own c.args.frame.now
-    (g.O.Objects.seen c.args.objects.now) (g.O.Objects.seen c.answer_found.new.objects) c.args.locals.now c.answer_found.new.locals
-    false within c.in_err-answer.field-0.0 c.answer_found.new.stack.own c.in_err-answer.ensures.ran)
-
-pub send_found-returns-clause-led : goal.send_found-returns-clause-led
-send_found-returns-clause-led g t c =
-    let within : c.args.count < length c.args.stack.now.own = grind (arith, common_steps) in
-    sent_answers c.args.depth (table_of c.args.code.now) c.args.selector.now c.args.count c.args.at
-    c.args.stack.now.own c.args.chain.now.own c.answer_found.new.chain.own c.args.frame.now
-    (g.O.Objects.seen c.args.objects.now) (g.O.Objects.seen c.answer_found.new.objects) c.args.locals.now c.answer_found.new.locals
-    false within c.in_ok-answer.answer c.push.new.self.own c.in_ok-next_of.field-0 c.in_ok-next_of.ensures.place
-    (ap (λ (one : Layers Mark). one.own) c.in_ok-answer.ensures.chain)
-    (c.in_ok-push.ensures.pushed ∙ ap (λ (rest : List _). c.in_ok-answer.answer ∷ rest) c.in_ok-answer.ensures.own)
-    c.in_ok-answer.ensures.ran
-
-pub answer_found-returns-in_err-target-clause-ran : goal.answer_found-returns-in_err-target-clause-ran
-answer_found-returns-in_err-target-clause-ran g t c =
-    let p = err_from_is_err_and c.from_residual.result c.from_residual.ensures.1 in
-    rw (p.1, p.2) (placed_stops c.args.depth c.args.selector.now (framed c.args.chain.now.own c.args.frame.now)
-    (get_or c.args.stack.now.own c.args.count Nil) (take c.args.count c.args.stack.now.own) c.args.locals.now
-    c.in_err-target.ensures.target)
-
-pub answer_found-returns-clause-ran : goal.answer_found-returns-clause-ran
-answer_found-returns-clause-ran g t c =
-    placed_ran c.args.depth c.args.selector.now (framed c.args.chain.now.own c.args.frame.now)
-    (get_or c.args.stack.now.own c.args.count Nil) (take c.args.count c.args.stack.now.own) c.args.locals.now
-    (held_at (g.O.FindsMethods.founds c.args.objects.now) c.args.found) c.in_ok-target.target c.in_ok-target.ensures.target.0
-    c.in_ok-target.ensures.target.1 c.requires.found c.call_target.ensures.ran
 
 pub call_method-returns-in-Some-clause-ran : goal.call_method-returns-in-Some-clause-ran
 call_method-returns-in-Some-clause-ran g t c =
     method_ran c.args.depth (omega (arith, c.if-depth-eq0.false)) c.args.code.now c.args.holder c.args.class_side
-    (get_or c.args.stack.now.own c.args.count Nil) (reverse (take c.args.count c.args.stack.now.own)) c.answer_quickly.ensures.ran
+    (get_or c.args.stack.now.own c.args.count Nil) (reverse (take c.args.count c.args.stack.now.own)) c.call_quickly.ensures.ran
 
 pub call_method-returns-in-None-clause-ran : goal.call_method-returns-in-None-clause-ran
 call_method-returns-in-None-clause-ran g t c =
@@ -93,30 +46,23 @@ call_primitive-returns-in-Some-block_called-clause-ran g t c =
     called_ran c.args.depth c.args.number c.args.stack.now.own c.args.count c.requires c.in-Some.receiver.now
     c.in-Some.ensures c.in-Some-block_called.block c.in-Some-block_called.ensures c.call_block.ensures.ran
 
-pub call_primitive-returns-clause-own : goal.call_primitive-returns-clause-own
-call_primitive-returns-clause-own g t c =
-    is_then c.value_of_primitive.result c.value_of_primitive.new.stack.own (drop 1 c.drop_upper.new.self.own)
-    (drop (suc c.args.count) c.args.stack.now.own)
-    (ap (drop 1) c.drop_upper.ensures.own ∙ one_less c.args.count c.args.stack.now.own) c.value_of_primitive.ensures.own
-
 pub call_with-returns-clause-ran : goal.call_with-returns-clause-ran
 call_with-returns-clause-ran g t c =
     let size : c.len-count.result ≡ length c.args.arguments.items = search rules in
     let taken = put_taken c.args.arguments.items c.args.stack.now.own c.push_all.new.self.own c.len-count.result size
-    c.in_ok-push_all.ensures.pushed in
+    c.in-Ok.ensures.pushed in
     rw taken at c.call_block.ensures.ran
 
 pub call_with-returns-clause-own : goal.call_with-returns-clause-own
 call_with-returns-clause-own g t c =
     let size : c.len-count.result ≡ length c.args.arguments.items = search rules in
-    is_then c.call_block.result c.call_block.new.stack.own (drop (suc c.len-count.result) c.push_all.new.self.own)
-    (drop 1 c.args.stack.now.own) (put_left c.args.arguments.items c.args.stack.now.own c.push_all.new.self.own
-    c.len-count.result size c.in_ok-push_all.ensures.pushed) c.call_block.ensures.own
+    answers_same c.call_block.result c.call_block.new.stack.own (put_left c.args.arguments.items c.args.stack.now.own
+    c.push_all.new.self.own c.len-count.result size c.in-Ok.ensures.pushed) c.call_block.ensures.own
 
 pub call_block-returns-clause-ran : goal.call_block-returns-clause-ran
 call_block-returns-clause-ran g t c =
     block_ran (callee c.args.depth).block c.args.number (reverse (take c.args.count c.args.stack.now.own)) c.in-Some.shared.now
-    c.block-made.result.now c.in-Some.ensures (c.block-made.ensures ∙ c.in_ok-shared.ensures) c.upper.result.now c.upper.ensures
+    c.block-made.result.now c.in-Some.ensures (c.block-made.ensures ∙ c.in-Ok.ensures) c.upper.result.now c.upper.ensures
     c.takes.result c.takes.ensures c.if-not-takes.false c.call_made.ensures.ran
 
 pub call_made-returns-clause-ran : goal.call_made-returns-clause-ran
@@ -126,54 +72,68 @@ call_made-returns-clause-ran g t c =
 
 pub evaluate-drop_upper-requires : goal.evaluate-drop_upper-requires
 evaluate-drop_upper-requires g t c =
-    one_left c.args.count c.args.stack.now.own c.open_taking.new.stack.own c.requires c.in_ok-open_taking.ensures.own
+    one_left c.args.count c.args.stack.now.own c.open_taking.new.stack.own c.requires c.in-Ok.ensures.own
 
 pub evaluate-returns-clause-own : goal.evaluate-returns-clause-own
 evaluate-returns-clause-own g t c =
-    whatever c.leave_block.result
-    (ap (λ (one : Layers _). one.own) c.run_inside-ended.ensures.stack
-    ∙ (c.drop_upper.ensures.own ∙ (ap (drop 1) c.in_ok-open_taking.ensures.own
-    ∙ one_less c.args.count c.args.stack.now.own)))
+    let left : c.drop_upper.new.self.own ≡ drop (suc c.args.count) c.args.stack.now.own =
+    c.drop_upper.ensures.own ∙ (ap (drop 1) c.in-Ok.ensures.own ∙ one_less c.args.count c.args.stack.now.own) in
+    answers_same c.end_block.result c.end_block.new.stack.own left
+    (answers_above c.run_inside-ended.result c.end_block.result c.drop_upper.new.self.own c.run_inside-ended.new.stack.own
+    c.end_block.new.stack.own c.run_inside-ended.ensures.own c.end_block.ensures.own)
 
 pub evaluate-returns-clause-ran : goal.evaluate-returns-clause-ran
 evaluate-returns-clause-ran g t c =
-    let inner = framed (c.mark-mark.result ∷ reverse c.scopes.result.now) c.outline.result.now in
+    let frame = c.outline-frame.result.now in
+    let inner = framed (c.mark-mark.result ∷ reverse c.scopes.result.now) frame in
     let arguments = reverse (take c.args.count c.args.stack.now.own) in
+    let ended = ended_as frame.home c.run_inside-ended.result c.run_inside-ended.new.why c.run_inside-ended.new.stack.own in
+    let AtHome : ℕ → Type 0 = λ home. LeftSo (leave_block c.mark-mark.result)
+    (ended_as home c.run_inside-ended.result c.run_inside-ended.new.why c.run_inside-ended.new.stack.own)
+    (g.O.Objects.seen c.run_inside-ended.new.objects) c.run_inside-ended.new.locals
+    (called_as c.end_block.result c.end_block.new.why c.end_block.new.stack.own) c.end_block.new.locals in
     evaluation_ran (block_body (outside c.args.depth) c.args.made.now.tree c.args.made.now.place) (temps_count c.args.made.now.tree)
-    c.args.made.now.frame arguments c.run_inside-ended.result c.mark-mark.result inner
+    c.args.made.now.frame arguments ended c.mark-mark.result inner
     (arguments ++ replicate c.temps_count.result Nil) c.temps_count.result c.mark-mark.ensures
-    (block_framed c.outline.result.now c.args.made.now.frame c.mark-mark.result c.scopes.result.now c.outline.ensures c.scopes.ensures)
-    refl c.temps_count.ensures c.in_ok-open_taking.ensures.opened
+    (block_framed frame c.args.made.now.frame c.mark-mark.result c.scopes.result.now c.outline-frame.ensures c.scopes.ensures)
+    refl c.temps_count.ensures c.in-Ok.ensures.opened
     (block_ran_by (outside c.args.depth) c.code-number.result.0.now c.code-number.result.1 inner c.args.made.now c.code-number.ensures.tree
-    c.code-number.ensures.place c.run_inside-ended.ensures.ran) c.leave_block.ensures
+    c.code-number.ensures.place c.run_inside-ended.ensures.ran) (subst AtHome c.home.ensures c.end_block.ensures.left)
 
 pub activate-unreachable-requires : goal.activate-unreachable-requires
 activate-unreachable-requires g t c =
     never_empty c.args.stack.now.own c.args.count c.requires.height
-    (sym c.in_ok-begin_method.ensures.own ∙ c.in_default.ensures.popped.0)
+    (sym c.in-Ok.ensures.own ∙ c.in_default-pop.ensures.popped.0)
 
 pub activate-returns-clause-own : goal.activate-returns-clause-own
 activate-returns-clause-own g t c =
-    whatever c.leave_method.result
-    (ap (λ (one : Layers _). one.own) c.run_inside-ended.ensures.stack
-    ∙ rest_is c.args.stack.now.own c.args.count Nil c.in-Some.receiver c.pop.new.self.own c.requires.height
-    (sym c.in_ok-begin_method.ensures.own ∙ c.in-Some.ensures.popped))
+    answers_same c.end_method.result c.end_method.new.stack.own
+    (rest_is c.args.stack.now.own c.args.count Nil c.in-Some.receiver c.pop.new.self.own c.requires.height
+    (sym c.in-Ok.ensures.own ∙ c.in-Some.ensures.popped))
+    (answers_above c.run_inside-ended.result c.end_method.result c.pop.new.self.own c.run_inside-ended.new.stack.own
+    c.end_method.new.stack.own c.run_inside-ended.ensures.own c.end_method.ensures.own)
 
 pub activate-returns-clause-ran : goal.activate-returns-clause-ran
 activate-returns-clause-ran g t c =
     let receiver = get_or c.args.stack.now.own c.args.count Nil in
     let arguments = reverse (take c.args.count c.args.stack.now.own) in
     let frame = framed (c.mark-mark.result ∷ []) c.of-frame.result in
+    let AtHome : ℕ → Type 0 = λ home. Ran (part_run (outside c.args.depth) c.args.code.now Whole frame)
+    (g.O.Objects.seen c.args.objects.now) c.begin_method.new.self
+    (ended_as home c.run_inside-ended.result c.run_inside-ended.new.why c.run_inside-ended.new.stack.own)
+    (g.O.Objects.seen c.run_inside-ended.new.objects) c.run_inside-ended.new.locals in
+    let ran = subst AtHome (ap (λ (one : Frame). one.home) c.of-frame.ensures) c.run_inside-ended.ensures.ran in
     activation_ran (method_body (outside c.args.depth) c.args.code.now) (length c.args.code.now.temps) c.args.holder c.args.class_side
-    receiver arguments c.run_inside-ended.result c.mark-mark.result c.in-Some.receiver frame
+    receiver arguments (ended_as c.mark-mark.result.living c.run_inside-ended.result c.run_inside-ended.new.why
+    c.run_inside-ended.new.stack.own) c.mark-mark.result c.in-Some.receiver frame
     (arguments ++ replicate c.temps_count.result Nil) c.temps_count.result c.mark-mark.ensures
     (receiver_is c.args.stack.now.own c.args.count Nil c.in-Some.receiver c.pop.new.self.own c.requires.height
-    (sym c.in_ok-begin_method.ensures.own ∙ c.in-Some.ensures.popped))
+    (sym c.in-Ok.ensures.own ∙ c.in-Some.ensures.popped))
     (method_framed c.of-frame.result c.mark-mark.result c.in-Some.receiver c.args.holder c.args.class_side c.args.locals.now
     c.mark-mark.ensures c.of-frame.ensures)
-    refl c.temps_count.ensures c.in_ok-begin_method.ensures.begun
+    refl c.temps_count.ensures c.in-Ok.ensures.begun
     (method_ran_by (outside c.args.depth) c.args.code.now (selector_of c.args.code.now) frame c.requires.method
-    c.run_inside-ended.ensures.ran) c.leave_method.ensures
+    ran) c.end_method.ensures.left
 
 pub execute-run-init : goal.execute-run-init
 execute-run-init g t c = record {
@@ -201,7 +161,7 @@ execute-run-preserved-in-Goes-turn g t c = record {
       c.run.chain.own c.turn-turned.new.chain.own c.args.frame.now c.run.invariant.standing
       (instruction_of c.in-Some.instr.now)
       (ap (λ (code : List Instruction). slice_get code c.run.at) (sym c.code_of-instrs.ensures) ∙ sym c.in-Some.ensures.is)
-      c.turn-turned.ensures.keeps c.in-Goes-turn.place (rw c.in-Goes-turn.is at (rw c.in-Ok-done.is at c.in-Done.ensures.led));
+      c.turn-turned.ensures.keeps c.in-Goes-turn.place (rw c.in-Goes-turn.is at (rw c.in-Ok.is at c.in-Done.ensures.led));
   below = c.turn-turned.ensures.stack ∙ c.run.invariant.below;
   outer = c.turn-turned.ensures.chain ∙ c.run.invariant.outer;
 }
@@ -215,7 +175,7 @@ execute-run-preserved g t c = record {
       c.run.chain.own c.turn-turned.new.chain.own c.args.frame.now c.run.invariant.standing
       (instruction_of c.in-Some.instr.now)
       (ap (λ (code : List Instruction). slice_get code c.run.at) (sym c.code_of-instrs.ensures) ∙ sym c.in-Some.ensures.is)
-      c.turn-turned.ensures.keeps c.in-Jumps.place (rw c.in-Jumps.is at (rw c.in-Ok-done.is at c.in-Done.ensures.led));
+      c.turn-turned.ensures.keeps c.in-Jumps.place (rw c.in-Jumps.is at (rw c.in-Ok.is at c.in-Done.ensures.led));
   below = c.turn-turned.ensures.stack ∙ c.run.invariant.below;
   outer = c.turn-turned.ensures.chain ∙ c.run.invariant.outer;
 }
@@ -229,7 +189,7 @@ execute-returns-in-NotBoolean-clause-ran g t c =
     c.run.chain.own c.turn-turned.new.chain.own c.args.frame.now c.run.invariant.standing
     (instruction_of c.in-Some.instr.now)
     (ap (λ (code : List Instruction). slice_get code c.run.at) (sym c.code_of-instrs.ensures) ∙ sym c.in-Some.ensures.is)
-    c.turn-turned.ensures.keeps (stop.Fails fault.NotBoolean) (rw c.in-NotBoolean.is at (rw c.in-Ok-done.is at c.in-Done.ensures.led))
+    c.turn-turned.ensures.keeps (stop.Fails fault.NotBoolean) (rw c.in-NotBoolean.is at (rw c.in-Ok.is at c.in-Done.ensures.led))
 
 pub execute-returns-in-ArgumentKind-clause-ran : goal.execute-returns-in-ArgumentKind-clause-ran
 execute-returns-in-ArgumentKind-clause-ran g t c =
@@ -240,7 +200,7 @@ execute-returns-in-ArgumentKind-clause-ran g t c =
     c.run.chain.own c.turn-turned.new.chain.own c.args.frame.now c.run.invariant.standing
     (instruction_of c.in-Some.instr.now)
     (ap (λ (code : List Instruction). slice_get code c.run.at) (sym c.code_of-instrs.ensures) ∙ sym c.in-Some.ensures.is)
-    c.turn-turned.ensures.keeps (stop.Fails fault.ArgumentKind) (rw c.in-ArgumentKind.is at (rw c.in-Ok-done.is at c.in-Done.ensures.led))
+    c.turn-turned.ensures.keeps (stop.Fails fault.ArgumentKind) (rw c.in-ArgumentKind.is at (rw c.in-Ok.is at c.in-Done.ensures.led))
 
 pub execute-returns-in-NoUnit-clause-ran : goal.execute-returns-in-NoUnit-clause-ran
 execute-returns-in-NoUnit-clause-ran g t c =
@@ -251,7 +211,7 @@ execute-returns-in-NoUnit-clause-ran g t c =
     c.run.chain.own c.turn-turned.new.chain.own c.args.frame.now c.run.invariant.standing
     (instruction_of c.in-Some.instr.now)
     (ap (λ (code : List Instruction). slice_get code c.run.at) (sym c.code_of-instrs.ensures) ∙ sym c.in-Some.ensures.is)
-    c.turn-turned.ensures.keeps (stop.Fails fault.SendBudget) (rw c.in-NoUnit.is at (rw c.in-Ok-done.is at c.in-Done.ensures.led))
+    c.turn-turned.ensures.keeps (stop.Fails fault.SendBudget) (rw c.in-NoUnit.is at (rw c.in-Ok.is at c.in-Done.ensures.led))
 
 pub execute-returns-in-TooLarge-clause-ran : goal.execute-returns-in-TooLarge-clause-ran
 execute-returns-in-TooLarge-clause-ran g t c =
@@ -262,7 +222,7 @@ execute-returns-in-TooLarge-clause-ran g t c =
     c.run.chain.own c.turn-turned.new.chain.own c.args.frame.now c.run.invariant.standing
     (instruction_of c.in-Some.instr.now)
     (ap (λ (code : List Instruction). slice_get code c.run.at) (sym c.code_of-instrs.ensures) ∙ sym c.in-Some.ensures.is)
-    c.turn-turned.ensures.keeps (stop.Fails fault.ObjectTooLarge) (rw c.in-TooLarge.is at (rw c.in-Ok-done.is at c.in-Done.ensures.led))
+    c.turn-turned.ensures.keeps (stop.Fails fault.ObjectTooLarge) (rw c.in-TooLarge.is at (rw c.in-Ok.is at c.in-Done.ensures.led))
 
 pub execute-unreachable-requires-in-Stuck-turn : goal.execute-unreachable-requires-in-Stuck-turn
 execute-unreachable-requires-in-Stuck-turn g t c =
@@ -273,7 +233,7 @@ execute-unreachable-requires-in-Stuck-turn g t c =
     c.run.chain.own c.turn-turned.new.chain.own c.args.frame.now c.run.invariant.standing
     (instruction_of c.in-Some.instr.now)
     (ap (λ (code : List Instruction). slice_get code c.run.at) (sym c.code_of-instrs.ensures) ∙ sym c.in-Some.ensures.is)
-    c.turn-turned.ensures.keeps (rw c.in-Stuck-turn.is at (rw c.in-Ok-done.is at c.in-Done.ensures.led))
+    c.turn-turned.ensures.keeps (rw c.in-Stuck-turn.is at (rw c.in-Ok.is at c.in-Done.ensures.led))
 
 pub execute-run-preserved-in-Goes : goal.execute-run-preserved-in-Goes
 execute-run-preserved-in-Goes g t c = record {
@@ -288,40 +248,10 @@ execute-run-preserved-in-Goes g t c = record {
       c.in-Left.ensures.own c.in-Left.ensures.scopes c.in-Left.ensures.locals c.run.invariant.standing)
       (instruction_of c.in-Some.instr.now)
       (ap (λ (code : List Instruction). slice_get code c.run.at) (sym c.code_of-instrs.ensures) ∙ sym c.in-Some.ensures.is)
-      c.in-Ok.ensures.keeps c.in-Goes.place (rw c.in-Goes.is at c.in-Ok.ensures.led);
-  below = c.in-Ok.ensures.stack ∙ (c.in-Left.ensures.stack ∙ c.run.invariant.below);
-  outer = c.in-Ok.ensures.chain ∙ (c.in-Left.ensures.chain ∙ c.run.invariant.outer);
+      c.in-Goes.ensures.keeps c.in-Goes.place c.in-Goes.ensures.led;
+  below = c.in-Goes.ensures.stack ∙ (c.in-Left.ensures.stack ∙ c.run.invariant.below);
+  outer = c.in-Goes.ensures.chain ∙ (c.in-Left.ensures.chain ∙ c.run.invariant.outer);
 }
-
-pub execute-returns-in-Err-clause-ran : goal.execute-returns-in-Err-clause-ran
-execute-returns-in-Err-clause-ran g t c =
-    stands_stop (outside c.args.depth) (table_of c.args.code.now) (part_code c.args.code.now c.args.part)
-    (part_run (outside c.args.depth) c.args.code.now c.args.part (framed c.args.chain.now.own c.args.frame.now))
-    (g.O.Objects.seen c.args.objects.now) (g.O.Objects.seen c.turn-turned.new.objects) (g.O.Objects.seen c.lead-led.new.objects)
-    c.args.locals.now c.turn-turned.new.locals c.lead-led.new.locals c.run.at c.turn-turned.new.stack.own
-    c.lead-led.new.stack.own c.turn-turned.new.chain.own c.lead-led.new.chain.own c.args.frame.now
-    (stands_left (outside c.args.depth) (table_of c.args.code.now) (part_code c.args.code.now c.args.part)
-    (part_run (outside c.args.depth) c.args.code.now c.args.part (framed c.args.chain.now.own c.args.frame.now))
-    (g.O.Objects.seen c.args.objects.now) c.args.locals.now c.run.at c.args.frame.now c.in-Left.ensures.seen
-    c.in-Left.ensures.own c.in-Left.ensures.scopes c.in-Left.ensures.locals c.run.invariant.standing)
-    (instruction_of c.in-Some.instr.now)
-    (ap (λ (code : List Instruction). slice_get code c.run.at) (sym c.code_of-instrs.ensures) ∙ sym c.in-Some.ensures.is)
-    c.in-Err.ensures.keeps c.in-Err.stop c.in-Err.ensures.led
-
-pub execute-returns-in-Leaves-clause-ran : goal.execute-returns-in-Leaves-clause-ran
-execute-returns-in-Leaves-clause-ran g t c =
-    stands_leaves (outside c.args.depth) (table_of c.args.code.now) (part_code c.args.code.now c.args.part)
-    (part_run (outside c.args.depth) c.args.code.now c.args.part (framed c.args.chain.now.own c.args.frame.now))
-    (g.O.Objects.seen c.args.objects.now) (g.O.Objects.seen c.turn-turned.new.objects) (g.O.Objects.seen c.lead-led.new.objects)
-    c.args.locals.now c.turn-turned.new.locals c.lead-led.new.locals c.run.at c.turn-turned.new.stack.own
-    c.lead-led.new.stack.own c.turn-turned.new.chain.own c.lead-led.new.chain.own c.args.frame.now
-    (stands_left (outside c.args.depth) (table_of c.args.code.now) (part_code c.args.code.now c.args.part)
-    (part_run (outside c.args.depth) c.args.code.now c.args.part (framed c.args.chain.now.own c.args.frame.now))
-    (g.O.Objects.seen c.args.objects.now) c.args.locals.now c.run.at c.args.frame.now c.in-Left.ensures.seen
-    c.in-Left.ensures.own c.in-Left.ensures.scopes c.in-Left.ensures.locals c.run.invariant.standing)
-    (instruction_of c.in-Some.instr.now)
-    (ap (λ (code : List Instruction). slice_get code c.run.at) (sym c.code_of-instrs.ensures) ∙ sym c.in-Some.ensures.is)
-    c.in-Ok.ensures.keeps c.in-Leaves.answer (rw c.in-Leaves.is at c.in-Ok.ensures.led)
 
 pub execute-unreachable-requires-in-Stuck : goal.execute-unreachable-requires-in-Stuck
 execute-unreachable-requires-in-Stuck g t c =
@@ -336,4 +266,121 @@ execute-unreachable-requires-in-Stuck g t c =
     c.in-Left.ensures.own c.in-Left.ensures.scopes c.in-Left.ensures.locals c.run.invariant.standing)
     (instruction_of c.in-Some.instr.now)
     (ap (λ (code : List Instruction). slice_get code c.run.at) (sym c.code_of-instrs.ensures) ∙ sym c.in-Some.ensures.is)
-    c.in-Ok.ensures.keeps (rw c.in-Stuck.is at c.in-Ok.ensures.led)
+    c.in-Stuck.ensures.keeps c.in-Stuck.ensures.led
+
+pub call_primitive-returns-in-Ok-clause-own : goal.call_primitive-returns-in-Ok-clause-own
+call_primitive-returns-in-Ok-clause-own g t c =
+    answers_same c.value_of_primitive.result c.value_of_primitive.new.stack.own
+    (ap (drop 1) c.drop_upper.ensures.own ∙ one_less c.args.count c.args.stack.now.own) c.value_of_primitive.ensures.own
+
+pub call_primitive-returns-in-Err-clause-ran : goal.call_primitive-returns-in-Err-clause-ran
+call_primitive-returns-in-Err-clause-ran g t c =
+    primitive_stops c.args.depth c.args.number c.args.stack.now.own c.args.count c.requires c.in-Some.receiver.now
+    c.in-Some.ensures c.upper.result.now c.upper.ensures c.in-Err.ensures
+
+pub execute-returns-in-Answers-clause-ran : goal.execute-returns-in-Answers-clause-ran
+execute-returns-in-Answers-clause-ran g t c =
+    stands_leaves (outside c.args.depth) (table_of c.args.code.now) (part_code c.args.code.now c.args.part)
+    (part_run (outside c.args.depth) c.args.code.now c.args.part (framed c.args.chain.now.own c.args.frame.now))
+    (g.O.Objects.seen c.args.objects.now) (g.O.Objects.seen c.turn-turned.new.objects) (g.O.Objects.seen c.lead-led.new.objects)
+    c.args.locals.now c.turn-turned.new.locals c.lead-led.new.locals c.run.at c.turn-turned.new.stack.own
+    c.lead-led.new.stack.own c.turn-turned.new.chain.own c.lead-led.new.chain.own c.args.frame.now
+    (stands_left (outside c.args.depth) (table_of c.args.code.now) (part_code c.args.code.now c.args.part)
+    (part_run (outside c.args.depth) c.args.code.now c.args.part (framed c.args.chain.now.own c.args.frame.now))
+    (g.O.Objects.seen c.args.objects.now) c.args.locals.now c.run.at c.args.frame.now c.in-Left.ensures.seen
+    c.in-Left.ensures.own c.in-Left.ensures.scopes c.in-Left.ensures.locals c.run.invariant.standing)
+    (instruction_of c.in-Some.instr.now)
+    (ap (λ (code : List Instruction). slice_get code c.run.at) (sym c.code_of-instrs.ensures) ∙ sym c.in-Some.ensures.is)
+    c.in-Answers.ensures.keeps (top c.lead-led.new.stack.own) c.in-Answers.ensures.led.1
+
+pub execute-returns-in-Returns-clause-ran : goal.execute-returns-in-Returns-clause-ran
+execute-returns-in-Returns-clause-ran g t c =
+    stands_stop (outside c.args.depth) (table_of c.args.code.now) (part_code c.args.code.now c.args.part)
+    (part_run (outside c.args.depth) c.args.code.now c.args.part (framed c.args.chain.now.own c.args.frame.now))
+    (g.O.Objects.seen c.args.objects.now) (g.O.Objects.seen c.turn-turned.new.objects) (g.O.Objects.seen c.lead-led.new.objects)
+    c.args.locals.now c.turn-turned.new.locals c.lead-led.new.locals c.run.at c.turn-turned.new.stack.own
+    c.lead-led.new.stack.own c.turn-turned.new.chain.own c.lead-led.new.chain.own c.args.frame.now
+    (stands_left (outside c.args.depth) (table_of c.args.code.now) (part_code c.args.code.now c.args.part)
+    (part_run (outside c.args.depth) c.args.code.now c.args.part (framed c.args.chain.now.own c.args.frame.now))
+    (g.O.Objects.seen c.args.objects.now) c.args.locals.now c.run.at c.args.frame.now c.in-Left.ensures.seen
+    c.in-Left.ensures.own c.in-Left.ensures.scopes c.in-Left.ensures.locals c.run.invariant.standing)
+    (instruction_of c.in-Some.instr.now)
+    (ap (λ (code : List Instruction). slice_get code c.run.at) (sym c.code_of-instrs.ensures) ∙ sym c.in-Some.ensures.is)
+    c.in-Returns.ensures.keeps (stop.Returns (top c.lead-led.new.stack.own) c.args.frame.now.home)
+    c.in-Returns.ensures.led.1
+
+pub execute-returns-in-Stopped-clause-ran : goal.execute-returns-in-Stopped-clause-ran
+execute-returns-in-Stopped-clause-ran g t c =
+    stands_stop (outside c.args.depth) (table_of c.args.code.now) (part_code c.args.code.now c.args.part)
+    (part_run (outside c.args.depth) c.args.code.now c.args.part (framed c.args.chain.now.own c.args.frame.now))
+    (g.O.Objects.seen c.args.objects.now) (g.O.Objects.seen c.turn-turned.new.objects) (g.O.Objects.seen c.lead-led.new.objects)
+    c.args.locals.now c.turn-turned.new.locals c.lead-led.new.locals c.run.at c.turn-turned.new.stack.own
+    c.lead-led.new.stack.own c.turn-turned.new.chain.own c.lead-led.new.chain.own c.args.frame.now
+    (stands_left (outside c.args.depth) (table_of c.args.code.now) (part_code c.args.code.now c.args.part)
+    (part_run (outside c.args.depth) c.args.code.now c.args.part (framed c.args.chain.now.own c.args.frame.now))
+    (g.O.Objects.seen c.args.objects.now) c.args.locals.now c.run.at c.args.frame.now c.in-Left.ensures.seen
+    c.in-Left.ensures.own c.in-Left.ensures.scopes c.in-Left.ensures.locals c.run.invariant.standing)
+    (instruction_of c.in-Some.instr.now)
+    (ap (λ (code : List Instruction). slice_get code c.run.at) (sym c.code_of-instrs.ensures) ∙ sym c.in-Some.ensures.is)
+    c.in-Stopped.ensures.keeps c.lead-led.new.why c.in-Stopped.ensures.led
+
+pub send-returns-in-Ok-clause-led : goal.send-returns-in-Ok-clause-led
+send-returns-in-Ok-clause-led g t c =
+    let within : c.args.count < length c.args.stack.now.own = grind (arith, common_steps) in
+    sent_answers c.args.depth (table_of c.args.code.now) c.args.selector.now c.args.count c.args.at
+    c.args.stack.now.own c.args.chain.now.own c.answer_of-called.new.chain.own c.args.frame.now
+    (g.O.Objects.seen c.args.objects.now) (g.O.Objects.seen c.answer_of-called.new.objects) c.args.locals.now c.answer_of-called.new.locals
+    c.args.to_super within (top c.answer_of-called.new.stack.own) c.answer_of-called.new.stack.own c.in-Ok.place c.in-Ok.ensures.place
+    (ap (λ (one : Layers Mark). one.own) c.in-Answers.ensures.chain) c.in-Answers.ensures.own c.in-Answers.ensures.ran
+
+pub send-returns-in-Stopped-clause-led : goal.send-returns-in-Stopped-clause-led
+send-returns-in-Stopped-clause-led g t c =
+    let within : c.args.count < length c.args.stack.now.own = grind (arith, common_steps) in
+    sent_stops c.args.depth (table_of c.args.code.now) c.args.selector.now c.args.count c.args.at
+    c.args.stack.now.own c.args.chain.now.own c.answer_of-called.new.chain.own c.args.frame.now
+    (g.O.Objects.seen c.args.objects.now) (g.O.Objects.seen c.answer_of-called.new.objects) c.args.locals.now c.answer_of-called.new.locals
+    c.args.to_super within c.answer_of-called.new.why c.answer_of-called.new.stack.own c.in-Stopped.ensures.ran
+
+pub send_found-returns-in-Ok-clause-led : goal.send_found-returns-in-Ok-clause-led
+send_found-returns-in-Ok-clause-led g t c =
+    let within : c.args.count < length c.args.stack.now.own = grind (arith, common_steps) in
+    sent_answers c.args.depth (table_of c.args.code.now) c.args.selector.now c.args.count c.args.at
+    c.args.stack.now.own c.args.chain.now.own c.answer_found-called.new.chain.own c.args.frame.now
+    (g.O.Objects.seen c.args.objects.now) (g.O.Objects.seen c.answer_found-called.new.objects) c.args.locals.now c.answer_found-called.new.locals
+    false within (top c.answer_found-called.new.stack.own) c.answer_found-called.new.stack.own c.in-Ok.place c.in-Ok.ensures.place
+    (ap (λ (one : Layers Mark). one.own) c.in-Answers.ensures.chain) c.in-Answers.ensures.own c.in-Answers.ensures.ran
+
+pub send_found-returns-in-Stopped-clause-led : goal.send_found-returns-in-Stopped-clause-led
+send_found-returns-in-Stopped-clause-led g t c =
+    let within : c.args.count < length c.args.stack.now.own = grind (arith, common_steps) in
+    sent_stops c.args.depth (table_of c.args.code.now) c.args.selector.now c.args.count c.args.at
+    c.args.stack.now.own c.args.chain.now.own c.answer_found-called.new.chain.own c.args.frame.now
+    (g.O.Objects.seen c.args.objects.now) (g.O.Objects.seen c.answer_found-called.new.objects) c.args.locals.now c.answer_found-called.new.locals
+    false within c.answer_found-called.new.why c.answer_found-called.new.stack.own c.in-Stopped.ensures.ran
+
+pub answer_at-returns-in-Ok-clause-ran : goal.answer_at-returns-in-Ok-clause-ran
+answer_at-returns-in-Ok-clause-ran g t c =
+    placed_ran c.args.depth c.args.selector.now (framed c.args.chain.now.own c.args.frame.now)
+    (get_or c.args.stack.now.own c.args.count Nil) (take c.args.count c.args.stack.now.own) c.args.locals.now
+    (held_at (g.O.FindsMethods.founds c.args.objects.now) c.args.found) c.in-Ok.target c.in-Ok.ensures.target.0
+    c.in-Ok.ensures.target.1 c.requires.found c.call_target.ensures.ran
+
+pub answer_at-returns-in-Err-clause-ran : goal.answer_at-returns-in-Err-clause-ran
+answer_at-returns-in-Err-clause-ran g t c =
+    placed_stops c.args.depth c.args.selector.now (framed c.args.chain.now.own c.args.frame.now)
+    (get_or c.args.stack.now.own c.args.count Nil) (take c.args.count c.args.stack.now.own) c.args.locals.now
+    c.in-Err.ensures.target
+
+pub call_kept-returns-in-Ok-clause-ran : goal.call_kept-returns-in-Ok-clause-ran
+call_kept-returns-in-Ok-clause-ran g t c =
+    placed_ran c.args.depth c.args.selector.now (framed c.args.chain.now.own c.args.frame.now)
+    (get_or c.args.stack.now.own c.args.count Nil) (take c.args.count c.args.stack.now.own) c.args.locals.now
+    (held_at (g.O.FindsMethods.founds c.args.objects.now) c.args.found)
+    (Method c.args.method.code c.args.method.holder c.args.method.class_side) c.in-Ok.ensures
+    c.requires.kept c.requires.found c.call_method.ensures.ran
+
+pub call_kept-returns-clause-ran : goal.call_kept-returns-clause-ran
+call_kept-returns-clause-ran g t c =
+    placed_stops c.args.depth c.args.selector.now (framed c.args.chain.now.own c.args.frame.now)
+    (get_or c.args.stack.now.own c.args.count Nil) (take c.args.count c.args.stack.now.own) c.args.locals.now
+    c.in-Err.ensures

@@ -29,19 +29,19 @@ abbrev pub decreases-answer_of : goal.decreases-answer_of
 decreases-answer_of g l = 16 * l.depth + 8
 
 abbrev pub decreases-call_target : goal.decreases-call_target
-decreases-call_target g l = 16 * l.depth + 7
+decreases-call_target g l = 16 * l.depth + 6
 
 abbrev pub decreases-call_primitive : goal.decreases-call_primitive
-decreases-call_primitive g l = 16 * l.depth + 6
+decreases-call_primitive g l = 16 * l.depth + 5
 
 abbrev pub decreases-value_of_primitive : goal.decreases-value_of_primitive
-decreases-value_of_primitive g l = 16 * l.depth + 5
+decreases-value_of_primitive g l = 16 * l.depth + 4
 
 abbrev pub decreases-call_with : goal.decreases-call_with
-decreases-call_with g l = 16 * l.depth + 4
+decreases-call_with g l = 16 * l.depth + 3
 
 abbrev pub decreases-call_method : goal.decreases-call_method
-decreases-call_method g l = 16 * l.depth + 2
+decreases-call_method g l = 16 * l.depth + 1
 
 abbrev pub decreases-activate : goal.decreases-activate
 decreases-activate g l = 16 * l.depth + 15
@@ -53,13 +53,19 @@ abbrev pub decreases-run_with : goal.decreases-run_with
 decreases-run_with g l = 16 * l.depth + 13
 
 abbrev pub decreases-call_block : goal.decreases-call_block
-decreases-call_block g l = 16 * l.depth + 3
+decreases-call_block g l = 16 * l.depth + 2
 
 abbrev pub decreases-call_made : goal.decreases-call_made
-decreases-call_made g l = 16 * l.depth + 2
+decreases-call_made g l = 16 * l.depth + 1
 
 abbrev pub decreases-evaluate : goal.decreases-evaluate
 decreases-evaluate g l = 16 * l.depth + 15
+
+abbrev pub decreases-answer_at : goal.decreases-answer_at
+decreases-answer_at g l = 16 * l.depth + 7
+
+abbrev pub decreases-call_kept : goal.decreases-call_kept
+decreases-call_kept g l = 16 * l.depth + 7
 
 abbrev pub decreases-execute-run : goal.decreases-execute-run
 decreases-execute-run g l = (2 ^ 64 - l.jumps) * (length l.instrs + 2) + (length l.instrs + 1 - l.at)
