@@ -45,16 +45,31 @@ module _ {X : Type 0} where
   none_past (place ∷ places) zero past = absurd (omega (arith, past))
   none_past (place ∷ places) (suc at) past = none_past places at (omega (arith, past))
 
-  -- one place more is emptied
-  pub none_more : (places : List (Option X)) (at : ℕ)
+  -- a place is emptied
+  pub emptied_here : (places : List (Option X)) (at : ℕ) → held_at (set places at None) at ≡ None
+  emptied_here [] at = refl
+  emptied_here (first ∷ places) zero = refl
+  emptied_here (first ∷ places) (suc at) = emptied_here places at
+
+  pub emptied_other : (places : List (Option X)) (at place : ℕ) → held_at places place ≡ None
+      → held_at (set places at None) place ≡ None
+  emptied_other [] at place none = none
+  emptied_other (first ∷ places) zero zero none = refl
+  emptied_other (first ∷ places) zero (suc place) none = none
+  emptied_other (first ∷ places) (suc at) zero none = none
+  emptied_other (first ∷ places) (suc at) (suc place) none = emptied_other places at place none
+
+  -- one place more is empty
+  pub none_more : (places left : List (Option X)) (at : ℕ) → held_at left at ≡ None
+      → ((place : ℕ) → held_at places place ≡ None → held_at left place ≡ None)
       → ((place : ℕ) → place < at → held_at places place ≡ None)
-      → (place : ℕ) → place < at + 1 → held_at (set places at None) place ≡ None
-  none_more [] at before place below = refl
-  none_more (first ∷ places) zero before zero below = refl
-  none_more (first ∷ places) zero before (suc place) below = absurd (omega (arith, below))
-  none_more (first ∷ places) (suc at) before zero below = before zero (omega arith)
-  none_more (first ∷ places) (suc at) before (suc place) below =
-      none_more places at (λ one within. before (suc one) (omega (arith, within))) place (omega (arith, below))
+      → (place : ℕ) → place < at + 1 → held_at left place ≡ None
+  none_more places left at here others before place below = elim (cases_lt place at) [
+    | inl within ↦ others place (before place within)
+    | inr beyond ↦
+        let same : at ≡ place = omega (arith, below, beyond) in
+        subst (λ (one : ℕ). held_at left one ≡ None) same here
+  ]
 
   -- all places were emptied
   pub none_left : (places : List (Option X)) (at : ℕ) → length places ≤ at

@@ -1,5 +1,5 @@
 //! Tables of places, at each of which something may stand.
-ghost use Rattle.std.specs.Prelude.{◌≡◌, ◌<◌, ◌⊎◌, ℕ, length, Some, IfOk, option_copied};
+ghost use Rattle.std.specs.Prelude.{◌≡◌, ◌<◌, ◌⊎◌, ℕ, length, None, Some, IfOk, option_copied};
 ghost use Rattle.look_up_cache.specs.Table.{held_at, NoneHeld};
 
 use std::alloc::AllocError;
@@ -63,7 +63,21 @@ pub(crate) fn empty_all<X: Drop>(places: &mut Vec<Option<X>>)
 {
     let mut at = 0;
     'places: while at < places.len() {
-        places[at] = None;
+        empty_at(places, at);
         at += 1;
+    }
+}
+
+/// Takes away what stands at a place. Most of a table is empty, so it looks first.
+#[inline(always)]
+fn empty_at<X: Drop>(places: &mut Vec<Option<X>>, at: usize)
+    requires { at < length places.old.items }
+    ensures here { held_at places.new.items at ≡ None }
+    ensures others { (place : ℕ) → held_at places.old.items place ≡ None
+        → held_at places.new.items place ≡ None }
+    ensures size { length places.new.items ≡ length places.old.items }
+{
+    if held_at(places, at).is_some() {
+        places[at] = None;
     }
 }
