@@ -1,6 +1,7 @@
 -- A value that is put into a slot without a look whether there is that slot.
-use Rattle.std.proofs.Common.{◌≡◌, ◌∙◌, refl, sym, ap, ℕ, Bool, true, false, cond, nat_eq, nat_lt, Option, Some, None, Ok}
-use Rattle.std.proofs.lemmas.Bool.{false≢true, eqb-true}
+use Rattle.std.proofs.Common.{◌≡◌, ◌∙◌, refl, sym, ap, subst, ℕ, Bool, true, false, cond, nat_eq, nat_lt, Option, Some, None, Result, Ok, Err}
+use Rattle.std.specs.Prelude.{OnOk}
+use Rattle.std.proofs.lemmas.Bool.{false≢true, eqb-true, and_parts}
 use Rattle.std.proofs.lemmas.Option.{none-some}
 use Rattle.std.specs.Ordering.{nat_cmp}
 use Rattle.std.specs.Option.{option_or}
@@ -12,16 +13,17 @@ use Rattle.gem_image.specs.Image.{Contents}
 use Rattle.gem_image.proofs.radix_pages_lemmas.Tables.{same_keys}
 use Rattle.gem_world.specs.World.{before_changes}
 use Rattle.gem_world.specs.Changes.{with_body}
+use Rattle.object_programs.specs.Budget.{is_small}
 use Rattle.object_programs.specs.Fixed.{fixed_by}
 use Rattle.object_programs.specs.Guard.{holds_of}
 use Rattle.running_objects.specs.Seen.{Seen, object_at, IsSoundState}
-use Rattle.running_objects.specs.Acted.{Edited}
+use Rattle.running_objects.specs.Acted.{Edited, EditedWithin}
 use Rattle.running_objects.specs.Fitting.{may_enter}
-use Rattle.plain_state.specs.Edit.{with_slot_put}
+use Rattle.plain_state.specs.Edit.{with_slot_put, takes_value}
 use Rattle.plain_state.specs.Overlay.{changed_at}
 use Rattle.plain_state.specs.Parts.{edited_in}
 use Rattle.plain_state.proofs.Changes.{get_either}
-use Rattle.plain_state.proofs.Slots.{slot_set, no_slot, no_slot_in, edited_as}
+use Rattle.plain_state.proofs.Slots.{old_shown, slot_set, no_slot, no_slot_in, edited_as}
 
 -- what is written at a name as it was changes nothing
 changed_same : (changes : FinMap nat_cmp Contents) (name : ℕ) (edit : Contents → Contents) (found : Option Contents)
@@ -70,3 +72,32 @@ module _ (x : Seen) (name : ℕ) where
             (edited_same (with_slot_put at value) (λ old written. ap (λ (one : Body). with_body one old)
             (no_slot_in x name at value sound old.body
             (sym (ap (holds_of (λ object. nat_lt at (plain_slots object.body))) written) ∙ has))))
+
+    -- where the object takes the value, it is put within the limits
+    put_where : holds_of (takes_value at value) (get x.world.changes name) ≡ true
+        → may_enter (fixed_by x.setting x.world) value ≡ true
+        → EditedWithin name (with_slot at value) x (edited_in name (with_slot_put at value) x)
+    put_where takes enters = by (get x.world.changes name) refl takes
+      where
+        by : (found : Option Contents) → get x.world.changes name ≡ found → holds_of (takes_value at value) found ≡ true
+            → EditedWithin name (with_slot at value) x (edited_in name (with_slot_put at value) x)
+        by None written takes = absurd (false≢true takes)
+        by (Some old) written takes =
+            let both = and_parts (nat_lt at (plain_slots old.body)) (is_small (with_slot at value old.body)) takes in
+            let there : object_at name x ≡ Some old = old_shown x name old written in
+            record {
+              object = old;
+              there = there;
+              small = both.1;
+              acted = slot_set x name at value sound
+                  (ap (holds_of (λ object. nat_lt at (plain_slots object.body))) written ∙ both.0) enters old there;
+            }
+
+    pub put_within : (y : Seen) → may_enter (fixed_by x.setting x.world) value ≡ true
+        → (result : Result (Unit {0}) Value)
+        → OnOk result (y ≡ edited_in name (with_slot_put at value) x)
+        → OnOk result (holds_of (takes_value at value) (get x.world.changes name) ≡ true)
+        → OnOk result (EditedWithin name (with_slot at value) x y)
+    put_within y enters (Ok nothing) is takes =
+        subst (EditedWithin name (with_slot at value) x) (sym is) (put_where takes enters)
+    put_within y enters (Err given) is takes = tt

@@ -1,14 +1,15 @@
 //! What the parts of a state do at edits in place.
-ghost use Rattle.std.specs.Prelude.{◌≡◌, nat_lt, OnOk, OnErr, None};
+ghost use Rattle.std.specs.Prelude.{◌≡◌, nat_lt, true, OnOk, OnErr, None};
 ghost use Rattle.std.specs.FinMap.{get};
+ghost use Rattle.std.specs.Result.{IfErr};
 ghost use Rattle.gem_object.specs.Edits.{plain_slots, body_bytes, with_slot, with_slot_more, without_slot, with_byte, without_value_at};
 ghost use Rattle.object_programs.specs.Fixed.{fixed_by};
 ghost use Rattle.object_programs.specs.Guard.{holds_of};
 ghost use Rattle.running_objects.specs.Seen.{object_at, IsSoundState};
-ghost use Rattle.running_objects.specs.Acted.{Edited};
+ghost use Rattle.running_objects.specs.Acted.{Edited, EditedWithin};
 ghost use Rattle.running_objects.specs.Fitting.{may_enter, is_known_value};
 ghost use Rattle.plain_state.specs.Parts.{missed_value, edited_in, SameObjects};
-ghost use Rattle.plain_state.specs.Edit.{edited_by, with_slot_put};
+ghost use Rattle.plain_state.specs.Edit.{edited_by, with_slot_put, takes_value};
 ghost use Rattle.plain_state.specs.Classes.{slots_in, may_insert, has_pairs};
 ghost use Rattle.plain_state.specs.declared.edit.Edit.TheVariants as edit;
 
@@ -33,6 +34,7 @@ impl Parts {
     }
 
     /// Whether the object is there to which the value refers, if it refers to one.
+    #[inline(always)]
     pub(crate) fn knows(&self, value: &Value) -> bool
         ensures { result
             ≡ is_known_value (fixed_by self.now.seen.setting self.now.seen.world) value.now }
@@ -44,6 +46,7 @@ impl Parts {
     }
 
     /// Whether the value may come into a slot.
+    #[inline(always)]
     pub(crate) fn may_enter(&self, value: &Value) -> bool
         ensures { result
             ≡ may_enter (fixed_by self.now.seen.setting self.now.seen.world) value.now }
@@ -52,6 +55,7 @@ impl Parts {
     }
 
     /// Touches the name to which the value refers, where there is no object.
+    #[inline(never)]
     pub(crate) fn miss_value(&mut self, value: &Value) -> Result<(), AllocError>
         ensures missed { OnOk result (self.new.seen ≡ missed_value value.now self.old.seen) }
         ensures unchanged { OnErr result (self.new.seen ≡ self.old.seen) }
@@ -107,6 +111,36 @@ impl Parts {
         ensures { self.new.seen ≡ edited_in oid (with_slot_put at value) self.old.seen }
     {
         self.shown.put_slot(oid.number(), at, value);
+    }
+
+    /// Puts a value in a slot, where all is well with that. Else it gives the value back, and all is
+    /// as before.
+    #[inline(always)]
+    pub(crate) fn set_slot_within(&mut self, oid: Oid, at: usize, value: Value) -> Result<(), Value>
+        requires { IsSoundState self.old.seen }
+        ensures put { OnOk result
+            (EditedWithin oid (with_slot at value) self.old.seen self.new.seen) }
+        ensures given { IfErr result (λ given. given ≡ value) }
+        ensures unchanged { OnErr result (self.new.seen ≡ self.old.seen) }
+    {
+        if !self.may_enter(&value) {
+            return Err(value);
+        }
+        self.put_slot_within(oid, at, value)
+    }
+
+    // Puts a value in a slot of a written object, where there is that slot and the object then is
+    // within the limits of objects. Else it gives the value back.
+    #[inline(always)]
+    fn put_slot_within(&mut self, oid: Oid, at: usize, value: Value) -> Result<(), Value>
+        ensures put { OnOk result
+            (self.new.seen ≡ edited_in oid (with_slot_put at value) self.old.seen) }
+        ensures takes { OnOk result
+            (holds_of (takes_value at value) (get self.old.seen.world.changes oid) ≡ true) }
+        ensures given { IfErr result (λ given. given ≡ value) }
+        ensures unchanged { OnErr result (self.new.seen ≡ self.old.seen) }
+    {
+        self.shown.put_slot_within(oid.number(), at, value)
     }
 
     /// Whether a written object of this name has a byte at this place.

@@ -1,16 +1,18 @@
 //! An object that a transaction has changed, with its bytes.
-ghost use Rattle.std.specs.Prelude.{◌≡◌, IfOk, IfSome, OnErr, OnOk};
+ghost use Rattle.std.specs.Prelude.{◌≡◌, true, IfOk, IfSome, OnErr, OnOk};
+ghost use Rattle.std.specs.Result.{IfErr};
 ghost use Rattle.body_growth.specs.Changes.{Changes, bytes_of};
 ghost use Rattle.gem_object.specs.declared.body.Body.{Body};
 ghost use Rattle.gem_image.specs.Image.{contents_of};
-ghost use Rattle.plain_state.specs.Edit.{edited_by, with_slot_put};
+ghost use Rattle.plain_state.specs.Edit.{edited_by, with_slot_put, takes_value};
 ghost use Rattle.plain_state.specs.Updates.{takes, with_update};
 
 use crate::edit::{Edit, set_slot};
 use crate::updates::take_update;
-use body_growth::{Change, body_updated};
+use body_growth::{Change, body_updated, slot_replaced};
 use gem_object::{Body, Object, Value};
 use gem_update::Update;
+use running_objects::is_small_with;
 use std::alloc::AllocError;
 use std::marker::Model;
 
@@ -85,6 +87,30 @@ impl Entry {
     {
         let change = set_slot(&mut self.object.body, at, value);
         self.bytes = bytes_after(Some(change), self.bytes, &self.object.body);
+    }
+
+    /// Puts a value into a slot, where there is that slot and the object then is within the limits
+    /// of objects. Else it gives the value back, and all is as before.
+    #[inline(always)]
+    pub(crate) fn put_slot_within(&mut self, at: usize, value: Value) -> Result<(), Value>
+        ensures put { OnOk result
+            (contents_of self.new ≡ with_slot_put at value (contents_of self.old)) }
+        ensures takes { OnOk result (takes_value at value (contents_of self.old) ≡ true) }
+        ensures given { IfErr result (λ given. given ≡ value) }
+        ensures unchanged { OnErr result (self.new ≡ self.old) }
+    {
+        let body = &self.object.body;
+        if at >= body.plain_slots() || self.bytes == u64::MAX {
+            return Err(value);
+        }
+        let change = slot_replaced(body, at, &value);
+        let bytes = change.bytes_after(self.bytes);
+        if !is_small_with(change.slots_after(body.slots()), bytes) {
+            return Err(value);
+        }
+        self.object.body.set_slot(at, value);
+        self.bytes = bytes;
+        Ok(())
     }
 
     /// Updates the object; whether it took the update. The bytes are known from what the update

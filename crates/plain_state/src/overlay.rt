@@ -1,8 +1,9 @@
 //! What a transaction has changed.
-ghost use Rattle.std.specs.Prelude.{◌≡◌, ◌≤◌, ◌+◌, ◌^◌, length, option_map, option_copied, is_some, IfSome, IfOk, OnOk, OnErr, Some};
+ghost use Rattle.std.specs.Prelude.{◌≡◌, ◌≤◌, ◌+◌, ◌^◌, length, option_map, option_copied, is_some, true, IfSome, IfOk, OnOk, OnErr, Some};
+ghost use Rattle.std.specs.Result.{IfErr};
 ghost use Rattle.std.specs.FinMap as map;
 ghost use Rattle.gem_image.specs.Image.{contents_of};
-ghost use Rattle.plain_state.specs.Edit.{edited_by, with_slot_put};
+ghost use Rattle.plain_state.specs.Edit.{edited_by, with_slot_put, takes_value};
 ghost use Rattle.object_programs.specs.Guard.{holds_of};
 ghost use Rattle.running_objects.specs.Acted.{stored_bytes};
 ghost use Rattle.plain_state.specs.Overlay.{changed};
@@ -167,6 +168,29 @@ impl Overlay {
             return;
         };
         self.entries[place].put_slot(at, value);
+    }
+
+    /// Puts a value into a slot of the object of this name, where there is that slot and the object
+    /// then is within the limits of objects. Else it gives the value back, and all is as before. The
+    /// object mostly stands at this place.
+    #[inline(always)]
+    pub(crate) fn put_slot_within(
+        &mut self,
+        near: usize,
+        number: u64,
+        at: usize,
+        value: Value,
+    ) -> Result<(), Value>
+        ensures put { OnOk result (self.new ≡ changed number (with_slot_put at value) self.old) }
+        ensures takes { OnOk result
+            (holds_of (takes_value at value) (map.get self.old number) ≡ true) }
+        ensures given { IfErr result (λ given. given ≡ value) }
+        ensures unchanged { OnErr result (self.new ≡ self.old) }
+    {
+        let Some(place) = place_near(&self.entries, near, number) else {
+            return Err(value);
+        };
+        self.entries[place].put_slot_within(at, value)
     }
 
     /// Updates the object of this name, if there is one; whether it took the update. It mostly

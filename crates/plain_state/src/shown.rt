@@ -1,12 +1,13 @@
 //! What a transaction sees.
-ghost use Rattle.std.specs.Prelude.{◌≡◌, ◌≤◌, ◌+◌, ◌^◌, length, option_map, option_copied, is_some, IfSome, IfOk, OnOk, OnErr, Some};
+ghost use Rattle.std.specs.Prelude.{◌≡◌, ◌≤◌, ◌+◌, ◌^◌, length, option_map, option_copied, is_some, true, IfSome, IfOk, OnOk, OnErr, Some};
+ghost use Rattle.std.specs.Result.{IfErr};
 ghost use Rattle.std.specs.FinMap as map;
 ghost use Rattle.gem_image.specs.Image.{contents_of, objects_in};
 ghost use Rattle.gem_world.specs.World.{are_shared};
 ghost use Rattle.object_programs.specs.Guard.{holds_of};
 ghost use Rattle.running_objects.specs.Acted.{stored_bytes};
 ghost use Rattle.plain_state.specs.AtHand.{over, before_in, shown_in, with_changes, IsSpot};
-ghost use Rattle.plain_state.specs.Edit.{edited_by, with_slot_put};
+ghost use Rattle.plain_state.specs.Edit.{edited_by, with_slot_put, takes_value};
 ghost use Rattle.plain_state.specs.Overlay.{changed};
 ghost use Rattle.plain_state.specs.Puts.{with_all};
 ghost use Rattle.plain_state.specs.Updates.{takes, with_update};
@@ -154,6 +155,7 @@ impl Shown {
 
     /// The object of this name before anything was changed: a reduced-conflict one as of the view,
     /// any other as of the place.
+    #[inline(never)]
     pub(crate) fn before(&self, oid: Oid) -> Option<&Object>
         ensures { option_map contents_of (option_copied result) ≡ before_in self.now oid }
     {
@@ -250,6 +252,27 @@ impl Shown {
     {
         let near = self.place_near(number);
         self.changes.put_slot(near, number, at, value);
+    }
+
+    /// Puts a value into a slot of the changed object of this name, where there is that slot and the
+    /// object then is within the limits of objects. Else it gives the value back, and all is as
+    /// before.
+    #[inline(always)]
+    pub(crate) fn put_slot_within(
+        &mut self,
+        number: u64,
+        at: usize,
+        value: Value,
+    ) -> Result<(), Value>
+        ensures put { OnOk result (self.new ≡ with_changes self.old
+            (changed number (with_slot_put at value) self.old.changes)) }
+        ensures takes { OnOk result
+            (holds_of (takes_value at value) (map.get self.old.changes number) ≡ true) }
+        ensures given { IfErr result (λ given. given ≡ value) }
+        ensures unchanged { OnErr result (self.new ≡ self.old) }
+    {
+        let near = self.place_near(number);
+        self.changes.put_slot_within(near, number, at, value)
     }
 
     /// Updates the changed object of this name, if there is one; whether it took the update.

@@ -103,6 +103,7 @@ impl Objects for PlainState {
         }
     }
 
+    #[inline(always)]
     fn object(&self, oid: Oid) -> Option<&Object> {
         self.parts.look(oid)
     }
@@ -155,6 +156,11 @@ impl Objects for PlainState {
 
     fn set_slot(&mut self, oid: Oid, at: usize, value: Value) -> Result<(), Stop> {
         self.parts.set_slot(oid, at, value)
+    }
+
+    #[inline(always)]
+    fn set_slot_within(&mut self, oid: Oid, at: usize, value: Value) -> Result<(), Value> {
+        self.parts.set_slot_within(oid, at, value)
     }
 
     fn insert_slot(&mut self, oid: Oid, at: usize, value: Value) -> Result<(), Stop> {

@@ -2,6 +2,8 @@
 use Rattle.std.proofs.Common.{◌≡◌, ◌∙◌, refl, sym, ap, ap₂, subst, ℕ, ◌+◌, ◌-◌, ◌^◌, ◌<◌, ◌≤◌, Bool, true, false, ◌&&◌, nat_le, min, Option, Some, None, option_map, [], Result, Ok, Err, arith}
 use Rattle.std.specs.Option.{unwrap_or}
 use Rattle.std.proofs.lemmas.Bool.{false≢true, leb-true, le-leb}
+use Rattle.std.proofs.Math.Nat.{sub-zero}
+use Rattle.std.proofs.Math.Dec.{leb-zero}
 use Rattle.gem_object.specs.Slots.{slots_of}
 use Rattle.gem_object.specs.Sizes.{fields_size}
 use Rattle.gem_object.specs.declared.body.Body.{Body}
@@ -14,16 +16,17 @@ use Rattle.tree_meaning.specs.Place.{MadeBlock}
 use Rattle.object_programs.specs.Local.{Local}
 use Rattle.object_programs.specs.Atom.{Put, Note, Room, spent_where}
 use Rattle.object_programs.specs.Budget.{Budget, is_within_limits}
+use Rattle.object_programs.specs.Laws.{answered}
 use Rattle.object_programs.specs.Programs.{need, check, replace_body, update}
 use Rattle.object_programs.specs.Run.{Run, give, atom, and_then, Ending, gives, fails, Outcome}
 use Rattle.object_programs.specs.declared.fault.Fault.{Fault}
 use Rattle.object_programs.specs.declared.fault.Fault.TheVariants as fault
 use Rattle.object_programs.specs.declared.limits.TheConstants.{SLOTS_LIMIT, BYTES_LIMIT}
 use Rattle.running_objects.specs.Seen.{Seen, object_at, with_local, IsSoundState}
-use Rattle.running_objects.specs.Acted.{Acted, Edited, stored_bytes}
+use Rattle.running_objects.specs.Acted.{Acted, Edited, EditedWithin, stored_bytes}
 use Rattle.running_objects.specs.declared.stop.Stop.{Stop}
 use Rattle.running_objects.specs.declared.stop.Stop.TheVariants as stop
-use Rattle.running_objects.proofs.Running.{keeps_same, seen_twice}
+use Rattle.running_objects.proofs.Running.{keeps_same, acted_says, seen_twice}
 use Rattle.running_objects.proofs.Bytes.{seen_small}
 use Rattle.body_growth.specs.declared.change.Change.{Change}
 use Rattle.body_growth.specs.Changes.{Shifts, Changes, Tells}
@@ -174,6 +177,18 @@ module _ (growth : Body → ℕ) (name : ℕ) (edit : Body → Body) (held : Con
   pub replaced_then : {between after : Seen} {result : Result (Unit {0}) Stop} → Does (room_where small taken) before (Ok tt) between
       → Edited name edit between result after → Replaces growth name edit before result after
   replaced_then room edited = replaced_put room (edited held (still_there small taken name room ∙ sym there))
+
+-- no space is always to be had
+no_room : (seen : Seen) → Acted (Room 0) seen (Ok tt) seen
+no_room seen = acted_says (Room 0) seen seen tt refl
+    (ap (λ (fits : Bool). spent_where fits 0 seen.world seen.budget) (leb-zero seen.budget.slots)
+    ∙ ap (λ (left : ℕ). answered tt seen.world (record seen.budget { slots = left })) (sub-zero seen.budget.slots))
+
+-- what was put within the limits has taken the place of the old body, and takes no more space
+pub replaced_within : (name : ℕ) (edit : Body → Body) {before after : Seen} → EditedWithin name edit before after
+    → Replaces (λ body. 0) name edit before (Ok tt) after
+replaced_within name edit {before} within = replaced_put (λ body. 0) name edit within.object true 0 (sym within.there)
+    (sym within.small) refl (room_asked 0 (no_room before)) within.acted
 
 -- ---- updates
 

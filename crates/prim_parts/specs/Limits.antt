@@ -1,7 +1,5 @@
 -- The limits of objects, and what tells whether an object stays within them.
-use Rattle.std.specs.Prelude.{◌≡◌, ◌+◌, ℕ, Bool, ◌&&◌, nat_le, Some}
-use Rattle.gem_object.specs.Slots.{slots_of}
-use Rattle.gem_object.specs.Sizes.{fields_size}
+use Rattle.std.specs.Prelude.{◌≡◌, ℕ, Bool, ◌&&◌, Some}
 use Rattle.gem_object.specs.declared.body.Body.{Body}
 use Rattle.gem_update.specs.Update.{updated}
 use Rattle.gem_update.specs.declared.update.Update.{Update}
@@ -16,7 +14,6 @@ use Rattle.object_programs.specs.Programs.{need, check}
 use Rattle.object_programs.specs.Run.{Run, give, atom, and_then}
 use Rattle.object_programs.specs.declared.fault.Fault.{Fault}
 use Rattle.object_programs.specs.declared.fault.Fault.TheVariants as fault
-use Rattle.object_programs.specs.declared.limits.TheConstants.{SLOTS_LIMIT, BYTES_LIMIT}
 use Rattle.running_objects.specs.Seen.{Seen, object_at}
 
 -- This tells whether the object of this name is within the limits after the change.

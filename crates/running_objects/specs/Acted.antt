@@ -1,5 +1,5 @@
 -- That a call did what an atom does. An atom leaves what is local, so nothing is said of it.
-use Rattle.std.specs.Prelude.{◌≡◌, ◌-◌, ◌^◌, ℕ, min, map, List, Some, Result, Ok, Err}
+use Rattle.std.specs.Prelude.{◌≡◌, ◌-◌, ◌^◌, ℕ, min, true, map, List, Some, Result, Ok, Err}
 use Rattle.gem_object.specs.Sizes.{fields_size}
 use Rattle.gem_object.specs.declared.body.Body.{Body}
 use Rattle.gem_object.specs.declared.object.Object.{Object}
@@ -7,6 +7,7 @@ use Rattle.object_programs.specs.gem_image.Image.{Contents, contents_of}
 use Rattle.object_programs.specs.gem_world.World.{next_name}
 use Rattle.object_programs.specs.gem_world.Access.{Access}
 use Rattle.object_programs.specs.Fixed.{fixed_by}
+use Rattle.object_programs.specs.Budget.{is_small}
 use Rattle.object_programs.specs.Atom.{Atom, Ask, Own, Kind, Put, Make, says, refuses, Done, done}
 use Rattle.running_objects.specs.Seen.{Seen, object_at, Keeps}
 use Rattle.running_objects.specs.declared.stop.Stop.{Stop}
@@ -63,6 +64,14 @@ abbrev pub Edited : ℕ → (Body → Body) → Seen → Result (Unit {0}) Stop 
 Edited name edit before result after = (object : Contents)
     → object_at name before ≡ Some object
     → Acted (Put name (edit object.body)) before result after
+
+-- A call put the edited body at the object of this name, which is there, and is within the limits of
+-- objects with that body.
+pub record EditedWithin (name : ℕ) (edit : Body → Body) (before after : Seen) : Type 0 where
+  pub object : Contents
+  pub there : object_at name before ≡ Some object
+  pub small : is_small (edit object.body) ≡ true
+  pub acted : Acted (Put name (edit object.body)) before (Ok tt) after
 
 -- A call made these objects, whatever function of the first one's name gives them at the name that
 -- is drawn next.

@@ -4,10 +4,12 @@
 
 mod chunks;
 pub mod laws;
+mod limits;
 mod objects;
 mod stop;
 
 pub use chunks::RunsChunks;
+pub use limits::is_small_with;
 pub use object_programs::{ACTIVATION_LIMIT, Fault};
 pub use objects::Objects;
 pub use stop::Stop;

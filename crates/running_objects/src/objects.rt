@@ -1,6 +1,7 @@
 //! What a running transaction may do to objects.
-ghost use Rattle.std.specs.Prelude.{◌≡◌, ◌<◌, ℕ, true, List, Option, map, SomeIff, IfSome, option_map, option_copied, Some, None};
+ghost use Rattle.std.specs.Prelude.{◌≡◌, ◌<◌, ℕ, true, List, Option, map, SomeIff, IfSome, OnOk, OnErr, option_map, option_copied, Some, None};
 ghost use Rattle.std.specs.List.{list_all};
+ghost use Rattle.std.specs.Result.{IfErr};
 ghost use Rattle.gem_object.specs.Edits.{with_slot, with_slot_more, without_slot, with_byte, with_value_at, without_value_at};
 ghost use Rattle.object_programs.specs.gem_image.Image.{contents_of};
 ghost use Rattle.object_programs.specs.gem_world.World.{is_made, next_name};
@@ -9,7 +10,7 @@ ghost use Rattle.object_programs.specs.Methods.{methods_fit};
 ghost use Rattle.object_programs.specs.Atom.{Put, Move, Note, Names, Tick, Room, Show};
 ghost use Rattle.object_programs.specs.declared.limits.TheConstants.{COUNTER_LIMIT};
 ghost use Rattle.running_objects.specs.Seen.{Seen, object_at, IsSoundState};
-ghost use Rattle.running_objects.specs.Acted.{Acted, Accessed, Owned, Known, Edited, Made, stored_bytes};
+ghost use Rattle.running_objects.specs.Acted.{Acted, Accessed, Owned, Known, Edited, EditedWithin, Made, stored_bytes};
 
 use crate::stop::Stop;
 use gem_object::{Body, Object, Oid, Value};
@@ -104,6 +105,16 @@ pub trait Objects {
     /// nothing changes.
     fn set_slot(&mut self, oid: Oid, at: usize, value: Value) -> Result<(), Stop>
         ensures { Edited oid (with_slot at value) (seen self.old) result (seen self.new) };
+
+    /// Puts a value in a slot of an object that was written or made, at one look: where there is
+    /// that slot, the value may come into it, and the object then is within the limits of objects.
+    /// Else the value is given back, and nothing changes; that doesn't say that `set_slot` would
+    /// change nothing. It takes no memory.
+    fn set_slot_within(&mut self, oid: Oid, at: usize, value: Value) -> Result<(), Value>
+        ensures put { OnOk result
+            (EditedWithin oid (with_slot at value) (seen self.old) (seen self.new)) }
+        ensures given { IfErr result (λ given. given ≡ value) }
+        ensures unchanged { OnErr result (seen self.new ≡ seen self.old) };
 
     /// Puts a slot with this value at a place of an object that was written or made; the slots from
     /// there on move up by one. Behind the last slot it comes at the end.

@@ -19,6 +19,7 @@ impl Objects for View {
         self.state.next_name()
     }
 
+    #[inline(always)]
     fn object(&self, oid: Oid) -> Option<&Object> {
         self.state.object(oid)
     }
@@ -70,6 +71,11 @@ impl Objects for View {
     #[inline(always)]
     fn set_slot(&mut self, oid: Oid, at: usize, value: Value) -> Result<(), Stop> {
         self.state.set_slot(oid, at, value)
+    }
+
+    #[inline(always)]
+    fn set_slot_within(&mut self, oid: Oid, at: usize, value: Value) -> Result<(), Value> {
+        self.state.set_slot_within(oid, at, value)
     }
 
     fn insert_slot(&mut self, oid: Oid, at: usize, value: Value) -> Result<(), Stop> {
