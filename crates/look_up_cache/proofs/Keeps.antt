@@ -1,7 +1,9 @@
 -- What is known remains known.
-use Rattle.std.proofs.Common.{◌≡◌, ◌∙◌, refl, sym, subst, ℕ, Bool, true, false, ◌&&◌, List, Option, Some, None, is_some, Result, Ok, Err, is_ok}
+use Rattle.std.proofs.Common.{◌≡◌, ◌∙◌, refl, sym, ap, subst, ℕ, Bool, true, false, ◌&&◌, List, Option, Some, None, is_some, Result, Ok, Err, is_ok}
+use Rattle.std.specs.Prelude.{OnOk, OnErr}
 use Rattle.std.proofs.lemmas.Bool.{false≢true, and_parts}
 use Rattle.gem_object.specs.texts.Bytes.{Bytes as Text}
+use Rattle.gem_object.specs.declared.value.Value.{Value}
 use Rattle.gem_object.specs.declared.body.MethodCode.{MethodCode}
 use Rattle.gem_object.specs.declared.body.Body.{Body}
 use Rattle.gem_object.specs.declared.object.Object.{Object}
@@ -11,12 +13,13 @@ use Rattle.running_objects.specs.gem_world.World.{Setting}
 use Rattle.running_objects.specs.gem_world.Access.{Access}
 use Rattle.running_objects.specs.object_programs.Atom.{Put, Note, Names, Tick, Room, Show}
 use Rattle.running_objects.specs.Seen.{Seen, object_at, IsSoundState, with_whole_budget}
-use Rattle.running_objects.specs.Acted.{Acted, Accessed, Owned, Known, Edited, Made}
+use Rattle.running_objects.specs.Acted.{Acted, Accessed, Owned, Known, Edited, EditedWithin, Made}
 use Rattle.running_objects.specs.declared.stop.Stop.{Stop}
 use Rattle.running_objects.specs.object_programs.Guard.{chain_limit}
 use Rattle.gem_language.specs.LookUp.{Start}
 use Rattle.prim_parts.specs.Does.{IsThere}
 use Rattle.prim_parts.specs.Edits.{Replaces}
+use Rattle.prim_parts.proofs.Replaced.{replaced_within}
 use Rattle.look_up_cache.specs.Lasting.{lasting_body}
 use Rattle.look_up_cache.specs.Calm.{Begins, Writable}
 use Rattle.look_up_cache.specs.Remembered.{Finds}
@@ -199,6 +202,14 @@ module _ {T : Type 0} (is_of : T → MethodCode → Type 0) (memory : Memory T) 
       → IsKnown is_of held memory before → IsKnown is_of held memory after
   replaced_known name edit keeps held there did = remain_known held (some_by (object_at name before)
       (Remains before after) there (λ object here. replace_remains before after name edit object here keeps (did object here)))
+
+  -- where a body was put at one look, or nothing changed
+  pub within_known : (name : ℕ) (edit : Body → Body) → ((body : Body) → lasting_body (edit body) ≡ lasting_body body)
+      → (held : Bool) (result : Result (Unit {0}) Value) → OnOk result (EditedWithin name edit before after)
+      → OnErr result (after ≡ before) → IsKnown is_of held memory before → IsKnown is_of held memory after
+  within_known name edit keeps held (Ok nothing) within same known = replaced_known name edit keeps held
+      (ap is_some within.there) (replaced_within name edit within) known
+  within_known name edit keeps held (Err given) within same known = subst (IsKnown is_of held memory) (sym same) known
 
   -- where all is forgotten
   pub unknown : (held : Bool) → IsKnown is_of held memory before → IsKnown is_of false memory after

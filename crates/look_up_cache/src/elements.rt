@@ -105,6 +105,7 @@ fn element_for<O: Objects>(
 }
 
 // The slot in which the element of a sequence with this index stands.
+#[inline(always)]
 fn element_slot<O: Objects>(
     counts: &Vec<Option<Count>>,
     objects: &O,

@@ -382,6 +382,21 @@ impl<O: Objects, T: MethodCodeKept> KnownObjects<O, T> {
         ensures lacks { LacksAtMost result }
         ensures founds { self.new.1 ≡ self.old.1 }
     {
+        match self.objects.set_slot_within(slot.name, slot.at, value) {
+            Ok(()) => Ok(()),
+            Err(value) => self.replace_in_slot(slot, value),
+        }
+    }
+
+    // The same, with the space asked for, and where the value is too large or may not enter.
+    #[inline(never)]
+    fn replace_in_slot(&mut self, slot: Slot, value: Value) -> Result<(), Stop>
+        requires { IsThere slot.name (O.seen self.old.0) }
+        ensures put { Replaces (λ body. 0) slot.name (with_slot slot.at value)
+            (O.seen self.old.0) result (O.seen self.new.0) }
+        ensures lacks { LacksAtMost result }
+        ensures founds { self.new.1 ≡ self.old.1 }
+    {
         match replace_slot(&mut self.objects, slot.name, slot.at, value) {
             Ok(()) => Ok(()),
             Err(stop) => {

@@ -108,6 +108,10 @@ impl<O: Objects, T: MethodCodeKept> Objects for KnownObjects<O, T> {
         result
     }
 
+    fn set_slot_within(&mut self, oid: Oid, at: usize, value: Value) -> Result<(), Value> {
+        self.objects.set_slot_within(oid, at, value)
+    }
+
     fn insert_slot(&mut self, oid: Oid, at: usize, value: Value) -> Result<(), Stop> {
         let held = is_there(self.holds, &self.objects, oid);
         let result = self.objects.insert_slot(oid, at, value);
