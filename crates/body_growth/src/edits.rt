@@ -8,6 +8,7 @@ use crate::change::Change;
 use gem_object::{Body, Value};
 
 // What the slot at a place of a Plain body holds.
+#[inline(always)]
 fn slot(body: &Body, at: usize) -> Option<&Value>
     ensures { option_copied result ≡ slot_at at body.now }
 {
@@ -18,6 +19,7 @@ fn slot(body: &Body, at: usize) -> Option<&Value>
 }
 
 /// A value comes into a slot. Where there is no such slot nothing changes.
+#[inline(always)]
 pub fn slot_replaced(body: &Body, at: usize, value: &Value) -> Change
     ensures { Changes result body.now (with_slot at value.now body.now) }
 {

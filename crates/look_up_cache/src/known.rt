@@ -388,7 +388,7 @@ impl<O: Objects, T: MethodCodeKept> KnownObjects<O, T> {
         }
     }
 
-    // The same, with the space asked for, and where the value is too large or may not enter.
+    // The same by more than one look, which tells what fails.
     #[inline(never)]
     fn replace_in_slot(&mut self, slot: Slot, value: Value) -> Result<(), Stop>
         requires { IsThere slot.name (O.seen self.old.0) }
