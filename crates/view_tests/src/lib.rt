@@ -9,3 +9,5 @@ mod notes;
 mod view_calls;
 #[cfg(test)]
 mod walk;
+#[cfg(test)]
+mod within;
