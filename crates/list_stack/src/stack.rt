@@ -145,9 +145,20 @@ impl<T: Drop> ListStack<T> {
         ensures { self.new ≡ take count self.old }
     {
         if count < self.starts.len() {
-            self.items.truncate(self.starts[count]);
+            let start = self.starts[count];
+            cut(&mut self.items, start);
             self.starts.truncate(count);
         }
+    }
+}
+
+/// Drops all items but so many of the first ones. It pops one by one, since most often there is one.
+#[inline(always)]
+fn cut<T: Drop>(items: &mut Vec<T>, count: usize)
+    ensures { items.new.items ≡ take count items.old.items }
+{
+    while items.len() > count {
+        let _ = items.pop();
     }
 }
 
