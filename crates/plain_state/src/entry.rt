@@ -1,5 +1,7 @@
 //! An object that a transaction has changed, with its bytes.
-ghost use Rattle.std.specs.Prelude.{◌≡◌, true, IfOk, IfSome, OnErr, OnOk};
+ghost use Rattle.std.specs.Prelude.{◌≡◌, ◌<◌, true, IfOk, IfSome, OnErr, OnOk};
+ghost use Rattle.gem_object.specs.Edits.{plain_slots};
+ghost use Rattle.gem_object.specs.Slots.{slots_of};
 ghost use Rattle.std.specs.Result.{IfErr};
 ghost use Rattle.body_growth.specs.Changes.{Changes, bytes_of};
 ghost use Rattle.gem_object.specs.declared.body.Body.{Body};
@@ -100,12 +102,15 @@ impl Entry {
         ensures unchanged { OnErr result (self.new ≡ self.old) }
     {
         let body = &self.object.body;
-        if at >= body.plain_slots() || self.bytes == u64::MAX {
+        let Some(slots) = slots_with(body, at) else {
+            return Err(value);
+        };
+        if self.bytes == u64::MAX {
             return Err(value);
         }
         let change = slot_replaced(body, at, &value);
         let bytes = change.bytes_after(self.bytes);
-        if !is_small_with(change.slots_after(body.slots()), bytes) {
+        if !is_small_with(change.slots_after(slots), bytes) {
             return Err(value);
         }
         self.object.body.set_slot(at, value);
@@ -148,4 +153,16 @@ fn bytes_after(told: Option<Change>, bytes: u64, body: &Body) -> u64
         return body.size();
     }
     change.bytes_after(bytes)
+}
+
+// How many slots the body has, where the one at this place is among them.
+#[inline(always)]
+fn slots_with(body: &Body, at: usize) -> Option<u64>
+    ensures slots { IfSome result (λ slots. slots ≡ slots_of body.now) }
+    ensures within { IfSome result (λ _. at < plain_slots body.now) }
+{
+    match body {
+        Body::Plain(values) if at < values.len() => Some(values.len() as u64),
+        _ => None,
+    }
 }
