@@ -8,7 +8,6 @@ use Rattle.object_programs.specs.declared.fault.Fault.TheVariants as fault
 use Rattle.prim_parts.specs.tree_meaning.Place.{MadeBlock}
 use Rattle.object_programs.specs.Run.{Run, and_then}
 use Rattle.running_objects.specs.declared.stop.Stop.{Stop}
-use Rattle.running_objects.specs.declared.stop.Stop.TheVariants as stop
 use Rattle.gem_object.specs.declared.value.Value.{Value}
 use Rattle.prim_rules.specs.Parts.{answers}
 use Rattle.prim_rules.specs.Numbers.{in_range, divided}

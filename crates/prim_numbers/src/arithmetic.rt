@@ -44,7 +44,7 @@ fn in_range(number: i128) -> Result<Value, Stop>
 }
 
 #[inline(always)]
-fn add(number: i64, other: i64) -> Result<Value, Stop>
+pub(crate) fn add(number: i64, other: i64) -> Result<Value, Stop>
     ensures { Computes (in_range (number +ℤ other)) result }
 {
     let Some(sum) = number.checked_add(other) else {
@@ -54,7 +54,7 @@ fn add(number: i64, other: i64) -> Result<Value, Stop>
 }
 
 #[inline(always)]
-fn subtract(number: i64, other: i64) -> Result<Value, Stop>
+pub(crate) fn subtract(number: i64, other: i64) -> Result<Value, Stop>
     ensures { Computes (in_range (number -ℤ other)) result }
 {
     let Some(difference) = number.checked_sub(other) else {
@@ -63,8 +63,8 @@ fn subtract(number: i64, other: i64) -> Result<Value, Stop>
     in_range(i128::from(difference))
 }
 
-#[inline(never)]
-fn multiply(number: i64, other: i64) -> Result<Value, Stop>
+#[inline(always)]
+pub(crate) fn multiply(number: i64, other: i64) -> Result<Value, Stop>
     ensures { Computes (in_range (number *ℤ other)) result }
 {
     let Some(product) = number.checked_mul(other) else {
@@ -81,8 +81,8 @@ fn shift(number: i64, count: i64) -> Result<Value, Stop>
 }
 
 // E7 where the divisor is 0.
-#[inline(never)]
-fn divide(division: Division, number: i64, divisor: i64) -> Result<Value, Stop>
+#[inline(always)]
+pub(crate) fn divide(division: Division, number: i64, divisor: i64) -> Result<Value, Stop>
     ensures { Computes (divided (division_result division) number divisor) result }
 {
     if divisor == 0 {
@@ -91,6 +91,7 @@ fn divide(division: Division, number: i64, divisor: i64) -> Result<Value, Stop>
     divide_by(division, number, divisor)
 }
 
+#[inline(always)]
 fn divide_by(division: Division, number: i64, divisor: i64) -> Result<Value, Stop>
     requires { divisor ≢ pos 0 }
     ensures { Computes (in_range (division_result division number divisor)) result }
@@ -98,6 +99,8 @@ fn divide_by(division: Division, number: i64, divisor: i64) -> Result<Value, Sto
     in_range(division_result(division, number, divisor))
 }
 
+// It is never inlined: so a division's answer needs no place in memory.
+#[inline(never)]
 fn division_result(division: Division, number: i64, divisor: i64) -> i128
     requires { divisor ≢ pos 0 }
     ensures { result ≡ division_result division number divisor }
@@ -135,7 +138,7 @@ fn floor_remainder(number: i64, divisor: i64) -> i128
 }
 
 #[inline(always)]
-fn compares(comparison: Comparison, number: i64, other: i64) -> bool
+pub(crate) fn compares(comparison: Comparison, number: i64, other: i64) -> bool
     ensures { result ≡ compares comparison number other }
 {
     match comparison {

@@ -6,9 +6,12 @@ ghost use Rattle.prim_rules.specs.Rules.{rule_of};
 ghost use Rattle.prim_rules.specs.declared.answer.PrimitiveAnswer.TheVariants.{Gives};
 ghost use Rattle.prim_parts.specs.Does.{Computes};
 ghost use Rattle.prim_numbers.specs.Operations.{operation_rule};
+ghost use Rattle.prim_numbers.specs.declared.operation.Bitwise.TheVariants.{And};
+ghost use Rattle.prim_numbers.specs.declared.operation.Operation.TheVariants.{Add, Subtract, Multiply, Divide, Compare, CombineBits};
 
-use crate::arithmetic::operate;
-use crate::operation::{Bitwise, Comparison, Division, Operation};
+use crate::arithmetic::{add, compares, divide, multiply, subtract};
+use crate::bits::combine_bits;
+use crate::operation::{Bitwise, Comparison, Division};
 use gem_object::Value;
 use prim_parts::truth;
 
@@ -29,7 +32,7 @@ pub fn ready(number: u8, receiver: &Value, arguments: &[Value]) -> Option<Value>
     }
 }
 
-// The same of these two integers.
+// The same of these two integers. It is short, so that it can be part of the machine's loop.
 #[inline(always)]
 fn ready_answer(number: u8, first: i64, second: i64) -> Option<Value>
     ensures { IfSome result (λ value.
@@ -38,20 +41,16 @@ fn ready_answer(number: u8, first: i64, second: i64) -> Option<Value>
     match number {
         1 => Some(same(first, second)),
         2 => Some(same(first, second)),
-        10 => result_of(Operation::Add, first, second),
-        11 => result_of(Operation::Subtract, first, second),
-        12 => result_of(Operation::Multiply, first, second),
-        13 => result_of(Operation::Divide(Division::FloorQuotient), first, second),
-        14 => result_of(Operation::Divide(Division::FloorRemainder), first, second),
-        17 => result_of(Operation::Compare(Comparison::Less), first, second),
-        18 => result_of(Operation::Compare(Comparison::Greater), first, second),
-        19 => result_of(Operation::Compare(Comparison::LessOrEqual), first, second),
-        20 => result_of(
-            Operation::Compare(Comparison::GreaterOrEqual),
-            first,
-            second,
-        ),
-        21 => result_of(Operation::CombineBits(Bitwise::And), first, second),
+        10 => sum(first, second),
+        11 => difference(first, second),
+        12 => product(first, second),
+        13 => divided(Division::FloorQuotient, first, second),
+        14 => divided(Division::FloorRemainder, first, second),
+        17 => Some(compared(Comparison::Less, first, second)),
+        18 => Some(compared(Comparison::Greater, first, second)),
+        19 => Some(compared(Comparison::LessOrEqual, first, second)),
+        20 => Some(compared(Comparison::GreaterOrEqual, first, second)),
+        21 => Some(common_bits(first, second)),
         _ => None,
     }
 }
@@ -64,13 +63,63 @@ fn same(first: i64, second: i64) -> Value
     truth(first == second)
 }
 
-// What the operation comes to, where that is no error.
+// The sum, where it is an integer of the language.
 #[inline(always)]
-fn result_of(operation: Operation, first: i64, second: i64) -> Option<Value>
-    ensures { IfSome result (λ value. Computes (operation_rule operation first second) (Ok value)) }
+fn sum(first: i64, second: i64) -> Option<Value>
+    ensures { IfSome result (λ value. Computes (operation_rule Add first second) (Ok value)) }
 {
-    match operate(operation, first, second) {
+    match add(first, second) {
         Ok(value) => Some(value),
         Err(_) => None,
     }
+}
+
+// The difference, where it is an integer of the language.
+#[inline(always)]
+fn difference(first: i64, second: i64) -> Option<Value>
+    ensures { IfSome result (λ value. Computes (operation_rule Subtract first second) (Ok value)) }
+{
+    match subtract(first, second) {
+        Ok(value) => Some(value),
+        Err(_) => None,
+    }
+}
+
+// The product, where it is an integer of the language.
+#[inline(always)]
+fn product(first: i64, second: i64) -> Option<Value>
+    ensures { IfSome result (λ value. Computes (operation_rule Multiply first second) (Ok value)) }
+{
+    match multiply(first, second) {
+        Ok(value) => Some(value),
+        Err(_) => None,
+    }
+}
+
+// What the division comes to, where that is no error.
+#[inline(always)]
+fn divided(division: Division, first: i64, second: i64) -> Option<Value>
+    ensures { IfSome result (λ value.
+        Computes (operation_rule (Divide division) first second) (Ok value)) }
+{
+    match divide(division, first, second) {
+        Ok(value) => Some(value),
+        Err(_) => None,
+    }
+}
+
+// What the comparison comes to.
+#[inline(always)]
+fn compared(comparison: Comparison, first: i64, second: i64) -> Value
+    ensures { Computes (operation_rule (Compare comparison) first second) (Ok result) }
+{
+    truth(compares(comparison, first, second))
+}
+
+// The bits that both have.
+#[inline(always)]
+fn common_bits(first: i64, second: i64) -> Value
+    ensures { Computes (operation_rule (CombineBits And) first second) (Ok result) }
+{
+    Value::Int(combine_bits(Bitwise::And, first, second))
 }
