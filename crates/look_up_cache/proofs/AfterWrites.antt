@@ -23,6 +23,7 @@ use Rattle.look_up_cache.specs.Lasting.{Lasting, lasting_of}
 use Rattle.look_up_cache.specs.Calm.{Calm, Begins, Writable}
 use Rattle.look_up_cache.specs.Remains.{Remains}
 use Rattle.look_up_cache.specs.Memory.{start_at, IsMet}
+use Rattle.look_up_cache.specs.declared.memory.Beginning.{Beginning}
 use Rattle.look_up_cache.specs.declared.memory.Receiver.{Receiver}
 use Rattle.look_up_cache.proofs.Calms.{Taken, taken, calm_touches}
 use Rattle.look_up_cache.proofs.Stays.{allowed_stays}
@@ -105,4 +106,16 @@ reached_writable name before after reached ordinary =
       allowed = allowed_stays before.setting before.world after.world remains.still a_write name object there allowed;
       changed = subst (λ (world : World). is_some (get world.changes name) ≡ true) left
           (put_changes name object (with_touches name before.setting before.world));
+    })
+
+-- what is known of it then
+pub written_met : (name : ℕ) (known : Receiver) (start : Beginning) (seen : Seen) → known.name ≡ name
+    → IsMet seen known → start ≡ known.start → Writable name seen.setting seen.world
+    → IsMet seen (record known { start = start; written = true })
+written_met name known start seen same met copied writable =
+    subst (λ (s : Beginning). IsMet seen (record known { start = s; written = true })) (sym copied) (record {
+      begins = met.begins;
+      writable = subst (λ (n : ℕ). Writable n seen.setting seen.world) (sym same) writable;
+      reads = met.reads;
+      puts = met.puts;
     })

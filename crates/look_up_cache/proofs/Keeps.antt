@@ -1,5 +1,5 @@
 -- What is known remains known.
-use Rattle.std.proofs.Common.{◌≡◌, ◌∙◌, refl, sym, ap, subst, ℕ, Bool, true, false, ◌&&◌, List, Option, Some, None, is_some, Result, Ok, Err, is_ok}
+use Rattle.std.proofs.Common.{◌≡◌, ◌∙◌, refl, sym, ap, subst, ℕ, Bool, true, false, ◌&&◌, List, Option, Some, None, is_some, Result, Ok, Err, is_ok, codes}
 use Rattle.std.specs.Prelude.{OnOk, OnErr}
 use Rattle.std.proofs.lemmas.Bool.{false≢true, and_parts}
 use Rattle.gem_object.specs.texts.Bytes.{Bytes as Text}
@@ -26,7 +26,8 @@ use Rattle.look_up_cache.specs.Remembered.{Finds}
 use Rattle.look_up_cache.specs.Remains.{Remains}
 use Rattle.look_up_cache.specs.Table.{AllHeld}
 use Rattle.look_up_cache.specs.Memory.{start_at, IsMet, IsFound, IsPlaced, IsCounted, Holds, Where, IsKnown}
-use Rattle.look_up_cache.specs.Operators.{operator_selector, integer_start, IsAnswered}
+use Rattle.look_up_cache.specs.Answering.{FindsPrimitive}
+use Rattle.look_up_cache.specs.Operators.{operator_selector, operator_number, integer_start, IsAnswered}
 use Rattle.look_up_cache.specs.declared.operator.IntegerOperator.{IntegerOperator}
 use Rattle.look_up_cache.specs.declared.memory.Receiver.{Receiver}
 use Rattle.look_up_cache.specs.declared.memory.Entry.{Entry}
@@ -41,7 +42,7 @@ use Rattle.look_up_cache.proofs.Stays.{writable_stays, begins_stay, finds_stay}
 use Rattle.look_up_cache.proofs.Replaced.{replace_remains}
 use Rattle.look_up_cache.proofs.Atoms.{unit_remains, room_remains, names_remain, show_remains, access_remains, own_remains, known_remains, put_remains, edit_remains, note_remains, made_remains}
 
-where_still : (held : Bool) (P Q : Type 0) → (P → Q) → Where held P → Where held Q
+pub where_still : (held : Bool) (P Q : Type 0) → (P → Q) → Where held P → Where held Q
 where_still true P Q keeps holds = keeps holds
 where_still false P Q keeps holds = tt
 
@@ -58,12 +59,32 @@ module _ (before after : Seen) (remains : Remains before after) where
       (sym remains.setting)
       (writable_stays before.setting before.world after.world remains.still name begins.part begins.calm.there writable)
 
+  primitive_remains : (start : Start) (selector : Text) (number : ℕ)
+      → FindsPrimitive start selector number before.setting before.world
+      → FindsPrimitive start selector number after.setting after.world
+  primitive_remains start selector number finds = record {
+    found = finds.found;
+    finds = subst (λ (setting : Setting). Finds start selector (Some finds.found) setting after.world)
+        (sym remains.setting) (finds_stay before.setting before.world after.world remains.still start selector
+        (Some finds.found) finds.finds);
+    code = finds.code;
+  }
+
+  flag_remains : (flag : Bool) (start : Start) (selector : Text) (number : ℕ)
+      → Where flag (FindsPrimitive start selector number before.setting before.world)
+      → Where flag (FindsPrimitive start selector number after.setting after.world)
+  flag_remains flag start selector number = where_still flag
+      (FindsPrimitive start selector number before.setting before.world)
+      (FindsPrimitive start selector number after.setting after.world) (primitive_remains start selector number)
+
   met_remains : (receiver : Receiver) → IsMet before receiver → IsMet after receiver
   met_remains receiver met = record {
     begins = begun_remains receiver met.begins;
     writable = where_still receiver.written (Writable receiver.name before.setting before.world)
         (Writable receiver.name after.setting after.world)
         (writable_remains receiver.name (start_at receiver.start) met.begins) met.writable;
+    reads = flag_remains receiver.reads_elements (start_at receiver.start) (codes "at:") 34 met.reads;
+    puts = flag_remains receiver.puts_elements (start_at receiver.start) (codes "at:put:") 35 met.puts;
   }
 
   found_remains : {T : Type 0} (entry : Entry T) → IsFound before entry → IsFound after entry
@@ -82,13 +103,8 @@ module _ (before after : Seen) (remains : Remains before after) where
       (counted_stays before.setting before.world after.world remains.still chain_limit count.class count.named counted)
 
   pub answered_remains : (operator : IntegerOperator) → IsAnswered before operator → IsAnswered after operator
-  answered_remains operator answered = record {
-    found = answered.found;
-    finds = subst (λ (setting : Setting). Finds integer_start (operator_selector operator) (Some answered.found)
-        setting after.world) (sym remains.setting) (finds_stay before.setting before.world after.world remains.still
-        integer_start (operator_selector operator) (Some answered.found) answered.finds);
-    code = answered.code;
-  }
+  answered_remains operator =
+      primitive_remains integer_start (operator_selector operator) (operator_number operator)
 
   pub holds_remain : {T : Type 0} (memory : Memory T) → Holds memory before → Holds memory after
   holds_remain memory holds = record {
@@ -222,11 +238,6 @@ known_receivers {T} is_of true memory seen known is = known.holds.receivers
 known_receivers {T} is_of false memory seen known is = absurd (false≢true is)
 
 -- in a new chunk, whose budget is whole
-answered_whole : (operator : IntegerOperator) (seen : Seen) → IsAnswered seen operator
-    → IsAnswered (with_whole_budget seen) operator
-answered_whole operator seen answered =
-    record { found = answered.found; finds = answered.finds; code = answered.code }
-
 pub chunk_known : {T : Type 0} (is_of : T → MethodCode → Type 0) (held : Bool) (memory : Memory T) (seen : Seen)
     → IsKnown is_of held memory seen → IsKnown is_of held memory (with_whole_budget seen)
 chunk_known {T} is_of held memory seen known = record {
@@ -236,7 +247,7 @@ chunk_known {T} is_of held memory seen known = record {
         methods = holds.methods;
         variables = holds.variables;
         counts = holds.counts;
-        operators = λ at operator here. answered_whole operator seen (holds.operators at operator here);
+        operators = holds.operators;
       })
       known.holds;
   coded = known.coded;

@@ -11,7 +11,9 @@ mod Replaced
 mod Keeps
 mod Places
 mod Again
+pub mod Answering
 pub mod Operators
+mod Remembering
 mod There
 pub mod AfterReads
 mod AfterWrites

@@ -225,7 +225,7 @@ module _ (receiver index value : Value) (arguments : List Value) (slot : Slot) (
       ended later in
       let With : Value → Type 0 = λ v. Does (row_35 receiver arguments) (with_budget budget seen)
       (ended_by (with_answer v ended)) later in
-      subst With (sym is.answer_is) (put_does budget ended later (subst Of is.slot_is (subst By is.value_is replaced)))
+      subst With (sym is.value_is) (put_does budget ended later (subst Of is.slot_is (subst By is.value_is replaced)))
 
   element_put : (put : Put) → IsPutOf slot value put → PutIsLeft (rule_of 35 receiver arguments) put seen
   unfolding rule_of first_rule
@@ -275,19 +275,21 @@ unit_then : (program : Run MadeBlock PrimitiveAnswer) (put : Put) (before betwee
     (ended : Result (Unit {0}) Stop) → Acted Tick before (Ok tt) between
     → Replaces (λ body. 0) put.slot.name (with_slot put.slot.at put.value) between ended after
     → PutIsLeft program put before
-    → Does (and_then (atom Tick) (λ unit. program)) before (ended_by (with_answer put.answer ended)) after
+    → Does (and_then (atom Tick) (λ unit. program)) before (ended_by (with_answer put.value ended)) after
 unit_then program put before between after ended unit replaced left =
     let same : with_budget between.budget before ≡ between = unit_leaves before between unit in
-    does_then (does_atom unit) (subst (λ (seen : Seen). Does program seen (ended_by (with_answer put.answer ended)) after) same
+    does_then (does_atom unit) (subst (λ (seen : Seen). Does program seen (ended_by (with_answer put.value ended)) after) same
     (left between.budget ended after (subst (λ (seen : Seen). Replaces (λ body. 0) put.slot.name
     (with_slot put.slot.at put.value) seen ended after) (sym same) replaced)))
 
 pub unit_and_put_does : (program : Run MadeBlock PrimitiveAnswer) (put : Put) (before after : Seen)
-    (result : Result Value Stop) → UnitAndPut put before result after → PutIsLeft program put before
-    → Does (and_then (atom Tick) (λ unit. program)) before (ended_by result) after
+    (result : Result (Unit {0}) Stop) → UnitAndPut put before result after → PutIsLeft program put before
+    → Does (and_then (atom Tick) (λ unit. program)) before (ended_by (with_answer put.value result)) after
 unit_and_put_does program put before after result (no_unit ended refused is) left =
-    subst (λ (r : Result Value Stop). Does (and_then (atom Tick) (λ unit. program)) before (ended_by r) after) is
+    subst (λ (r : Result (Unit {0}) Stop). Does (and_then (atom Tick) (λ unit. program)) before
+    (ended_by (with_answer put.value r)) after) is
     (does_stop (does_atom refused))
 unit_and_put_does program put before after result (one_unit between ended taken replaced is) left =
-    subst (λ (r : Result Value Stop). Does (and_then (atom Tick) (λ unit. program)) before (ended_by r) after) is
+    subst (λ (r : Result (Unit {0}) Stop). Does (and_then (atom Tick) (λ unit. program)) before
+    (ended_by (with_answer put.value r)) after) is
     (unit_then program put before between after ended taken replaced left)

@@ -78,11 +78,10 @@ abbrev pub IsWritten : ℕ → Seen → Type 0
 IsWritten name seen = (budget : Budget)
     → Reached a_write name (with_budget budget seen) (with_budget budget seen)
 
--- This value comes into that slot, and is answered: it is no block.
+-- This value comes into that slot: it is no block.
 pub record IsPutOf (slot : Slot) (value : Value) (put : Put) : Type 0 where
   pub slot_is : put.slot ≡ slot
   pub value_is : put.value ≡ value
-  pub answer_is : put.answer ≡ value
   pub storable : is_block value ≡ false
 
 -- What is left of a primitive is that a value comes into a slot and is answered, whatever the
@@ -91,16 +90,23 @@ abbrev pub PutIsLeft : Run MadeBlock PrimitiveAnswer → Put → Seen → Type 0
 PutIsLeft program put seen = (budget : Budget) (ended : Result (Unit {0}) Stop) (later : Seen)
     → Replaces (λ body. 0) put.slot.name (with_slot put.slot.at put.value)
     (with_budget budget seen) ended later
-    → Does program (with_budget budget seen) (ended_by (with_answer put.answer ended)) later
+    → Does program (with_budget budget seen) (ended_by (with_answer put.value ended)) later
 
--- A unit was taken, and then the value came into the slot and was answered, or this ended it.
-pub data UnitAndPut (put : Put) (before : Seen) (result : Result Value Stop) (after : Seen)
+-- A unit was taken, and then the value came into the slot, or this ended it.
+pub data UnitAndPut (put : Put) (before : Seen) (result : Result (Unit {0}) Stop) (after : Seen)
     : Type 0 where
   no_unit : (ended : Stop) → Acted Tick before (Err ended) after → Err ended ≡ result
       → UnitAndPut put before result after
   one_unit : (between : Seen) (ended : Result (Unit {0}) Stop) → Acted Tick before (Ok tt) between
       → Replaces (λ body. 0) put.slot.name (with_slot put.slot.at put.value) between ended after
-      → with_answer put.answer ended ≡ result → UnitAndPut put before result after
+      → ended ≡ result → UnitAndPut put before result after
+
+-- The object of this name is seen, and its element with this index stands in this slot of it.
+pub record HasSlot (name : ℕ) (index : Value) (slot : Slot) (seen : Seen) : Type 0 where
+  pub object : Contents
+  pub named : slot.name ≡ name
+  pub there : Some object ≡ object_at slot.name seen
+  pub element : HasElement object index slot.at seen
 
 -- The receiver is written without a change, and its element with this index stands there.
 pub record HasWritten (receiver index : Value) (slot : Slot) (seen : Seen) : Type 0 where

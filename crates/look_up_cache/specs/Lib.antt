@@ -3,7 +3,9 @@ pub mod Calm
 pub mod Remembered
 pub mod Remains
 pub mod Budgets
+pub mod Answering
 pub mod Operators
+pub mod ElementMessages
 pub mod Table
 pub mod Variables
 pub mod Counted

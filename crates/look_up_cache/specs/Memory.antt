@@ -1,5 +1,5 @@
 -- What holds of all that is remembered.
-use Rattle.std.specs.Prelude.{◌≡◌, ℕ, Bool, true, false, List, map, Option, Some, Result, Ok, Err, IfSome, option_and_then}
+use Rattle.std.specs.Prelude.{◌≡◌, ℕ, Bool, true, false, List, map, Option, Some, Result, Ok, Err, IfSome, option_and_then, codes}
 use Rattle.gem_object.specs.texts.Bytes.{Bytes as Text}
 use Rattle.gem_object.specs.declared.value.Value.{Value}
 use Rattle.gem_object.specs.declared.value.Value.TheVariants.{Ref}
@@ -16,9 +16,12 @@ use Rattle.look_up_cache.specs.Calm.{Begins, Writable, plain_start}
 use Rattle.look_up_cache.specs.Remembered.{Finds}
 use Rattle.look_up_cache.specs.Variables.{Stands}
 use Rattle.look_up_cache.specs.Counted.{Counted}
+use Rattle.look_up_cache.specs.Answering.{FindsPrimitive}
 use Rattle.look_up_cache.specs.Operators.{IsAnswered}
 pub use Rattle.look_up_cache.specs.Budgets.{with_budget}
 use Rattle.look_up_cache.specs.Table.{held_at, AllHeld}
+use Rattle.look_up_cache.specs.declared.element_message.ElementMessage.{ElementMessage}
+use Rattle.look_up_cache.specs.declared.element_message.ElementMessage.TheVariants.{At, AtPut}
 use Rattle.look_up_cache.specs.declared.memory.Beginning.{Beginning}
 use Rattle.look_up_cache.specs.declared.memory.Receiver.{Receiver}
 use Rattle.look_up_cache.specs.declared.memory.Entry.{Entry}
@@ -35,11 +38,21 @@ abbrev pub Where : Bool → Type 0 → Type 0
 Where true P = P
 Where false P = Unit {0}
 
--- What is remembered of a receiver is so: look-ups for it begin there, and where it was written a
--- further write changes nothing.
+-- What is remembered of a receiver is so: look-ups for it begin there, where it was written a
+-- further write changes nothing, and where it is told that they find the primitives of elements they
+-- do.
 pub record IsKnownAs (receiver : Receiver) (setting : Setting) (world : World) : Type 0 where
   pub begins : Begins receiver.name (start_at receiver.start) setting world
   pub writable : Where receiver.written (Writable receiver.name setting world)
+  pub reads : Where receiver.reads_elements
+      (FindsPrimitive (start_at receiver.start) (codes "at:") 34 setting world)
+  pub puts : Where receiver.puts_elements
+      (FindsPrimitive (start_at receiver.start) (codes "at:put:") 35 setting world)
+
+-- the same receiver, of which is told that a look-up of this message finds the primitive of elements
+abbrev pub flagged : ElementMessage → Receiver → Receiver
+flagged At receiver = record receiver { reads_elements = true }
+flagged AtPut receiver = record receiver { puts_elements = true }
 
 -- what is remembered of a receiver, and of a look-up, is so
 abbrev pub IsMet : Seen → Receiver → Type 0

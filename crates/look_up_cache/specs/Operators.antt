@@ -1,18 +1,12 @@
 -- Operators that integers answer by primitives.
-use Rattle.std.specs.Prelude.{◌≡◌, ℕ, ℤ, false, Some, Ok, codes}
+use Rattle.std.specs.Prelude.{ℕ, ℤ, codes}
 use Rattle.gem_object.specs.texts.Bytes.{Bytes}
 use Rattle.gem_object.specs.declared.value.Value.TheVariants.{Int}
-use Rattle.gem_object.specs.declared.body.MethodCode.TheVariants.{Primitive}
 use Rattle.running_objects.specs.gem_sound.declared.names.TheConstants.{SMALL_INTEGER_CLASS}
-use Rattle.running_objects.specs.object_programs.Budget.{Budget}
 use Rattle.running_objects.specs.Seen.{Seen}
-use Rattle.gem_language.specs.declared.found.Found.{Found}
-use Rattle.gem_language.specs.tree_meaning.Place.{Frame}
-use Rattle.gem_language.specs.LookUp.{Start, find_method}
-use Rattle.prim_parts.specs.Does.{Does}
+use Rattle.gem_language.specs.LookUp.{Start}
 use Rattle.look_up_cache.specs.Calm.{start_in}
-use Rattle.look_up_cache.specs.Remembered.{Finds}
-use Rattle.look_up_cache.specs.Budgets.{with_budget}
+use Rattle.look_up_cache.specs.Answering.{FindsPrimitive, AnswersBy}
 use Rattle.look_up_cache.specs.declared.operator.IntegerOperator.{IntegerOperator}
 use Rattle.look_up_cache.specs.declared.operator.IntegerOperator.TheVariants.{Same, Equal, Add, Subtract, Multiply, Less, Greater, LessOrEqual, GreaterOrEqual}
 
@@ -45,15 +39,12 @@ abbrev pub integer_start : Start
 integer_start = start_in SMALL_INTEGER_CLASS
 
 -- A look-up of this operator for an integer finds the primitive of its number, and changes nothing.
-pub record IsAnswered (seen : Seen) (operator : IntegerOperator) : Type 0 where
-  pub found : Found
-  pub finds : Finds integer_start (operator_selector operator) (Some found) seen.setting seen.world
-  pub code : found.code ≡ Primitive (operator_number operator)
+abbrev pub IsAnswered : Seen → IntegerOperator → Type 0
+IsAnswered seen operator = FindsPrimitive integer_start (operator_selector operator)
+    (operator_number operator) seen.setting seen.world
 
 -- Integers answer this operator by the primitive of its number: a look-up finds that, whatever the
 -- budget is, and changes nothing.
 abbrev pub IntegersAnswer : IntegerOperator → Seen → Type 0
-IntegersAnswer operator seen = (number : ℤ) (frame : Frame) (budget : Budget)
-    → (found : Found) × (found.code ≡ Primitive (operator_number operator))
-    × Does (find_method false frame (Int number) (operator_selector operator))
-    (with_budget budget seen) (Ok (Some found)) (with_budget budget seen)
+IntegersAnswer operator seen = (number : ℤ)
+    → AnswersBy (operator_number operator) (Int number) (operator_selector operator) seen

@@ -16,6 +16,7 @@ use std::alloc::AllocError;
 
 /// How many slots the class of an object that is seen names: as it is remembered, or else as its
 /// classes tell.
+#[inline(always)]
 pub(crate) fn named_of<O: Objects>(
     counts: &Vec<Option<Count>>,
     objects: &O,

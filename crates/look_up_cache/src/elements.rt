@@ -1,6 +1,6 @@
 //! Elements of Arrays and OrderedCollections, where all that their rules look at is known: the
 //! receiver is read, or written, without a change, and each test of the rule passes.
-ghost use Rattle.std.specs.Prelude.{◌≡◌, ◌≤◌, ◌<◌, true, Some, IfSome, option_and_then};
+ghost use Rattle.std.specs.Prelude.{◌≡◌, ◌≤◌, ◌<◌, true, [], ◌∷◌, Some, IfSome, option_and_then, codes};
 ghost use Rattle.gem_object.specs.declared.body.Body.TheVariants.{Plain};
 ghost use Rattle.running_objects.specs.gem_image.Image.{contents_of};
 ghost use Rattle.running_objects.specs.Seen.{Seen};
@@ -10,11 +10,12 @@ ghost use Rattle.gem_language.specs.prim_rules.Rules.{rule_of};
 ghost use Rattle.gem_language.specs.prim_rules.declared.answer.PrimitiveAnswer.TheVariants.{Gives};
 ghost use Rattle.prim_parts.specs.Does.{IsThere};
 ghost use Rattle.look_up_cache.specs.Table.{AllHeld};
+ghost use Rattle.look_up_cache.specs.Answering.{AnswersBy};
 ghost use Rattle.look_up_cache.specs.Memory.{IsCounted, Holds};
-ghost use Rattle.look_up_cache.specs.Elements.{AlwaysGives, IsSeen, IsSequence, HasElement, HasWritten, SizeIs, ElementIs, IsPutOf, PutIsLeft};
+ghost use Rattle.look_up_cache.specs.Elements.{AlwaysGives, IsSeen, IsSequence, HasElement, HasSlot, HasWritten, SizeIs, ElementIs, IsPutOf, PutIsLeft};
 
 use crate::counts::named_of;
-use crate::finding::is_calm;
+use crate::finding::{is_calm, receiver_of};
 use crate::memory::{Count, Memory};
 use crate::writes::is_written;
 use gem_object::{Body, Object, Oid, Value};
@@ -27,12 +28,11 @@ pub(crate) struct Slot {
     pub(crate) at: usize,
 }
 
-/// A value that comes into a slot, and a copy of it, which is answered.
+/// A value that comes into a slot.
 #[derive(Drop)]
 pub(crate) struct Put {
     pub(crate) slot: Slot,
     pub(crate) value: Value,
-    pub(crate) answer: Value,
 }
 
 /// What `size` (33) and `at:` (34) answer, where that is known without a change of anything.
@@ -98,10 +98,50 @@ fn element_for<O: Objects>(
         ElementIs (contents_of object.now) arguments.now value (O.seen objects.now)) }
 {
     let index = one_of(arguments)?;
+    element_at(counts, objects, object, index)
+}
+
+// A copy of the element of a sequence with this index.
+#[inline(always)]
+fn element_at<O: Objects>(
+    counts: &Vec<Option<Count>>,
+    objects: &O,
+    object: &Object,
+    index: &Value,
+) -> Option<Value>
+    requires counts { AllHeld (IsCounted (O.seen objects.now)) counts.now.items }
+    requires seen { IsSeen (contents_of object.now) (O.seen objects.now) }
+    ensures { IfSome result (λ value.
+        ElementIs (contents_of object.now) (index.now ∷ []) value (O.seen objects.now)) }
+{
     let at = element_slot(counts, objects, object, index)?;
     let slots = slots_in(&object.body)?;
     let value = slots.get(at)?;
     value.clone().ok()
+}
+
+/// What `at:` (34) answers to an object with which it is remembered that a look-up finds that
+/// primitive.
+#[inline(always)]
+pub(crate) fn known_element<O: Objects, T>(
+    memory: &Memory<T>,
+    objects: &O,
+    receiver: &Value,
+    index: &Value,
+) -> Option<Value>
+    requires { Holds memory.now (O.seen objects.now) }
+    ensures answers { IfSome result (λ _.
+        AnswersBy 34 receiver.now (codes "at:") (O.seen objects.now)) }
+    ensures value { IfSome result (λ value. AlwaysGives
+        (rule_of 34 receiver.now (index.now ∷ [])) (Gives value) (O.seen objects.now)) }
+{
+    let name = receiver.reference()?;
+    let known = receiver_of(&memory.receivers, name)?;
+    if !known.reads_elements {
+        return None;
+    }
+    let object = objects.object(name)?;
+    element_at(&memory.counts, objects, object, index)
 }
 
 // The slot in which the element of a sequence with this index stands.
@@ -205,23 +245,63 @@ fn written_element<O: Objects, T>(
     if !is_written(&memory.receivers, name) {
         return None;
     }
+    slot_in(&memory.counts, objects, name, index)
+}
+
+// The slot of the element of an object with this index.
+#[inline(always)]
+fn slot_in<O: Objects>(
+    counts: &Vec<Option<Count>>,
+    objects: &O,
+    name: Oid,
+    index: &Value,
+) -> Option<Slot>
+    requires { AllHeld (IsCounted (O.seen objects.now)) counts.now.items }
+    ensures { IfSome result (λ slot. HasSlot name index.now slot (O.seen objects.now)) }
+{
     let object = objects.object(name)?;
-    let at = element_slot(&memory.counts, objects, object, index)?;
+    let at = element_slot(counts, objects, object, index)?;
     Some(Slot { name, at })
 }
 
-// A value that is no block, for a slot.
+/// What is left to do of `at:put:` (35), where the receiver is written without a change and it is
+/// remembered with it that a look-up finds that primitive.
+#[inline(always)]
+pub(crate) fn known_put<O: Objects, T>(
+    memory: &Memory<T>,
+    objects: &O,
+    receiver: &Value,
+    index: &Value,
+    value: &Value,
+) -> Option<Put>
+    requires { Holds memory.now (O.seen objects.now) }
+    ensures answers { IfSome result (λ _.
+        AnswersBy 35 receiver.now (codes "at:put:") (O.seen objects.now)) }
+    ensures left { IfSome result (λ put. PutIsLeft
+        (rule_of 35 receiver.now (index.now ∷ value.now ∷ [])) put (O.seen objects.now)) }
+    ensures value { IfSome result (λ put. put.value ≡ value.now) }
+    ensures there { IfSome result (λ put. IsThere put.slot.name (O.seen objects.now)) }
+{
+    let name = receiver.reference()?;
+    let known = receiver_of(&memory.receivers, name)?;
+    if !known.puts_elements {
+        return None;
+    }
+    if !known.written {
+        return None;
+    }
+    let slot = slot_in(&memory.counts, objects, name, index)?;
+    put_of(slot, value)
+}
+
+// A copy of a value that is no block, for a slot.
+#[inline(always)]
 fn put_of(slot: Slot, value: &Value) -> Option<Put>
     ensures { IfSome result (λ put. IsPutOf slot value.now put) }
 {
     if let Value::Block(_) = value {
         return None;
     }
-    let answer = value.clone().ok()?;
     let value = value.clone().ok()?;
-    Some(Put {
-        slot,
-        value,
-        answer,
-    })
+    Some(Put { slot, value })
 }

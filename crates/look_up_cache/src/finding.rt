@@ -5,7 +5,7 @@ ghost use Rattle.gem_language.specs.LookUp.{Start, start_of_object};
 ghost use Rattle.running_objects.specs.gem_world.Access.{a_read};
 ghost use Rattle.running_objects.specs.Acted.{Reached};
 ghost use Rattle.running_objects.specs.Seen.{Seen};
-ghost use Rattle.look_up_cache.specs.Calm.{Begins, Writable, plain_start};
+ghost use Rattle.look_up_cache.specs.Calm.{Begins, plain_start};
 ghost use Rattle.look_up_cache.specs.Remembered.{Finds};
 ghost use Rattle.look_up_cache.specs.Table.{held_at, AllHeld};
 ghost use Rattle.look_up_cache.specs.Memory.{start_at, IsMet, IsFound, IsCoded, coded_by, Holds, Where, BeginsFor, FindsFor, founds};
@@ -254,8 +254,9 @@ fn same_firsts(one: &[u8], other: &[u8]) -> bool
     *first == *other_first
 }
 
+/// Whether look-ups begin at the same class on the same side.
 #[inline(always)]
-fn same_start(one: &Beginning, other: &Beginning) -> bool
+pub(crate) fn same_start(one: &Beginning, other: &Beginning) -> bool
     ensures { result ≡ true → start_at one.now ≡ start_at other.now }
 {
     if one.class_side != other.class_side {
@@ -407,27 +408,42 @@ fn meet_object(
     if is_calm(receivers, name) {
         return Ok(());
     }
-    remember_object(receivers, name, start, false)
+    remember_object(receivers, name, start)
 }
 
-/// Remembers an object, and whether it was written.
-pub(crate) fn remember_object(
+// Remembers an object, and nothing of it but where look-ups for it begin.
+fn remember_object(
     receivers: &mut Vec<Option<Receiver>>,
     name: Oid,
     start: &Beginning,
-    written: bool,
 ) -> Result<(), AllocError>
     ensures { (seen : Seen) → Begins name (start_at start.now) seen.setting seen.world
-        → Where written (Writable name seen.setting seen.world)
         → AllHeld (IsMet seen) receivers.old.items → AllHeld (IsMet seen) receivers.new.items }
 {
     let receiver = Receiver {
         name,
         start: start.copy(),
-        written,
+        written: false,
+        reads_elements: false,
+        puts_elements: false,
     };
-    let at = place_for(receivers, name);
-    put_at(receivers, at, receiver)
+    put_receiver(receivers, &receiver)
+}
+
+/// Remembers of an object what is known of it, in place of what was remembered before.
+pub(crate) fn put_receiver(
+    receivers: &mut Vec<Option<Receiver>>,
+    receiver: &Receiver,
+) -> Result<(), AllocError>
+    ensures { (seen : Seen) → IsMet seen receiver.now
+        → AllHeld (IsMet seen) receivers.old.items → AllHeld (IsMet seen) receivers.new.items }
+{
+    let at = place_for(receivers, receiver.name);
+    let copy = Receiver {
+        start: receiver.start.copy(),
+        ..*receiver
+    };
+    put_at(receivers, at, copy)
 }
 
 /// Whether the object of this name is known to be read without a change of anything.
@@ -463,7 +479,7 @@ fn remember_object_read<O: Objects>(receivers: &mut Vec<Option<Receiver>>, objec
 {
     if let Some(object) = objects.object(name) {
         let start = start_by(name, object.class, &object.body);
-        let _ = remember_object(receivers, name, &start, false);
+        let _ = remember_object(receivers, name, &start);
     }
 }
 

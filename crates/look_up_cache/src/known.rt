@@ -1,5 +1,5 @@
 //! Objects that remember look-ups.
-ghost use Rattle.std.specs.Prelude.{◌≡◌, true, false, Ok, None, IfSome, option_copied};
+ghost use Rattle.std.specs.Prelude.{◌≡◌, true, false, [], ◌∷◌, Ok, None, IfSome, option_copied, codes};
 ghost use Rattle.gem_object.specs.Edits.{with_slot};
 ghost use Rattle.running_objects.specs.object_programs.Atom.{Tick};
 ghost use Rattle.running_objects.specs.object_programs.Budget.{Budget};
@@ -15,12 +15,14 @@ ghost use Rattle.prim_parts.specs.Edits.{Replaces};
 ghost use Rattle.look_up_cache.specs.Table.{held_at};
 ghost use Rattle.look_up_cache.specs.Variables.{Stands, bare_frame, SlotIsLeft};
 ghost use Rattle.look_up_cache.specs.Memory.{FindsFor, Met, told_by, with_budget};
+ghost use Rattle.look_up_cache.specs.Answering.{AnswersBy};
 ghost use Rattle.look_up_cache.specs.Operators.{IntegersAnswer};
 ghost use Rattle.look_up_cache.specs.Lacking.{LacksAtMost};
 ghost use Rattle.look_up_cache.specs.Elements.{AlwaysGives, ended_by, PutIsLeft, UnitAndPut};
 
 use crate::counts::remember_count;
-use crate::elements::{Put, Slot, element_put, known_answer};
+use crate::element_message::{ElementMessage, remember_element};
+use crate::elements::{Put, Slot, element_put, known_answer, known_element, known_put};
 use crate::finding::{keep_at, known_place, remember, renew};
 use crate::kept::MethodCodeKept;
 use crate::memory::Memory;
@@ -174,7 +176,79 @@ impl<O: Objects, T: MethodCodeKept> KnownObjects<O, T> {
         ensures founds { self.new.1 ≡ self.old.1 }
     {
         let put = self.element_put(number, receiver, arguments)?;
+        let answer = copy_of(&put.value)?;
+        Some(with_answer(self.put_after_unit(put), answer))
+    }
+
+    /// What `at:` with this index answers, where it is known from the receiver alone that a look-up
+    /// finds primitive 34 for it, and what that gives, without a change of anything and whatever the
+    /// budget is. None doesn't say that there is no answer. It takes no memory but for the text of a
+    /// symbol, and without that it is None.
+    #[inline(always)]
+    pub fn known_element(&self, receiver: &Value, index: &Value) -> Option<Value>
+        ensures answers { IfSome result (λ _.
+            AnswersBy 34 receiver.now (codes "at:") (O.seen self.now.0)) }
+        ensures value { IfSome result (λ value. AlwaysGives
+            (rule_of 34 receiver.now (index.now ∷ [])) (Gives value) (O.seen self.now.0)) }
+    {
+        if self.holds {
+            known_element(&self.memory, &self.objects, receiver, index)
+        } else {
+            None
+        }
+    }
+
+    /// Takes a unit, and then puts a value into a sequence as `at:put:` (35) does, where it is known
+    /// from the receiver alone that a look-up finds that primitive for it, that the receiver is
+    /// written, and that each test of the rule passes but that of its size. An error is E13, and then
+    /// nothing else was done, or E17; else the value is the answer. None doesn't say that it would
+    /// fail; then nothing is done, and no unit taken. It takes no memory but for the text of a symbol,
+    /// and without that it is None.
+    #[inline(always)]
+    pub fn do_known_put(
+        &mut self,
+        receiver: &Value,
+        index: &Value,
+        value: &Value,
+    ) -> Option<Result<(), Stop>>
+        ensures answers { IfSome result (λ _.
+            AnswersBy 35 receiver.now (codes "at:put:") (O.seen self.old.0)) }
+        ensures done { IfSome result (λ ended. Does (and_then (atom Tick)
+            (λ unit. rule_of 35 receiver.now (index.now ∷ value.now ∷ []))) (O.seen self.old.0)
+            (ended_by (with_answer value.now ended)) (O.seen self.new.0)) }
+        ensures lacks { IfSome result LacksAtMost }
+        ensures unchanged { result ≡ None → self.new ≡ self.old }
+        ensures founds { self.new.1 ≡ self.old.1 }
+    {
+        let put = self.known_put(receiver, index, value)?;
         Some(self.put_after_unit(put))
+    }
+
+    // What is left to do of `at:put:`, where that is known from the receiver alone.
+    #[inline(always)]
+    fn known_put(&self, receiver: &Value, index: &Value, value: &Value) -> Option<Put>
+        ensures answers { IfSome result (λ _.
+            AnswersBy 35 receiver.now (codes "at:put:") (O.seen self.now.0)) }
+        ensures left { IfSome result (λ put. PutIsLeft
+            (rule_of 35 receiver.now (index.now ∷ value.now ∷ [])) put (O.seen self.now.0)) }
+        ensures value { IfSome result (λ put. put.value ≡ value.now) }
+        ensures there { IfSome result (λ put. IsThere put.slot.name (O.seen self.now.0)) }
+    {
+        if self.holds {
+            known_put(&self.memory, &self.objects, receiver, index, value)
+        } else {
+            None
+        }
+    }
+
+    /// Remembers with the receiver that this message, which a look-up told at this place, is answered
+    /// by the primitive of elements, if it is. It takes no memory.
+    pub fn keep_element(&mut self, receiver: &Value, message: ElementMessage, at: usize)
+        ensures { self.new ≡ self.old }
+    {
+        if self.holds {
+            remember_element(&mut self.memory, receiver, message, at);
+        }
     }
 
     /// The value of an instance variable, where that is known without a change of anything,
@@ -347,15 +421,15 @@ impl<O: Objects, T: MethodCodeKept> KnownObjects<O, T> {
     }
 
     // Takes a unit, and then does what is left.
-    fn put_after_unit(&mut self, put: Put) -> Result<Value, Stop>
+    #[inline(always)]
+    fn put_after_unit(&mut self, put: Put) -> Result<(), Stop>
         requires { IsThere put.slot.name (O.seen self.old.0) }
         ensures put { UnitAndPut put (O.seen self.old.0) result (O.seen self.new.0) }
         ensures lacks { LacksAtMost result }
         ensures founds { self.new.1 ≡ self.old.1 }
     {
         self.take_unit()?;
-        self.put_in_slot(put.slot, put.value)?;
-        Ok(put.answer)
+        self.put_in_slot(put.slot, put.value)
     }
 
     /// Takes a unit, and keeps what is remembered.
@@ -467,5 +541,15 @@ impl<O: Objects, T: MethodCodeKept> KnownObjects<O, T> {
         ensures { self.new ≡ self.old }
     {
         keep_at(&mut self.memory.methods, at, code);
+    }
+}
+
+// How what answers this value ends, where it ended so.
+fn with_answer(ended: Result<(), Stop>, answer: Value) -> Result<Value, Stop>
+    ensures { result ≡ with_answer answer ended }
+{
+    match ended {
+        Ok(()) => Ok(answer),
+        Err(stop) => Err(stop),
     }
 }

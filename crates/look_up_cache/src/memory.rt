@@ -1,6 +1,8 @@
 //! What is remembered, without what is claimed of it.
 ghost use Rattle.std.specs.Prelude.{◌≡◌, []};
+ghost use Rattle.look_up_cache.specs.Memory.{flagged};
 
+use crate::element_message::ElementMessage;
 use crate::operator::IntegerOperator;
 use gem_language::Found;
 use gem_object::{Oid, Text};
@@ -25,12 +27,35 @@ impl Beginning {
     }
 }
 
-/// An object that was read, and where look-ups for it begin; and whether it was written, too.
+/// An object that was read, and where look-ups for it begin; whether it was written, too; and whether
+/// look-ups of `at:` and of `at:put:` for it are known to find the primitives of elements.
 #[derive(Drop)]
 pub(crate) struct Receiver {
     pub(crate) name: Oid,
     pub(crate) start: Beginning,
     pub(crate) written: bool,
+    pub(crate) reads_elements: bool,
+    pub(crate) puts_elements: bool,
+}
+
+impl Receiver {
+    /// The same, and that a look-up of this message for it finds the primitive of elements.
+    pub(crate) fn answering(&self, message: ElementMessage) -> Receiver
+        ensures { result ≡ flagged message self.now }
+    {
+        match message {
+            ElementMessage::At => Receiver {
+                start: self.start.copy(),
+                reads_elements: true,
+                ..*self
+            },
+            ElementMessage::AtPut => Receiver {
+                start: self.start.copy(),
+                puts_elements: true,
+                ..*self
+            },
+        }
+    }
 }
 
 /// A look-up, and what it found; and what is kept beside that.

@@ -108,7 +108,7 @@ fn answered_at<T>(
     let start = start_of_integer(receiver)?;
     let operator = IntegerOperator::of(selector)?;
     let entry = held_at(methods, at)?;
-    if is_for(entry, &start, selector) && found_primitive(entry, operator) {
+    if is_for(entry, &start, selector) && found_primitive(entry, operator.number()) {
         Some(operator)
     } else {
         None
@@ -125,13 +125,13 @@ fn start_of_integer(receiver: &Value) -> Option<Beginning>
     }
 }
 
-// Whether a look-up found the primitive of this operator.
-fn found_primitive<T>(entry: &Entry<T>, operator: IntegerOperator) -> bool
+/// Whether a look-up found the primitive of this number.
+pub(crate) fn found_primitive<T>(entry: &Entry<T>, number: u8) -> bool
     ensures { result ≡ true → option_map (λ found. found.code) entry.now.found
-        ≡ Some (Primitive (operator_number operator)) }
+        ≡ Some (Primitive number) }
 {
     match primitive_of(entry) {
-        Some(number) => number == operator.number(),
+        Some(found) => found == number,
         None => false,
     }
 }

@@ -10,7 +10,7 @@ ghost use Rattle.running_objects.specs.Seen.{Seen, object_at};
 ghost use Rattle.look_up_cache.specs.Table.{AllHeld};
 ghost use Rattle.look_up_cache.specs.Memory.{IsMet, Holds, Where};
 
-use crate::finding::{object_start, receiver_of, remember_object};
+use crate::finding::{put_receiver, receiver_of};
 use crate::memory::{Memory, Receiver};
 use gem_object::Oid;
 use running_objects::Objects;
@@ -53,11 +53,16 @@ fn remember_object_written<O: Objects>(
         → AllHeld (IsMet (O.seen objects.now)) receivers.old.items
         → AllHeld (IsMet (O.seen objects.now)) receivers.new.items }
 {
-    let Some(start) = object_start(receivers, name) else {
+    let Some(known) = receiver_of(receivers, name) else {
         return;
     };
+    let receiver = Receiver {
+        start: known.start.copy(),
+        written: true,
+        ..*known
+    };
     if is_ordinary(objects, name) {
-        let _ = remember_object(receivers, name, &start, true);
+        let _ = put_receiver(receivers, &receiver);
     }
 }
 

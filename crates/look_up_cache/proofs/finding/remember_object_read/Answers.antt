@@ -11,4 +11,4 @@ returns-in-Some g c before reached all =
     let seen : Seen = g.O.Objects.seen c.args.objects.now in
     c.remember_object.ensures seen
     (subst (λ (start : Start). Begins c.args.name start seen.setting seen.world) (sym c.start_by-start.ensures)
-    (reached_begins c.args.name before seen reached (contents_of c.in-Some.object.now) (sym c.in-Some.ensures))) tt all
+    (reached_begins c.args.name before seen reached (contents_of c.in-Some.object.now) (sym c.in-Some.ensures))) all
