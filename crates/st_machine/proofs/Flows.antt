@@ -1,5 +1,5 @@
 -- What was asked, as what an instruction leads to.
-use Rattle.std.proofs.Common.{◌≡◌, sym, subst, ℕ, List, Result, Ok, Err, IfOk}
+use Rattle.std.proofs.Common.{sym, subst, ℕ, List, Result, Ok, Err, IfOk}
 use Rattle.gem_object.specs.declared.value.Value.{Value}
 use Rattle.tree_meaning.specs.object_programs.Run.{State}
 use Rattle.tree_meaning.specs.Place.{Frame, MadeBlock}
@@ -9,7 +9,6 @@ use Rattle.st_machine.specs.Led.{StopsTo, AskedTo, IsAhead, LedTo, IsForward, Fl
 use Rattle.st_machine.specs.declared.flow.Asked.{Asked}
 use Rattle.st_machine.specs.declared.flow.Asked.TheVariants as asked
 use Rattle.st_machine.specs.declared.flow.Flow.{Flow}
-use Rattle.st_machine.specs.declared.flow.Flow.TheVariants as flow
 
 pub flow_led : (end : Next → Next → CodeEnd) (asked : Result Asked Stop) (led : Flow) (why : Stop) (stack : List Value)
     (frame : Frame) (state : State MadeBlock) → FlowOf asked led why → AskedTo end asked stack frame state

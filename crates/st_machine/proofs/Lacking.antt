@@ -8,7 +8,7 @@ use Rattle.st_compiler.specs.Machine.{CodeEnd, Next}
 use Rattle.running_objects.specs.Acted.{with_answer}
 use Rattle.running_objects.specs.declared.stop.Stop.{Stop}
 use Rattle.look_up_cache.specs.Elements.{ended_by}
-use Rattle.st_machine.specs.AtOnce.{giving, assigning}
+use Rattle.st_machine.specs.AtOnce.{giving, answering, assigning}
 use Rattle.st_machine.specs.Lacks.{stop_of, stopped_by, LackTurned}
 use Rattle.st_machine.specs.Led.{AskedTo, TurnedTo}
 use Rattle.st_machine.specs.declared.flow.Turn.{Turn}
@@ -30,6 +30,11 @@ pub giving_as : (ended : Result Value Stop) (known : Result Value Lack) → stop
     → ended_by ended ≡ giving known
 giving_as ended (Ok value) is = ap ended_by (sym is)
 giving_as ended (Err lacking) is = ap ended_by (sym is)
+
+pub answering_as : (value : Value) (ended : Result (Unit {0}) Stop) (known : Result (Unit {0}) Lack)
+    → stopped_by known ≡ ended → ended_by (with_answer value ended) ≡ giving (answering value known)
+answering_as value ended (Ok nothing) is = ap (λ (e : Result (Unit {0}) Stop). ended_by (with_answer value e)) (sym is)
+answering_as value ended (Err lacking) is = ap (λ (e : Result (Unit {0}) Stop). ended_by (with_answer value e)) (sym is)
 
 pub assigning_as : (value : Value) (ended : Result (Unit {0}) Stop) (known : Result (Unit {0}) Lack)
     → stopped_by known ≡ ended → with_answer value ended ≡ assigning value known

@@ -11,8 +11,10 @@ pub mod QuickRuns
 pub mod KnownAnswers
 mod Placed
 mod Changes
+mod Turning
 mod Lacking
 pub mod ReadyAnswers
+mod KnownElements
 pub mod PutItem
 pub mod MoreNils
 pub mod Taken

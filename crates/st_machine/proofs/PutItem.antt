@@ -21,6 +21,13 @@ module _ {A : Type 0} where
       ∙ (sym (set-append_left (reverse rest) (first ∷ []) depth y within)
       ∙ ap (λ (items : List A). set items depth y) (sym (turned first rest))))
 
+  -- so many stand there
+  pub own_size : (xs own : List A) (base depth size : ℕ) → reverse (drop base xs) ≡ own → size ≡ length xs
+      → depth < length own → depth < size - base
+  own_size xs own base depth size is_own is_size within =
+      let long : length own ≡ length xs - base = ap length (sym is_own) ∙ (length-reverse (drop base xs) ∙ length-drop base xs) in
+      omega (arith, long, is_size, within)
+
   module _ (xs own : List A) (base depth size : ℕ) (y : A) (is_own : reverse (drop base xs) ≡ own)
       (is_size : size ≡ length xs) (within : depth < size - base) where
     place_is : base + (size - 1 - depth - base) ≡ size - 1 - depth

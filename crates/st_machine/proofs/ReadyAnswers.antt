@@ -91,9 +91,9 @@ module _ (depth : ℕ) (some : 0 < depth) (selector : Text) (frame : Frame) (own
       (with_budget budget seen) local (drop (suc count) own) left
   operator_answered left put =
       let here : Seen = with_budget budget seen in
-      let held = known number frame budget in
+      let held = known number in
       let AtReceiver : Value → Type 0 = λ at. Ran (find_method false frame at selector) here local (Ok (Some held.0)) here local in
       let AtSelector : Text → Type 0 = λ at. Ran (find_method false frame (value.Int number) at) here local (Ok (Some held.0)) here local in
       put_answered depth some selector frame own count (Some held.0) left seen budget
-      (subst AtReceiver (sym receiver_is) (subst AtSelector named (does_ran held.2 local)))
+      (subst AtReceiver (sym receiver_is) (subst AtSelector named (does_ran (held.2 frame budget) local)))
       (by_primitive held.0 (operator_number operator) refl held.1 put)

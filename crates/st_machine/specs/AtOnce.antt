@@ -41,6 +41,11 @@ abbrev pub giving : Result Value Lack → Result PrimitiveAnswer Stop
 giving (Ok value) = Ok (Gives value)
 giving (Err lack) = Err (stop_of lack)
 
+-- how what answers this value ends, or that for which this is lacking
+abbrev pub answering : Value → Result (Unit {0}) Lack → Result Value Lack
+answering value (Ok nothing) = Ok value
+answering value (Err lack) = Err lack
+
 -- how an assignment of this value ends, or one for which this is lacking
 abbrev pub assigning : Value → Result (Unit {0}) Lack → Result Value Stop
 assigning value (Ok nothing) = Ok value

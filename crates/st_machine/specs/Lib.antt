@@ -5,6 +5,7 @@ pub mod Methods
 pub mod Targets
 pub mod AtOnce
 pub mod Lacks
+pub mod Changed
 pub mod Ready
 pub mod Quick
 pub mod Variables

@@ -139,7 +139,7 @@ pub(crate) fn write_name<O: FindsMethods>(
 }
 
 /// The same where it is known that it ends well, if nothing is lacking for it.
-#[inline(never)]
+#[inline(always)]
 pub(crate) fn set_known_variable<O: FindsMethods>(
     objects: &mut O,
     locals: &Locals,

@@ -1,15 +1,16 @@
 //! Objects that remember which methods answer which messages, and what is known to be done to them.
-ghost use Rattle.std.specs.Prelude.{◌≡◌, false, true, List, Option, None, Ok, IfSome, option_copied};
+ghost use Rattle.std.specs.Prelude.{◌≡◌, ◌∷◌, [], codes, false, true, List, Option, None, Ok, IfSome, option_copied};
 ghost use Rattle.tree_meaning.specs.object_programs.Budget.{Budget};
 ghost use Rattle.gem_language.specs.declared.found.Found.{Found as AFound};
 ghost use Rattle.gem_language.specs.LookUp.{find_method};
 ghost use Rattle.gem_language.specs.OutOfScope.{read_out_of_scope, write_out_of_scope};
 ghost use Rattle.prim_parts.specs.Does.{Does};
+ghost use Rattle.look_up_cache.specs.Answering.{AnswersBy};
 ghost use Rattle.look_up_cache.specs.Operators.{IntegersAnswer};
 ghost use Rattle.look_up_cache.specs.Table.{held_at};
 ghost use Rattle.look_up_cache.specs.Memory.{told_by, with_budget};
 ghost use Rattle.look_up_cache.specs.Lacking.{LacksAtMost};
-ghost use Rattle.st_machine.specs.AtOnce.{IsReady, StandsFor, with_unit, giving, assigning};
+ghost use Rattle.st_machine.specs.AtOnce.{IsReady, StandsFor, with_unit, giving, answering, assigning};
 ghost use Rattle.st_machine.specs.Lacks.{stopped_by};
 ghost use Rattle.st_machine.specs.Methods.{IsCodeOf};
 ghost use Rattle.look_up_cache.specs.Variables.{bare_frame};
@@ -18,7 +19,7 @@ use crate::lack::Lack;
 use crate::shared_code::SharedCode;
 use gem_language::Found;
 use gem_object::{Oid, Text, Value};
-use look_up_cache::{IntegerOperator, KnownObjects, MethodCodeKept};
+use look_up_cache::{ElementMessage, IntegerOperator, KnownObjects, MethodCodeKept};
 use running_objects::{Fault, Objects, Stop};
 use st_locals::Frame;
 
@@ -85,6 +86,38 @@ pub trait FindsMethods: Objects {
             (Self.seen self.old) (giving ended) (Self.seen self.new)) }
         ensures unchanged { result ≡ None → self.new ≡ self.old }
         ensures founds { founds self.new ≡ founds self.old };
+
+    /// What `at:` with this index answers, where it is known from the receiver alone, without a look
+    /// at any other object and whatever the budget is, that the primitive of that message answers it,
+    /// and with what. It takes no memory, but for the copy of a symbol. Of None the contract says
+    /// nothing.
+    fn known_element(&self, receiver: &Value, index: &Value) -> Option<Value>
+        ensures answers { IfSome result (λ _.
+            AnswersBy 34 receiver.now (codes "at:") (Self.seen self.now)) }
+        ensures ready { IfSome result (λ value.
+            IsReady 34 receiver.now (index.now ∷ []) (Self.seen self.now) value) };
+
+    /// Takes the unit of `at:put:` and does that, where it is known from the receiver alone that its
+    /// primitive answers it, and that this gives the value, if nothing is lacking for it. Of None the
+    /// contract says only that nothing has changed, with no unit taken.
+    fn do_known_put(
+        &mut self,
+        receiver: &Value,
+        index: &Value,
+        value: &Value,
+    ) -> Option<Result<(), Lack>>
+        ensures answers { IfSome result (λ _.
+            AnswersBy 35 receiver.now (codes "at:put:") (Self.seen self.old)) }
+        ensures done { IfSome result (λ ended. Does
+            (with_unit 35 receiver.now (index.now ∷ value.now ∷ [])) (Self.seen self.old)
+            (giving (answering value.now ended)) (Self.seen self.new)) }
+        ensures unchanged { result ≡ None → self.new ≡ self.old }
+        ensures founds { founds self.new ≡ founds self.old };
+
+    /// Remembers with the receiver that this message, which a look-up told at this place, is answered
+    /// by the primitive of elements, where that is so. It takes no memory.
+    fn keep_element(&mut self, receiver: &Value, message: ElementMessage, at: usize)
+        ensures { self.new ≡ self.old };
 
     /// The value of a name that is no variable in scope, in a method with this receiver that this
     /// class holds, on its class side or not: where it is known without a look at any object,
@@ -178,6 +211,26 @@ impl<O: Objects> FindsMethods for KnownObjects<O, SharedCode> {
     ) -> Option<Result<Value, Lack>> {
         let ended = KnownObjects::do_known(self, number, receiver, arguments)?;
         Some(lacking(ended))
+    }
+
+    #[inline(always)]
+    fn known_element(&self, receiver: &Value, index: &Value) -> Option<Value> {
+        KnownObjects::known_element(self, receiver, index)
+    }
+
+    #[inline(always)]
+    fn do_known_put(
+        &mut self,
+        receiver: &Value,
+        index: &Value,
+        value: &Value,
+    ) -> Option<Result<(), Lack>> {
+        let ended = KnownObjects::do_known_put(self, receiver, index, value)?;
+        Some(lacking(ended))
+    }
+
+    fn keep_element(&mut self, receiver: &Value, message: ElementMessage, at: usize) {
+        KnownObjects::keep_element(self, receiver, message, at);
     }
 
     #[inline(always)]

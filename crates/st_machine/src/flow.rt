@@ -61,20 +61,6 @@ pub(crate) enum Turned {
     Left(Option<usize>),
 }
 
-/// The same, part by part, so that the one that is handed on needs no place in memory: what a call
-/// that isn't inlined answers has one.
-#[inline(always)]
-pub(crate) fn again(turned: Turned) -> Turned
-    ensures { result ≡ turned }
-{
-    match turned {
-        Turned::Done(Ok(turn)) => Turned::Done(Ok(turn)),
-        Turned::Done(Err(error)) => Turned::Done(Err(error)),
-        Turned::Left(Some(place)) => Turned::Left(Some(place)),
-        Turned::Left(None) => Turned::Left(None),
-    }
-}
-
 /// What an instruction leads to that came to this, and why it stops.
 #[inline(always)]
 pub(crate) fn flow_of(why: &mut Stop, asked: Result<Asked, Stop>) -> Flow

@@ -1,5 +1,5 @@
 //! Jumps.
-ghost use Rattle.std.specs.Prelude.{◌≡◌, IfOk};
+ghost use Rattle.std.specs.Prelude.{◌≡◌, ◌<◌, ◌^◌, true, suc, IfOk};
 ghost use Rattle.gem_language.specs.Sends.{outside};
 ghost use Rattle.st_compiler.specs.Instruction.{Jump, JumpBack};
 ghost use Rattle.st_machine.specs.Led.{TurnedBy, TurnsForward};
@@ -54,4 +54,20 @@ pub(crate) fn jump_back<O: Objects>(
     ensures forward { IfOk result (TurnsForward place) }
 {
     Ok(Turn::Jumps(behind(place, back)))
+}
+
+/// Counts a jump back; false where the number of them has no next one. It is never inlined: so the
+/// count stays in memory, and the registers of the machine's loop are left for what each turn needs.
+#[inline(never)]
+pub(crate) fn count_jump(jumps: &mut u64) -> bool
+    ensures counted { result ≡ true → jumps.new ≡ suc jumps.old }
+    ensures bounded { result ≡ true → suc jumps.old < 2 ^ 64 }
+{
+    match jumps.checked_add(1) {
+        Some(more) => {
+            *jumps = more;
+            true
+        }
+        None => false,
+    }
 }

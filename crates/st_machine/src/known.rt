@@ -20,8 +20,9 @@ ghost use Rattle.st_machine.specs.Targets.{found_by, Answered, AnswersAt};
 
 use crate::border::known_place;
 use crate::changing::send_changing;
+use crate::elements::{answer_element, keep_element, put_element};
 use crate::finds::FindsMethods;
-use crate::flow::{Turned, again};
+use crate::flow::Turned;
 use crate::layers::Layers;
 use crate::locals::Locals;
 use crate::outline::Outline;
@@ -29,7 +30,7 @@ use crate::quick::quick_instr;
 use crate::shared_code::SharedCode;
 use crate::units::spend_unit;
 use gem_object::{MethodCode, Oid, Text, Value};
-use look_up_cache::IntegerOperator;
+use look_up_cache::{ElementMessage, IntegerOperator};
 use st_compiler::Instr;
 use tree_meaning::Mark;
 
@@ -62,12 +63,82 @@ pub(crate) fn send_known<O: FindsMethods>(
     if stack.height() <= count {
         return Turned::Left(None);
     }
-    if answer_integers(objects, locals, stack, chain, frame, selector, count, depth) {
+    if answer_at_once(objects, locals, stack, chain, frame, selector, count, depth) {
         return Turned::Done(spend_unit(objects, place));
     }
-    send_looked_up(
+    let put = send_element_put(
         objects, locals, stack, chain, frame, code, selector, count, place, depth,
-    )
+    );
+    match put {
+        Turned::Done(turned) => Turned::Done(turned),
+        Turned::Left(_) => send_looked_up(
+            objects, locals, stack, chain, frame, code, selector, count, place, depth,
+        ),
+    }
+}
+
+/// Puts the answer to a message in place of its receiver and its argument, where it is an operator
+/// of integers or `at:`, and what it answers is known without a look-up. Its unit isn't taken yet.
+/// Else false, and all is as before.
+#[inline(always)]
+fn answer_at_once<O: FindsMethods>(
+    objects: &O,
+    locals: &Locals,
+    stack: &mut Layers<Value>,
+    chain: &Layers<Mark>,
+    frame: &Outline,
+    selector: &Text,
+    count: usize,
+    depth: u32,
+) -> bool
+    requires { count < length stack.old.own }
+    ensures answered { result ≡ true → (budget : Budget) → Answered
+        (found_by (callee depth) selector.now (framed chain.now.own frame.now)
+        (get_or stack.old.own count Nil) (take count stack.old.own))
+        (with_budget budget (O.seen objects.now)) locals.now (drop (suc count) stack.old.own)
+        stack.new.own }
+    ensures unchanged { result ≡ false → stack.new.own ≡ stack.old.own }
+    ensures below { stack.new.below ≡ stack.old.below }
+{
+    answer_integers(objects, locals, stack, chain, frame, selector, count, depth)
+        || answer_element(objects, locals, stack, chain, frame, selector, count, depth)
+}
+
+/// Sends `at:put:`, where it is known without a look-up that it ends well unless something is lacking
+/// for it. Any other message is left, and all is as before.
+#[inline(always)]
+fn send_element_put<O: FindsMethods>(
+    objects: &mut O,
+    locals: &Locals,
+    stack: &mut Layers<Value>,
+    chain: &Layers<Mark>,
+    frame: &Outline,
+    code: &SharedCode,
+    selector: &Text,
+    count: usize,
+    place: usize,
+    depth: u32,
+) -> Turned
+    requires { count < length stack.old.own }
+    ensures keeps { Keeps (O.seen objects.old) (O.seen objects.new) }
+    ensures led { IfDone result (λ turned. TurnedBy (outside depth) (table_of code.now)
+        (Send selector.now count) place stack.old.own chain.now.own frame.now (O.seen objects.old)
+        locals.now turned stack.new.own chain.now.own (O.seen objects.new) locals.now) }
+    ensures forward { IfDone result (λ turned. IfOk turned (TurnsForward place)) }
+    ensures unchanged { IfLeft result (λ _. objects.new ≡ objects.old) }
+    ensures own { IfLeft result (λ _. stack.new.own ≡ stack.old.own) }
+    ensures below { stack.new.below ≡ stack.old.below }
+{
+    if count != 2 {
+        return Turned::Left(None);
+    }
+    let Some(ElementMessage::AtPut) = ElementMessage::of(selector) else {
+        return Turned::Left(None);
+    };
+    let put = put_element(
+        objects, locals, stack, chain, frame, code, selector, place, depth,
+    );
+    put.turned(place, None)
 }
 
 /// The same of a message that isn't one of the operators of integers. What it keeps is not kept for
@@ -98,22 +169,22 @@ fn send_looked_up<O: FindsMethods>(
     ensures own { IfLeft result (λ _. stack.new.own ≡ stack.old.own) }
     ensures below { stack.new.below ≡ stack.old.below }
 {
-    let known = place_of_answer(objects, locals, stack, chain, frame, selector, count);
-    if count == 2 {
-        return again(send_changing(
-            objects, locals, stack, chain, frame, code, selector, count, known, place, depth,
-        ));
-    }
-    let Some(at) = known else {
+    let Some(at) = place_of_answer(objects, locals, stack, chain, frame, selector, count) else {
         return Turned::Left(None);
     };
+    if count == 2 {
+        let changed = send_changing(
+            objects, locals, stack, chain, frame, code, selector, count, at, place, depth,
+        );
+        return changed.turned(place, Some(at));
+    }
     if depth == 0 {
-        return Turned::Left(known);
+        return Turned::Left(Some(at));
     }
     if put_at(objects, stack, at, count) {
         return Turned::Done(spend_unit(objects, place));
     }
-    Turned::Left(known)
+    Turned::Left(Some(at))
 }
 
 /// Puts the answer to an operator in place of its receiver and its argument, where it is known that
@@ -148,7 +219,7 @@ fn answer_integers<O: FindsMethods>(
     if !objects.answers_integers(operator) {
         return false;
     }
-    put_ready(objects, stack, operator.number(), count)
+    put_computed(objects, stack, operator.number(), count)
 }
 
 /// The operator with this selector, where its receiver, below so many arguments, is an integer.
@@ -159,13 +230,14 @@ fn operator_for(stack: &Layers<Value>, selector: &Text, count: usize) -> Option<
     ensures receiver { IfSome result (λ _. (number : ℤ)
         × (get_or stack.now.own count Nil ≡ Int number)) }
 {
-    let Some(Value::Int(_)) = stack.item(count) else {
-        return None;
-    };
-    IntegerOperator::of(selector)
+    match stack.at_depth(count) {
+        Value::Int(_) => IntegerOperator::of(selector),
+        _ => None,
+    }
 }
 
 /// The place at which what answers a message with so many arguments stands, where that is known.
+#[inline(always)]
 fn place_of_answer<O: FindsMethods>(
     objects: &O,
     locals: &Locals,
@@ -179,21 +251,31 @@ fn place_of_answer<O: FindsMethods>(
     ensures { AnswersAt (Send selector.now count) stack.now.own (framed chain.now.own frame.now)
         (O.seen objects.now) locals.now (O.founds objects.now) result }
 {
-    let Some(receiver) = stack.item(count) else {
-        unreachable!()
-    };
-    known_place(objects, locals, chain, frame, receiver, selector)
+    known_place(
+        objects,
+        locals,
+        chain,
+        frame,
+        stack.at_depth(count),
+        selector,
+    )
 }
 
 /// Puts the answer of the method that stands at a place in place of the receiver and of so many
 /// arguments above it, where it answers by one push or is a primitive that is ready. Else false,
 /// and all is as before.
 #[inline(never)]
-fn put_at<O: FindsMethods>(objects: &O, stack: &mut Layers<Value>, at: usize, count: usize) -> bool
+fn put_at<O: FindsMethods>(
+    objects: &mut O,
+    stack: &mut Layers<Value>,
+    at: usize,
+    count: usize,
+) -> bool
     requires { count < length stack.old.own }
-    ensures put { result ≡ true → PutBy (held_at (O.founds objects.now) at)
+    ensures objects { objects.new ≡ objects.old }
+    ensures put { result ≡ true → PutBy (held_at (O.founds objects.old) at)
         (get_or stack.old.own count Nil) (reverse (take count stack.old.own))
-        (O.seen objects.now) (drop (suc count) stack.old.own) stack.new.own }
+        (O.seen objects.old) (drop (suc count) stack.old.own) stack.new.own }
     ensures unchanged { result ≡ false → stack.new.own ≡ stack.old.own }
     ensures below { stack.new.below ≡ stack.old.below }
 {
@@ -201,7 +283,11 @@ fn put_at<O: FindsMethods>(objects: &O, stack: &mut Layers<Value>, at: usize, co
         return false;
     };
     match &found.code {
-        MethodCode::Primitive(number) => put_ready(objects, stack, *number, count),
+        MethodCode::Primitive(number) => {
+            let number = *number;
+            keep_element(objects, stack, number, at, count);
+            put_ready(objects, stack, number, count)
+        }
         MethodCode::Source(_) => match quick_at(objects, at) {
             Some(instr) => put_push(objects, stack, instr, found.holder, found.class_side, count),
             None => false,
@@ -225,10 +311,7 @@ fn put_ready<O: FindsMethods>(
     ensures unchanged { result ≡ false → stack.new.own ≡ stack.old.own }
     ensures below { stack.new.below ≡ stack.old.below }
 {
-    let Some(receiver) = stack.item(count) else {
-        unreachable!()
-    };
-    match answer_ready(objects, number, receiver, stack.upper(count)) {
+    match answer_ready(objects, number, stack.at_depth(count), stack.upper(count)) {
         Some(value) => put_over(stack, count, value),
         None => false,
     }
@@ -249,8 +332,47 @@ fn answer_ready<O: FindsMethods>(
     if number == 33 || number == 34 {
         known_part(objects, number, receiver, arguments)
     } else {
-        prim_calls::ready(number, receiver, arguments)
+        computed(objects, number, receiver, arguments)
     }
+}
+
+/// Puts the answer of a primitive in place of the receiver and of so many arguments above it, where
+/// it is computed from them alone. Else false, and all is as before. Each kind of value is put by
+/// itself, so that none of them needs a place in memory.
+#[inline(always)]
+fn put_computed<O: FindsMethods>(
+    objects: &O,
+    stack: &mut Layers<Value>,
+    number: u8,
+    count: usize,
+) -> bool
+    requires { count < length stack.old.own }
+    ensures put { result ≡ true → ReadyPut number (get_or stack.old.own count Nil)
+        (reverse (take count stack.old.own)) (O.seen objects.now)
+        (drop (suc count) stack.old.own) stack.new.own }
+    ensures unchanged { result ≡ false → stack.new.own ≡ stack.old.own }
+    ensures below { stack.new.below ≡ stack.old.below }
+{
+    match computed(objects, number, stack.at_depth(count), stack.upper(count)) {
+        Some(Value::Int(answer)) => put_over(stack, count, Value::Int(answer)),
+        Some(Value::True) => put_over(stack, count, Value::True),
+        Some(Value::False) => put_over(stack, count, Value::False),
+        _ => false,
+    }
+}
+
+/// The answer of a primitive, where it is computed from these values alone.
+#[inline(always)]
+fn computed<O: FindsMethods>(
+    objects: &O,
+    number: u8,
+    receiver: &Value,
+    arguments: &[Value],
+) -> Option<Value>
+    ensures { IfSome result (λ value.
+        IsReady number receiver.now arguments.now (O.seen objects.now) value) }
+{
+    prim_calls::ready(number, receiver, arguments)
 }
 
 /// The answer of `size` or `at:`, where it is known.
@@ -326,10 +448,7 @@ fn put_variable<O: FindsMethods>(
     ensures unchanged { result ≡ false → stack.new.own ≡ stack.old.own }
     ensures below { stack.new.below ≡ stack.old.below }
 {
-    let Some(receiver) = stack.item(count) else {
-        unreachable!()
-    };
-    match objects.known_variable(name, receiver, holder, class_side) {
+    match objects.known_variable(name, stack.at_depth(count), holder, class_side) {
         Some(value) => put_over(stack, count, value),
         None => false,
     }

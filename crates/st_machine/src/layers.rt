@@ -1,5 +1,5 @@
 //! A stack that all activations share.
-ghost use Rattle.std.specs.Prelude.{◌≡◌, ◌≤◌, [], ◌∷◌, ◌++◌, length, reverse, take, drop, set, slice_get, option_copied, OnOk, OnErr};
+ghost use Rattle.std.specs.Prelude.{◌≡◌, ◌<◌, ◌≤◌, [], ◌∷◌, ◌++◌, length, reverse, take, drop, set, slice_get, option_copied, Some, OnOk, OnErr};
 ghost use Rattle.st_machine.specs.Layers.{nothing_on, begun, ended, kept, Popped};
 
 use list_stack::ListStack;
@@ -81,10 +81,19 @@ impl<T: Drop> Layers<T> {
     pub(crate) fn item(&self, depth: usize) -> Option<&T>
         ensures { option_copied result ≡ slice_get self.now.own depth }
     {
-        if depth >= self.items.len() - self.base {
+        if depth >= self.height() {
             return None;
         }
-        self.items.get(self.items.len() - 1 - depth)
+        Some(self.at_depth(depth))
+    }
+
+    /// The same, where there is one.
+    #[inline(always)]
+    pub(crate) fn at_depth(&self, depth: usize) -> &T
+        requires { depth < length self.now.own }
+        ensures { Some result.now ≡ slice_get self.now.own depth }
+    {
+        &self.items[self.items.len() - 1 - depth]
     }
 
     /// So many of the uppermost items, the uppermost one last.
@@ -102,16 +111,15 @@ impl<T: Drop> Layers<T> {
         &self.items[self.base..]
     }
 
-    /// Puts an item in place of the one at this depth, if there is one. It takes no memory.
+    /// Puts an item in place of the one at this depth. It takes no memory.
     #[inline(always)]
     pub(crate) fn put(&mut self, depth: usize, item: T)
+        requires { depth < length self.old.own }
         ensures own { self.new.own ≡ set self.old.own depth item }
         ensures below { self.new.below ≡ self.old.below }
     {
-        if depth < self.items.len() - self.base {
-            let at = self.items.len() - 1 - depth;
-            self.items[at] = item;
-        }
+        let at = self.items.len() - 1 - depth;
+        self.items[at] = item;
     }
 
     /// Drops so many of the uppermost items.
@@ -122,6 +130,9 @@ impl<T: Drop> Layers<T> {
         ensures below { self.new.below ≡ self.old.below }
     {
         if count == 1 {
+            let _ = self.items.pop();
+        } else if count == 2 {
+            let _ = self.items.pop();
             let _ = self.items.pop();
         } else if count > 0 {
             let left = self.items.len() - count;

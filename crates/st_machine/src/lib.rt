@@ -6,11 +6,13 @@
 mod blocks;
 mod border;
 mod cache;
+mod changed;
 mod changing;
 mod chunk;
 mod code_block;
 mod command;
 mod conditions;
+mod elements;
 mod ended;
 mod finds;
 mod flow;

@@ -1,5 +1,5 @@
 //! Variables, made blocks and activations.
-ghost use Rattle.std.specs.Prelude.{◌≡◌, ◌<◌, ◌≤◌, ◌++◌, ℕ, ◌∷◌, [], length, get_or, set, reverse, take, drop, replicate, slice_get, option_copied, IfOk, OnOk, OnErr};
+ghost use Rattle.std.specs.Prelude.{◌≡◌, ◌<◌, ◌≤◌, ◌++◌, ℕ, ◌∷◌, [], length, get_or, set, reverse, take, drop, replicate, slice_get, option_copied, None, IfSome, IfOk, OnOk, OnErr};
 ghost use Rattle.gem_object.specs.declared.value.Value.TheVariants.{Nil};
 ghost use Rattle.tree_meaning.specs.object_programs.Local.{nothing};
 ghost use Rattle.st_machine.specs.Variables.{more_nils};
@@ -144,15 +144,15 @@ impl Locals {
         open_moving(&mut self.scopes, stack, count, temps)
     }
 
-    /// A copy of the value of a variable of the scope of this number. Nil where there is no such
-    /// variable.
-    pub(crate) fn value(&self, scope: u64, index: usize) -> Result<Value, AllocError>
-        ensures { IfOk result (λ value.
-            value ≡ get_or (get_or self.now.scopes scope []) index Nil) }
+    /// The value of a variable of the scope of this number, if there is such a variable.
+    pub(crate) fn item(&self, scope: u64, index: usize) -> Option<&Value>
+        ensures there { IfSome result (λ value.
+            value.now ≡ get_or (get_or self.now.scopes scope []) index Nil) }
+        ensures none { result ≡ None → get_or (get_or self.now.scopes scope []) index Nil ≡ Nil }
     {
         match self.scopes.get(scope as usize, index) {
-            Some(value) => value.clone(),
-            None => Ok(Value::Nil),
+            Some(value) => Some(value),
+            None => None,
         }
     }
 

@@ -31,6 +31,7 @@ use crate::code_block::CodeBlock;
 use crate::ended::{Called, Ended};
 use crate::finds::FindsMethods;
 use crate::flow::{Flow, Turn, Turned, flow_of};
+use crate::jumps::count_jump;
 use crate::layers::Layers;
 use crate::locals::Locals;
 use crate::names::{push_block, push_name, store_name};
@@ -111,11 +112,10 @@ pub(crate) fn execute<O: FindsMethods>(
                 match turn {
                     Turn::Goes(place) => at = place,
                     Turn::Jumps(place) => {
-                        let Some(more) = jumps.checked_add(1) else {
+                        if !count_jump(&mut jumps) {
                             *why = Stop::NoMemory;
                             return Ended::Stopped;
-                        };
-                        jumps = more;
+                        }
                         at = place;
                     }
                     Turn::NotBoolean => {
@@ -415,9 +415,7 @@ fn answer_of<O: FindsMethods>(
     ensures stack { stack.new.below ≡ stack.old.below }
     ensures chain { chain.new ≡ chain.old }
 {
-    let Some(receiver) = stack.item(count) else {
-        unreachable!()
-    };
+    let receiver = stack.at_depth(count);
     match take_unit(objects, locals) {
         Ok(()) => match target_of(
             alloc, objects, locals, chain, cache, to_super, frame, receiver, selector,
@@ -647,9 +645,7 @@ fn call_primitive<O: FindsMethods>(
     ensures stack { stack.new.below ≡ stack.old.below }
     ensures chain { chain.new ≡ chain.old }
 {
-    let Some(receiver) = stack.item(count) else {
-        unreachable!()
-    };
+    let receiver = stack.at_depth(count);
     if let Some(block) = block_called(number, receiver, count) {
         return call_block(
             alloc,

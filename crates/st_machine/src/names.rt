@@ -5,20 +5,23 @@ ghost use Rattle.gem_language.specs.Sends.{outside};
 ghost use Rattle.running_objects.specs.Seen.{Keeps};
 ghost use Rattle.running_objects.specs.Ran.{Ran};
 ghost use Rattle.st_compiler.specs.Instruction.{PushLocal, StoreLocal, PushName, StoreName, PushBlock};
+ghost use Rattle.st_machine.specs.Changed.{IfChanged};
 ghost use Rattle.st_machine.specs.Led.{AskedBy, IsAhead, TurnedBy, TurnsForward, IfDone, IfLeft};
 ghost use Rattle.st_machine.specs.Parts.{framed, table_of};
 ghost use Rattle.st_machine.specs.Targets.{Answered, AnswersAt};
+ghost use Rattle.st_machine.specs.declared.changed.Changed.TheVariants as changed;
 ghost use Rattle.st_machine.specs.declared.names.Put.TheVariants.{Stands, Unknown};
 
 use crate::border::{known_variable, read_name, set_known_variable, write_name};
+use crate::changed::Changed;
 use crate::code_block::CodeBlock;
 use crate::finds::FindsMethods;
 use crate::flow::{Asked, Turn, Turned};
-use crate::lack::turn_of;
 use crate::layers::Layers;
 use crate::locals::Locals;
 use crate::outline::Outline;
 use crate::places::next_of;
+use crate::pushes::push_copy;
 use crate::scopes::scope_number;
 use crate::shared_code::SharedCode;
 use gem_object::{BlockRef, Text, Value};
@@ -29,7 +32,6 @@ use tree_meaning::Mark;
 
 /// Puts a variable.
 #[tactic(auto, unfolding(tree_meaning::specs::Scopes::variable_value))]
-#[inline(always)]
 pub(crate) fn push_local<O: Objects>(
     objects: &O,
     locals: &Locals,
@@ -48,8 +50,10 @@ pub(crate) fn push_local<O: Objects>(
     ensures forward { IfOk result (TurnsForward place) }
     ensures stack { stack.new.below ≡ stack.old.below }
 {
-    let value = locals.value(scope_number(chain, scope), index)?;
-    stack.push(value)?;
+    match locals.item(scope_number(chain, scope), index) {
+        Some(value) => push_copy(stack, value)?,
+        None => stack.push(Value::Nil)?,
+    }
     Ok(Turn::Goes(next_of(place)?))
 }
 
@@ -75,7 +79,12 @@ pub(crate) fn store_local<O: Objects>(
     let Some(top) = stack.item(0) else {
         return Ok(Turn::Stuck);
     };
-    locals.set_value(scope_number(chain, scope), index, top.clone()?);
+    match top {
+        Value::Int(number) => {
+            locals.set_value(scope_number(chain, scope), index, Value::Int(*number));
+        }
+        _ => locals.set_value(scope_number(chain, scope), index, top.clone()?),
+    }
     Ok(Turn::Goes(next_of(place)?))
 }
 
@@ -198,16 +207,39 @@ pub(crate) fn store_known<O: FindsMethods>(
         at) }
     ensures seen { IfLeft result (λ _. O.seen objects.new ≡ O.seen objects.old) }
 {
+    let stored = store_variable(
+        objects, locals, stack, chain, frame, code, name, place, depth,
+    );
+    stored.turned(place, None)
+}
+
+/// Stores the uppermost value under a name out of scope, and leaves it, where it is known that this
+/// ends well unless something is lacking for it.
+#[inline(never)]
+fn store_variable<O: FindsMethods>(
+    objects: &mut O,
+    locals: &Locals,
+    stack: &Layers<Value>,
+    chain: &Layers<Mark>,
+    frame: &Outline,
+    code: &SharedCode,
+    name: &Text,
+    place: usize,
+    depth: u32,
+) -> Changed
+    ensures keeps { Keeps (O.seen objects.old) (O.seen objects.new) }
+    ensures led { IfChanged result place (λ turned. TurnedBy (outside depth) (table_of code.now)
+        (StoreName name.now) place stack.now.own chain.now.own frame.now (O.seen objects.old)
+        locals.now turned stack.now.own chain.now.own (O.seen objects.new) locals.now) }
+    ensures unchanged { result ≡ changed.Unknown → objects.new ≡ objects.old }
+{
     let Some(top) = stack.item(0) else {
-        return Turned::Left(None);
+        return Changed::Unknown;
     };
     match set_known_variable(objects, locals, chain, name, frame, top) {
-        Some(Ok(())) => match next_of(place) {
-            Ok(next) => Turned::Done(Ok(Turn::Goes(next))),
-            Err(error) => Turned::Done(Err(error)),
-        },
-        Some(Err(lack)) => Turned::Done(turn_of(lack)),
-        None => Turned::Left(None),
+        Some(Ok(())) => Changed::Stands,
+        Some(Err(lack)) => Changed::lacking(lack),
+        None => Changed::Unknown,
     }
 }
 

@@ -1,5 +1,5 @@
 //! Instructions that put values on the stack and drop them.
-ghost use Rattle.std.specs.Prelude.{◌≡◌, IfOk};
+ghost use Rattle.std.specs.Prelude.{◌≡◌, ◌∷◌, IfOk, OnOk};
 ghost use Rattle.gem_language.specs.Sends.{outside};
 ghost use Rattle.running_objects.specs.Seen.{Keeps};
 ghost use Rattle.st_compiler.specs.Instruction.{PushSelf, PushLit, MakeLit, Pop, Dup};
@@ -39,7 +39,10 @@ pub(crate) fn push_self<O: Objects>(
     ensures forward { IfOk result (TurnsForward place) }
     ensures stack { stack.new.below ≡ stack.old.below }
 {
-    stack.push(frame.receiver().clone()?)?;
+    match frame.receiver() {
+        Value::Ref(oid) => stack.push(Value::Ref(*oid))?,
+        receiver => push_clone(stack, receiver)?,
+    }
     Ok(Turn::Goes(next_of(place)?))
 }
 
@@ -83,7 +86,10 @@ pub(crate) fn push_value<O: Objects>(
     ensures forward { IfOk result (TurnsForward place) }
     ensures stack { stack.new.below ≡ stack.old.below }
 {
-    stack.push(value.clone()?)?;
+    match value {
+        Value::Int(number) => stack.push(Value::Int(*number))?,
+        _ => push_clone(stack, value)?,
+    }
     Ok(Turn::Goes(next_of(place)?))
 }
 
@@ -159,4 +165,26 @@ pub(crate) fn duplicate<O: Objects>(
     let copy = top.clone()?;
     stack.push(copy)?;
     Ok(Turn::Goes(next_of(place)?))
+}
+
+/// Puts a copy of a value. Those that are most frequent are copied without a call.
+#[inline(always)]
+pub(crate) fn push_copy(stack: &mut Layers<Value>, value: &Value) -> Result<(), AllocError>
+    ensures pushed { OnOk result (stack.new.own ≡ value.now ∷ stack.old.own) }
+    ensures below { stack.new.below ≡ stack.old.below }
+{
+    match value {
+        Value::Int(number) => stack.push(Value::Int(*number)),
+        Value::Ref(oid) => stack.push(Value::Ref(*oid)),
+        _ => push_clone(stack, value),
+    }
+}
+
+/// The same of any value.
+#[inline(never)]
+fn push_clone(stack: &mut Layers<Value>, value: &Value) -> Result<(), AllocError>
+    ensures pushed { OnOk result (stack.new.own ≡ value.now ∷ stack.old.own) }
+    ensures below { stack.new.below ≡ stack.old.below }
+{
+    stack.push(value.clone()?)
 }

@@ -128,10 +128,14 @@ fn answer_quickly<O: FindsMethods>(
     ensures own { stack.new.own ≡ drop (suc count) stack.old.own }
     ensures below { stack.new.below ≡ stack.old.below }
 {
-    let Some(receiver) = stack.item(count) else {
-        unreachable!()
-    };
-    let ended = value_put(alloc, objects, instr, receiver, holder, class_side);
+    let ended = value_put(
+        alloc,
+        objects,
+        instr,
+        stack.at_depth(count),
+        holder,
+        class_side,
+    );
     stack.drop_upper(count);
     let Some(_) = stack.pop() else { unreachable!() };
     answer_at(locals.mark().living, ended)

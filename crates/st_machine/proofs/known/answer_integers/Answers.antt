@@ -9,9 +9,9 @@ pub returns-clause-answered : goal.returns-clause-answered
 returns-clause-answered g c = λ is budget.
     let own = c.args.stack.now.own in
     let AtNumber : ℕ → Type 0 = λ number. ReadyPut number (get_or own c.args.count Nil) (reverse (take c.args.count own))
-    (g.O.Objects.seen c.args.objects.now) (drop (suc c.args.count) own) c.put_ready.new.stack.own in
+    (g.O.Objects.seen c.args.objects.now) (drop (suc c.args.count) own) c.put_computed.new.stack.own in
     operator_answered c.args.depth (omega (arith, c.if-depth-eq0.false)) c.args.selector.now
     (framed c.args.chain.now.own c.args.frame.now) own c.args.count c.in-Some.operator c.in-Some.ensures.selector
     c.in-Some.ensures.receiver.0 c.in-Some.ensures.receiver.1 (g.O.Objects.seen c.args.objects.now)
-    (c.answers_integers.ensures c.if-not-answers_integers.false) budget c.args.locals.now c.put_ready.new.stack.own
-    (subst AtNumber c.number.ensures (c.put_ready.ensures.put is))
+    (c.answers_integers.ensures c.if-not-answers_integers.false) budget c.args.locals.now c.put_computed.new.stack.own
+    (subst AtNumber c.number.ensures (c.put_computed.ensures.put is))

@@ -1,5 +1,7 @@
-use Rattle.std.proofs.Common.{refl, arith}
+use Rattle.std.proofs.Common.{refl, ap, subst, arith}
+use Rattle.running_objects.specs.Seen.{Seen}
 use Rattle.look_up_cache.specs.Table.{held_at}
+use Rattle.st_machine.specs.Led.{UnitTurned}
 use Rattle.st_machine.specs.Parts.{framed, table_of}
 use Rattle.st_machine.proofs.KnownAnswers.{known_led}
 use Rattle.st_machine.proofs.ReadyAnswers.{put_answered}
@@ -15,4 +17,6 @@ returns-then-put_at-clause-led g c =
     (framed c.args.chain.now.own c.args.frame.now) c.args.stack.now.own c.args.count
     (held_at (g.O.FindsMethods.founds c.args.objects.now) c.in-Some.at) c.put_at.new.stack.own seen budget
     (c.in-Some.ensures budget) (c.if-put_at.ensures.put refl))
-    c.spend_unit.result c.spend_unit.ensures.turned
+    c.spend_unit.result (subst (λ (s : Seen). UnitTurned c.args.place s c.spend_unit.result
+    (g.O.Objects.seen c.spend_unit.new.objects)) (ap g.O.Objects.seen c.if-put_at.ensures.objects)
+    c.spend_unit.ensures.turned)

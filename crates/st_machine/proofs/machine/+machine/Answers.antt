@@ -41,10 +41,10 @@ call_method-returns-in-None-clause-ran g t c =
     method_ran c.args.depth (omega (arith, c.if-depth-eq0.false)) c.args.code.now c.args.holder c.args.class_side
     (get_or c.args.stack.now.own c.args.count Nil) (reverse (take c.args.count c.args.stack.now.own)) c.activate.ensures.ran
 
-pub call_primitive-returns-in-Some-block_called-clause-ran : goal.call_primitive-returns-in-Some-block_called-clause-ran
-call_primitive-returns-in-Some-block_called-clause-ran g t c =
-    called_ran c.args.depth c.args.number c.args.stack.now.own c.args.count c.requires c.in-Some.receiver.now
-    c.in-Some.ensures c.in-Some-block_called.block c.in-Some-block_called.ensures c.call_block.ensures.ran
+pub call_primitive-returns-in-Some-clause-ran : goal.call_primitive-returns-in-Some-clause-ran
+call_primitive-returns-in-Some-clause-ran g t c =
+    called_ran c.args.depth c.args.number c.args.stack.now.own c.args.count c.requires c.at_depth-receiver.result.now
+    c.at_depth-receiver.ensures c.in-Some.block c.in-Some.ensures c.call_block.ensures.ran
 
 pub call_with-returns-clause-ran : goal.call_with-returns-clause-ran
 call_with-returns-clause-ran g t c =
@@ -275,8 +275,8 @@ call_primitive-returns-in-Ok-clause-own g t c =
 
 pub call_primitive-returns-in-Err-clause-ran : goal.call_primitive-returns-in-Err-clause-ran
 call_primitive-returns-in-Err-clause-ran g t c =
-    primitive_stops c.args.depth c.args.number c.args.stack.now.own c.args.count c.requires c.in-Some.receiver.now
-    c.in-Some.ensures c.upper.result.now c.upper.ensures c.in-Err.ensures
+    primitive_stops c.args.depth c.args.number c.args.stack.now.own c.args.count c.requires
+    c.at_depth-receiver.result.now c.at_depth-receiver.ensures c.upper.result.now c.upper.ensures c.in-Err.ensures
 
 pub execute-returns-in-Answers-clause-ran : goal.execute-returns-in-Answers-clause-ran
 execute-returns-in-Answers-clause-ran g t c =
