@@ -5,6 +5,8 @@
 #![tactic(auto)]
 
 #[cfg(test)]
+mod element_calls;
+#[cfg(test)]
 mod machine_calls;
 #[cfg(test)]
 mod machine_tests;

@@ -24,7 +24,7 @@ use std::test::Fail;
 const LONGEST: usize = 65_536;
 
 /// Notes a call that isn't answered as it should be.
-fn note_unless(wrong: &mut String, call: &str, right: bool) -> Result<(), AllocError> {
+pub(crate) fn note_unless(wrong: &mut String, call: &str, right: bool) -> Result<(), AllocError> {
     if right {
         return Ok(());
     }
@@ -184,14 +184,15 @@ fn check_cache(
     check_holds(alloc, &cache, "m257 ^257", true, wrong)
 }
 
-/// The value of the chunk `One`, or nil.
-fn value_of_one(
+/// The value of a chunk, or nil.
+pub(crate) fn value_of(
     alloc: Global,
     state: &mut Known<PlainState>,
     cache: &mut CodeCache,
+    chunk: &str,
 ) -> Result<Value, AllocError> {
     state.begin_chunk();
-    let Ok(tree) = parse_chunk(alloc, b"One".as_slice()) else {
+    let Ok(tree) = parse_chunk(alloc, chunk.as_bytes()) else {
         return Ok(Value::Nil);
     };
     let code = SharedCode::of(alloc, compile(&tree)?)?;
@@ -233,7 +234,7 @@ fn check_kept(
         false,
         "UserGlobals at: #One put: Foo new",
     )?;
-    let one = value_of_one(alloc, state, cache)?;
+    let one = value_of(alloc, state, cache, "One")?;
     note_unless(
         wrong,
         "nothing is kept",
@@ -310,7 +311,7 @@ fn check_both(
     other: PlainState,
     wrong: &mut String,
 ) -> Result<(), AllocError> {
-    let one = value_of_one(alloc, state, cache)?;
+    let one = value_of(alloc, state, cache, "One")?;
     check_bar(alloc, state, cache, &one, "3", wrong)?;
     check_other(alloc, state, cache, other, &one, wrong)
 }

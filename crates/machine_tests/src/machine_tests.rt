@@ -295,7 +295,7 @@ fn line_replies<S: Begins>(
 }
 
 /// Notes a line of a script that isn't replied to as it should be.
-fn check_line<S: Begins>(
+pub(crate) fn check_line<S: Begins>(
     alloc: Global,
     state: &mut Known<S>,
     cache: &mut CodeCache,
