@@ -184,13 +184,16 @@ fn check_cache(
     check_holds(alloc, &cache, "m257 ^257", true, wrong)
 }
 
-/// The value of a chunk, or nil.
+/// The value of a chunk of 65,536 bytes at most, or nil.
 pub(crate) fn value_of(
     alloc: Global,
     state: &mut Known<PlainState>,
     cache: &mut CodeCache,
     chunk: &str,
 ) -> Result<Value, AllocError> {
+    if chunk.len() > LONGEST {
+        return Ok(Value::Nil);
+    }
     state.begin_chunk();
     let Ok(tree) = parse_chunk(alloc, chunk.as_bytes()) else {
         return Ok(Value::Nil);
